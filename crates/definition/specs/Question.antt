@@ -1,0 +1,199 @@
+-- The question: "u32 words: kind, mode, then four sections in this order, each after its word count: context, expression, left type, right
+-- type." One reading from left to right; its first fault decides.
+use Prim.Native.Nat.{ℕ, zero, suc}
+use mathlib.Core.Bool.{Bool, true, false, _&&_}
+use mathlib.Core.List.{List, [], _∷_}
+use lib.ListN.{length, take, drop}
+use lib.Dec.{leb, ltb, eqb}
+use Rattle.definition.specs.Syntax.{syntax-computes, pick, TmVar, TyVar, Ty, int, bool, var, etvar, arrow, forall, Expr, evar, app, abs, tapp, tabs, ann, litInt, litBool, letIn, ifThenElse, binOp, Entry, varBnd, tvarBnd, etvarBnd, setvarBnd, mark, Ctx, Side, onL, onR, Judgement, infer, check, inferApp, subtype, inst}
+
+-- ---- Reading: a value with the next place and the words left, or a fault with its code and place
+
+pub data Read (A : Type 0) : Type 0 where
+  got : A → ℕ → List ℕ → Read A
+  fault : ℕ → ℕ → Read A
+
+-- from a place, and the words from there to the end of the section or question
+abbrev pub Reader : Type 0 → Type 0
+Reader A = ℕ → List ℕ → Read A
+
+unfoldable pub next : {A B : Type 0} → Read A → (A → Reader B) → Read B
+next (got a p ws) k = k a p ws
+next (fault c p) k = fault c p
+
+unfoldable pub _>>=_ : {A B : Type 0} → Reader A → (A → Reader B) → Reader B
+_>>=_ m k = λ p ws. next (m p ws) k
+
+unfoldable pub give : {A : Type 0} → A → Reader A
+give a p ws = got a p ws
+
+-- "4 BadShape: layout broken", "5 ReservedName: a written name of 1,000,000 or more", at a place
+unfoldable pub badShape : {A : Type 0} → ℕ → Reader A
+badShape p q ws = fault 4 p
+
+unfoldable pub reservedName : {A : Type 0} → ℕ → Reader A
+reservedName p q ws = fault 5 p
+
+-- "Place of a BadShape: the wrong word; the end of a section or question that stops too early": one word, and the reader that it chooses
+unfoldable pub word : {A : Type 0} → (ℕ → ℕ → Reader A) → Reader A
+word k p [] = fault 4 p
+word k p (w ∷ ws) = k p w (suc p) ws
+
+unfoldable pub any : Reader ℕ
+any = word (λ p w. give w)
+
+unfoldable pub within : ℕ → ℕ → Reader ℕ
+within low high = word (λ p w. pick (leb low w && leb w high) (give w) (badShape p))
+
+-- "Written names are below 1,000,000."
+unfoldable pub name : Reader ℕ
+name = word (λ p w. pick (ltb w 1_000_000) (give w) (reservedName p))
+
+unfoldable pub variable : Reader TmVar
+variable = do n ← name; give (record { number = n })
+
+unfoldable pub typeName : Reader TyVar
+typeName = do n ← name; give (record { number = n })
+
+-- a word that is a code of a table, and the reader in its row
+unfoldable pub row : {A : Type 0} → ℕ → List (ℕ × Reader A) → Reader A → Reader A
+row w [] otherwise = otherwise
+row w (r ∷ rows) otherwise = pick (eqb w (r .0)) (r .1) (row w rows otherwise)
+
+unfoldable pub oneOf : {A : Type 0} → List (ℕ × Reader A) → Reader A
+oneOf rows = word (λ p w. row w rows (badShape p))
+
+-- ---- Types, expressions, entries. An item's own items are read one level less deep; the number of words left is depth enough.
+
+unfoldable pub tyRows : Reader Ty → List (ℕ × Reader Ty)
+tyRows ty =
+    (1, give int)
+    ∷ (2, give bool)
+    ∷ (3, (do a ← typeName; give (var a)))
+    ∷ (4, (do a ← typeName; give (etvar a)))
+    ∷ (5, (do A ← ty; B ← ty; give (arrow A B)))
+    ∷ (6, (do a ← typeName; A ← ty; give (forall a A)))
+    ∷ []
+
+unfoldable pub readTy : ℕ → Reader Ty
+readTy zero p ws = fault 4 p
+readTy (suc d) p ws = oneOf (tyRows (λ q vs. readTy d q vs)) p ws
+
+unfoldable pub type : Reader Ty
+type p ws = readTy (length ws) p ws
+
+unfoldable pub exprRows : ℕ → Reader Expr → List (ℕ × Reader Expr)
+exprRows p expr =
+    (16, (do x ← variable; give (evar p x)))
+    ∷ (17, (do e ← expr; e′ ← expr; give (app p e e′)))
+    ∷ (18, (do x ← variable; A ← type; e ← expr; give (abs p x A e)))
+    ∷ (19, (do e ← expr; A ← type; give (tapp p e A)))
+    ∷ (20, (do a ← typeName; e ← expr; give (tabs p a e)))
+    ∷ (21, (do e ← expr; A ← type; give (ann p e A)))
+    ∷ (22, (do l ← any; h ← any; give (litInt p l h)))
+    ∷ (23, (do b ← within 0 1; give (litBool p b)))
+    ∷ (24, (do x ← variable; e ← expr; e′ ← expr; give (letIn p x e e′)))
+    ∷ (25, (do e ← expr; e′ ← expr; e″ ← expr; give (ifThenElse p e e′ e″)))
+    ∷ (26, (do o ← within 1 12; e ← expr; e′ ← expr; give (binOp p o e e′)))
+    ∷ []
+
+unfoldable pub readExpr : ℕ → Reader Expr
+readExpr zero p ws = fault 4 p
+readExpr (suc d) p ws = oneOf (exprRows p (λ q vs. readExpr d q vs)) p ws
+
+unfoldable pub expression : Reader Expr
+expression p ws = readExpr (length ws) p ws
+
+unfoldable pub entry : Reader Entry
+entry =
+    oneOf
+    ((32, (do x ← variable; A ← type; give (varBnd x A)))
+    ∷ (33, (do a ← typeName; give (tvarBnd a)))
+    ∷ (34, (do a ← typeName; give (etvarBnd a)))
+    ∷ (35, (do a ← typeName; A ← type; give (setvarBnd a A)))
+    ∷ (36, (do a ← typeName; give (mark a)))
+    ∷ [])
+
+-- entries to the end of the section
+unfoldable pub unlessEnd : {A : Type 0} → A → Reader A → Reader A
+unlessEnd a m p [] = got a p []
+unlessEnd a m p (w ∷ ws) = m p (w ∷ ws)
+
+unfoldable pub readCtx : ℕ → Reader Ctx
+readCtx zero p ws = unlessEnd [] (badShape p) p ws
+readCtx (suc d) p ws = unlessEnd [] (do e ← entry; Γ ← (λ q vs. readCtx d q vs); give (e ∷ Γ)) p ws
+
+unfoldable pub context : Reader Ctx
+context p ws = readCtx (length ws) p ws
+
+-- ---- Sections: "the first word too many; the count itself where it overruns the question or should be 0"
+
+unfoldable pub end : Reader Unit
+end p [] = got tt p []
+end p (w ∷ ws) = fault 4 p
+
+-- the next n words, which the item takes up
+unfoldable pub whole : {A : Type 0} → ℕ → Reader A → Reader A
+whole n m p ws = next ((do a ← m; u ← end; give a) p (take n ws)) (λ a q vs. got a q (drop n ws))
+
+unfoldable pub counted : {A : Type 0} → Reader A → Reader A
+counted m = word (λ p n q ws. pick (leb n (length ws)) (whole n m) (badShape p) q ws)
+
+unfoldable pub empty : Reader ℕ
+empty = within 0 0
+
+-- the one ETVar of kinds 5 and 6
+unfoldable pub unknown : Reader TyVar
+unknown = oneOf ((4, typeName) ∷ [])
+
+-- ---- "Mode is 0 plain or 1 strict": what varies with the mode
+
+pub record Mode : Type 0 where
+  -- ChkLam compares the written parameter with the expected one
+  pub comparesParameter : Bool
+  -- InfIf applies its third context to both branch types
+  pub appliesBranches : Bool
+
+abbrev pub plain : Mode
+plain = record { comparesParameter = false; appliesBranches = false }
+
+abbrev pub strict : Mode
+strict = record { comparesParameter = true; appliesBranches = true }
+
+unfoldable pub mode : Reader Mode
+mode = oneOf ((0, give plain) ∷ (1, give strict) ∷ [])
+
+-- ---- The kinds: 1 infer, 2 check, 3 infer_app, 4 subtype, 5 inst_l, 6 inst_r, 7 run_bidirectional. "Any other section has count 0."
+
+pub record Question : Type 0 where
+  pub kind : ℕ
+  pub manner : Mode
+  pub asks : Judgement
+
+unfoldable pub kindRows : List (ℕ × Reader Judgement)
+kindRows =
+    (1, (do Γ ← counted context; e ← counted expression; u ← empty; v ← empty; give (infer Γ e)))
+    ∷ (2, (do Γ ← counted context; e ← counted expression; u ← empty; B ← counted type; give (check Γ e B)))
+    ∷ (3, (do Γ ← counted context; e ← counted expression; A ← counted type; u ← empty; give (inferApp Γ e A)))
+    ∷ (4, (do Γ ← counted context; u ← empty; A ← counted type; B ← counted type; give (subtype Γ A B)))
+    ∷ (5, (do Γ ← counted context; u ← empty; a ← counted unknown; B ← counted type; give (inst onL Γ a B)))
+    ∷ (6, (do Γ ← counted context; u ← empty; A ← counted type; b ← counted unknown; give (inst onR Γ b A)))
+    ∷ (7, (do u ← empty; e ← counted expression; v ← empty; w ← empty; give (infer [] e)))
+    ∷ []
+
+unfoldable pub question : Reader Question
+question = do
+  k ← within 1 7
+  m ← mode
+  j ← row k kindRows (badShape 0)
+  u ← end
+  give (record { kind = k; manner = m; asks = j })
+
+-- "Places count from 0."
+unfoldable pub readQuestion : List ℕ → Read Question
+readQuestion ws = question 0 ws
+
+-- `unfolding question-computes` opens every definition above, and those they rest on
+unfoldable pub question-computes : Unit {0}
+unfolding next _>>=_ give badShape reservedName word any within name variable typeName row oneOf tyRows readTy type exprRows readExpr expression entry unlessEnd readCtx context end whole counted empty unknown mode kindRows question readQuestion syntax-computes
+question-computes = tt

@@ -1,0 +1,107 @@
+-- The reply: "Four numbers: code, at, length, units; and a report."
+use Prim.Native.Nat.{ℕ, _+_, _-_, _*_, min}
+use mathlib.Core.Bool.{Bool, true, false, _&&_, _||_}
+use mathlib.Core.List.{List, [], _∷_, _++_}
+use lib.ListN.{length}
+use lib.Dec.{leb, ltb, eqb}
+use Rattle.definition.specs.Syntax.{pick, Ty, TypeError, unboundVariable, applicationTypeError, typeApplicationError, occursCheck, subtypingError, instantiationError, parameterMismatch, noSection, section, tySection, ctxSection, treeWords}
+use Rattle.definition.specs.Question.{question-computes, Read, got, fault, Question, readQuestion}
+use Rattle.definition.specs.Run.{Out, done, fail, stop, M, _>>=_, give}
+use Rattle.definition.specs.Types.{apply}
+use Rattle.definition.specs.Rules.{rules-compute, Result, judge}
+
+pub record Reply : Type 0 where
+  pub code : ℕ
+  pub at : ℕ
+  pub len : ℕ
+  pub units : ℕ
+  pub report : List ℕ
+
+-- ---- "Length is 0 on 1 to 6." "Units is 0 on 1 to 5, the budget on 6, else the total charged."
+
+unfoldable pub refusal : ℕ → ℕ → ℕ → Reply
+refusal c p u = record { code = c; at = p; len = 0; units = u; report = [] }
+
+-- ---- "7 NoRoom: the report is longer than the report slice, or than 4,294,967,295 words"; length "on 7 the needed length, or
+-- 4,294,967,295 if that is less"
+
+abbrev pub most : ℕ
+most = 4_294_967_295
+
+unfoldable pub reported : ℕ → ℕ → ℕ → ℕ → List ℕ → Reply
+reported room c p u ws =
+    pick (leb (length ws) room && leb (length ws) most)
+    (record { code = c; at = p; len = length ws; units = u; report = ws })
+    (record { code = 7; at = 0; len = min (length ws) most; units = u; report = [] })
+
+-- ---- Type errors: code, at, and "two type sections: actual or ty in the first, or left and right; an unused one has count 0"
+
+unfoldable pub errorCode : TypeError → ℕ
+errorCode (unboundVariable x) = 11
+errorCode (applicationTypeError A) = 12
+errorCode (typeApplicationError A) = 13
+errorCode (occursCheck a A) = 14
+errorCode (subtypingError A B) = 15
+errorCode (instantiationError a A) = 16
+errorCode (parameterMismatch A B) = 17
+
+unfoldable pub errorAt : TypeError → ℕ
+errorAt (unboundVariable x) = x .number
+errorAt (applicationTypeError A) = 0
+errorAt (typeApplicationError A) = 0
+errorAt (occursCheck a A) = a .number
+errorAt (subtypingError A B) = 0
+errorAt (instantiationError a A) = a .number
+errorAt (parameterMismatch A B) = 0
+
+unfoldable pub errorWords : TypeError → List ℕ
+errorWords (unboundVariable x) = noSection ++ noSection
+errorWords (applicationTypeError A) = tySection A ++ noSection
+errorWords (typeApplicationError A) = tySection A ++ noSection
+errorWords (occursCheck a A) = tySection A ++ noSection
+errorWords (subtypingError A B) = tySection A ++ tySection B
+errorWords (instantiationError a A) = tySection A ++ noSection
+errorWords (parameterMismatch A B) = tySection A ++ tySection B
+
+-- ---- "On 0 the report has three sections, each after its count: type (count 0 for kinds 2, 4, 5, 6), context, tree."
+
+unfoldable pub givesType : ℕ → Bool
+givesType k = eqb k 1 || eqb k 3 || eqb k 7
+
+unfoldable pub resultWords : ℕ → Result → List ℕ
+resultWords k r = pick (givesType k) (tySection (r .0)) noSection ++ (ctxSection (r .1) ++ section (treeWords (r .2)))
+
+-- ---- "Kind 7's type is resolved by the final context."
+
+unfoldable pub answer : Question → M Result
+answer q =
+    pick (eqb (q .kind) 7)
+    (do (A, Δ, t) ← judge (q .manner) (q .asks); A′ ← apply Δ A; give (A′, Δ, t))
+    (judge (q .manner) (q .asks))
+
+unfoldable pub outReply : ℕ → ℕ → ℕ → Out Result → Reply
+outReply k budget room (done r l n) = reported room 0 0 (budget - l) (resultWords k r)
+outReply k budget room (fail e l) = reported room (errorCode e) (errorAt e) (budget - l) (errorWords e)
+outReply k budget room stop = refusal 6 0 budget
+
+unfoldable pub readReply : ℕ → ℕ → Read Question → Reply
+readReply budget room (fault c p) = refusal c p 0
+readReply budget room (got q p ws) = outReply (q .kind) budget room (answer q budget 0)
+
+-- ---- "1, 2, 3 are tried in that order; then one reading from left to right": from the budget, the lengths of the work and the report
+-- slice, and the question's words
+
+unfoldable pub workWords : ℕ → ℕ
+workWords budget = 32 * budget + 4096
+
+unfoldable pub reply : ℕ → ℕ → ℕ → List ℕ → Reply
+reply budget work room ws =
+    let r : Reply = readReply budget room (readQuestion ws) in
+    pick (eqb budget 0 || ltb 8192 budget) (refusal 1 0 0)
+    (pick (ltb work (workWords budget)) (refusal 2 0 0)
+    (pick (eqb (length ws) 0 || ltb 2048 (length ws)) (refusal 3 0 0) r))
+
+-- `unfolding reply-computes` opens every definition above, and those they rest on
+unfoldable pub reply-computes : Unit {0}
+unfolding refusal reported errorCode errorAt errorWords givesType resultWords answer outReply readReply workWords reply question-computes rules-compute
+reply-computes = tt

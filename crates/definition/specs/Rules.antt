@@ -1,0 +1,468 @@
+-- The six judgements and their 37 rules, after 000. Each rule is drawn above its definition; [Γ]A is A with the context applied,
+-- [R/a]A substitution. A rule gives its number, its result type (Int where the judgement gives none), its output context and its children.
+use Prim.Native.Nat.{ℕ, zero, suc, _+_}
+use mathlib.Core.Bool.{Bool, true, false, not, _&&_}
+use mathlib.Core.List.{List, [], _∷_}
+use mathlib.Core.Option.{Option, none, some}
+use lib.ListN.{length}
+use lib.Dec.{leb, eqb}
+use Rattle.definition.specs.Syntax
+use Rattle.definition.specs.Syntax.{pick, TmVar, TyVar, Ty, int, bool, var, etvar, arrow, forall, Expr, evar, app, abs, tapp, tabs, ann, litInt, litBool, letIn, ifThenElse, binOp, varBnd, tvarBnd, etvarBnd, setvarBnd, mark, Ctx, Side, onL, onR, Judgement, infer, check, inferApp, subtype, inst, given, Rule, Tree, node, Trees, leaf, _&_, unboundVariable, applicationTypeError, typeApplicationError, occursCheck, subtypingError, instantiationError, parameterMismatch}
+use Rattle.definition.specs.Question.{Mode}
+use Rattle.definition.specs.Run.{M, _>>=_, give, refuse, halt, charge, fresh}
+use Rattle.definition.specs.Contexts.{Key, kVar, kTVar, kMark, find, rightOf, _▹_, replace, solvedAndRight, before}
+use Rattle.definition.specs.Types.{types-compute, sameName, isMono, occurs, subst, apply, sameTy}
+
+-- what a rule gives, and what a judgement gives: result type, output context, tree
+abbrev pub Fired : Type 0
+Fired = Rule × Ty × Ctx × Trees
+
+abbrev pub Result : Type 0
+Result = Ty × Ctx × Tree
+
+-- the judgements that a rule asks
+abbrev pub Judge : Type 0
+Judge = Judgement → M Result
+
+-- a rule without premises, of a judgement that gives no type
+unfoldable pub closes : Rule → Ctx → M Fired
+closes r Γ = give (r, int, Γ, leaf)
+
+-- ---- "The order of match arms is the priority": the first arm that is there, and what stands last otherwise
+
+infixr 25 _orElse_
+unfoldable pub _orElse_ : {R : Type 0} → Option R → R → R
+none orElse r = r
+some x orElse r = x
+
+unfoldable pub when : {R : Type 0} → Bool → R → Option R
+when b r = pick b (some r) none
+
+unfoldable pub on : {X R : Type 0} → Option X → (X → R) → Option R
+on none k = none
+on (some x) k = some (k x)
+
+unfoldable pub onBoth : {X Y R : Type 0} → Option X → Option Y → (X → Y → R) → Option R
+onBoth none o k = none
+onBoth (some x) none k = none
+onBoth (some x) (some y) k = some (k x y)
+
+-- ---- The parts of a type that an arm asks for
+
+unfoldable pub tyCode : Ty → ℕ
+tyCode int = 1
+tyCode bool = 2
+tyCode (var a) = 3
+tyCode (etvar a) = 4
+tyCode (arrow A B) = 5
+tyCode (forall a A) = 6
+
+unfoldable pub asVar : Ty → Option TyVar
+asVar int = none
+asVar bool = none
+asVar (var a) = some a
+asVar (etvar a) = none
+asVar (arrow A B) = none
+asVar (forall a A) = none
+
+unfoldable pub asETVar : Ty → Option TyVar
+asETVar int = none
+asETVar bool = none
+asETVar (var a) = none
+asETVar (etvar a) = some a
+asETVar (arrow A B) = none
+asETVar (forall a A) = none
+
+unfoldable pub asArrow : Ty → Option (Ty × Ty)
+asArrow int = none
+asArrow bool = none
+asArrow (var a) = none
+asArrow (etvar a) = none
+asArrow (arrow A B) = some (A, B)
+asArrow (forall a A) = none
+
+unfoldable pub asForall : Ty → Option (TyVar × Ty)
+asForall int = none
+asForall bool = none
+asForall (var a) = none
+asForall (etvar a) = none
+asForall (arrow A B) = none
+asForall (forall a A) = some (a, A)
+
+-- ---- inst_l and inst_r: Γ ⊢ ^a :=< T ⊣ Δ on the left, Γ ⊢ T :=< ^a ⊣ Δ on the right
+
+unfoldable pub other : Side → Side
+other onL = onR
+other onR = onL
+
+unfoldable pub instSolve : Side → Rule
+instSolve onL = Syntax.InstLSolve
+instSolve onR = Syntax.InstRSolve
+
+unfoldable pub instReach : Side → Rule
+instReach onL = Syntax.InstLReach
+instReach onR = Syntax.InstRReach
+
+unfoldable pub instArr : Side → Rule
+instArr onL = Syntax.InstLArr
+instArr onR = Syntax.InstRArr
+
+-- is_mono T    a not in T
+-- ------------------------------------------- InstLSolve, InstRSolve
+-- Γ[^a] ⊢ ^a :=< T ⊣ Γ[^a = T]
+unfoldable pub solve : Side → Ctx → TyVar → Ty → M Fired
+solve s Γ a T =
+    pick (isMono T)
+    (pick (occurs a T) (refuse (occursCheck a T)) (closes (instSolve s) (replace a (setvarBnd a T ∷ []) Γ)))
+    (refuse (instantiationError a T))
+
+-- before Γ a b
+-- ------------------------------------------- InstLReach, InstRReach
+-- Γ[^b] ⊢ ^a :=< ^b ⊣ Γ[^b = ^a]
+unfoldable pub reach : Side → Ctx → TyVar → TyVar → M Fired
+reach s Γ a b = closes (instReach s) (replace b (setvarBnd b (etvar a) ∷ []) Γ)
+
+-- a solved as an arrow of two fresh unknowns: Γ[^a = ^b → ^c, ^b, ^c]
+unfoldable pub split : TyVar → TyVar → TyVar → Ctx → Ctx
+split a b c Γ = replace a (setvarBnd a (arrow (etvar b) (etvar c)) ∷ etvarBnd b ∷ etvarBnd c ∷ []) Γ
+
+-- Γ[^a = ^b → ^c, ^b, ^c] ⊢ A :=< ^b ⊣ Δ    Δ ⊢ ^c :=< [Δ]B ⊣ Θ
+-- --------------------------------------------------------------- InstLArr; InstRArr with the sides exchanged
+-- Γ[^a] ⊢ ^a :=< A → B ⊣ Θ
+unfoldable pub instArrow : Judge → Side → Ctx → TyVar → Ty → Ty → M Fired
+instArrow judge s Γ a A B = do
+  b ← fresh
+  c ← fresh
+  (C, Δ, t) ← judge (inst (other s) (split a b c Γ) b A)
+  B′ ← apply Δ B
+  (D, Θ, t′) ← judge (inst s Δ c B′)
+  give (instArr s, int, Θ, t & t′ & leaf)
+
+-- Γ, b ⊢ ^a :=< T ⊣ Δ, b, Θ                       Γ, ^b, $b ⊢ [^b/b]T :=< ^a ⊣ Δ, $b, Θ
+-- -------------------------- InstLAllR            -------------------------------------- InstRAllL
+-- Γ ⊢ ^a :=< ∀b. T ⊣ Θ                            Γ ⊢ ∀b. T :=< ^a ⊣ Θ
+unfoldable pub instForall : Judge → Side → Ctx → TyVar → TyVar → Ty → M Fired
+instForall judge onL Γ a b T = do
+  (C, Δ, t) ← judge (inst onL (Γ ▹ tvarBnd b) a T)
+  give (Syntax.InstLAllR, int, rightOf (kTVar b) Δ, t & leaf)
+instForall judge onR Γ a b T = do
+  T′ ← subst b (etvar b) T
+  (C, Δ, t) ← judge (inst onR (Γ ▹ etvarBnd b ▹ mark b) a T′)
+  give (Syntax.InstRAllL, int, rightOf (kMark b) Δ, t & leaf)
+
+unfoldable pub instRule : Judge → Side → Ctx → TyVar → Ty → M Fired
+instRule judge s Γ a int = solve s Γ a int
+instRule judge s Γ a bool = solve s Γ a bool
+instRule judge s Γ a (var b) = solve s Γ a (var b)
+instRule judge s Γ a (etvar b) = pick (before Γ a b) (reach s Γ a b) (solve s Γ a (etvar b))
+instRule judge s Γ a (arrow A B) = instArrow judge s Γ a A B
+instRule judge s Γ a (forall b T) = instForall judge s Γ a b T
+
+-- ---- subtype: Γ ⊢ A <: B ⊣ Δ. "SubAllR comes before SubAllL, both before SubInstL, that before SubInstR."
+
+-- Γ ⊢ B₁ <: A₁ ⊣ Δ    Δ ⊢ A₂ <: B₂ ⊣ Θ
+-- -------------------------------------- SubArr, which "does not apply the context between its halves"
+-- Γ ⊢ A₁ → A₂ <: B₁ → B₂ ⊣ Θ
+unfoldable pub subArr : Judge → Ctx → Ty × Ty → Ty × Ty → M Fired
+subArr judge Γ A B = do
+  (C, Δ, t) ← judge (subtype Γ (B .0) (A .0))
+  (D, Θ, t′) ← judge (subtype Δ (A .1) (B .1))
+  give (Syntax.SubArr, int, Θ, t & t′ & leaf)
+
+-- Γ, b ⊢ A <: T ⊣ Δ, b, Θ
+-- ------------------------ SubAllR
+-- Γ ⊢ A <: ∀b. T ⊣ Θ
+unfoldable pub subAllR : Judge → Ctx → Ty → TyVar × Ty → M Fired
+subAllR judge Γ A B = do
+  (C, Δ, t) ← judge (subtype (Γ ▹ tvarBnd (B .0)) A (B .1))
+  give (Syntax.SubAllR, int, rightOf (kTVar (B .0)) Δ, t & leaf)
+
+-- Γ, ^a, $a ⊢ [^a/a]T <: B ⊣ Δ, $a, Θ
+-- ------------------------------------ SubAllL
+-- Γ ⊢ ∀a. T <: B ⊣ Θ
+unfoldable pub subAllL : Judge → Ctx → Ty → TyVar × Ty → M Fired
+subAllL judge Γ B A = do
+  T′ ← subst (A .0) (etvar (A .0)) (A .1)
+  (C, Δ, t) ← judge (subtype (Γ ▹ etvarBnd (A .0) ▹ mark (A .0)) T′ B)
+  give (Syntax.SubAllL, int, rightOf (kMark (A .0)) Δ, t & leaf)
+
+-- a not in B    Γ ⊢ ^a :=< B ⊣ Δ                  a not in A    Γ ⊢ A :=< ^a ⊣ Δ
+-- ------------------------------- SubInstL        ------------------------------- SubInstR
+-- Γ ⊢ ^a <: B ⊣ Δ                                 Γ ⊢ A <: ^a ⊣ Δ
+unfoldable pub subInst : Judge → Rule → Side → Ctx → Ty → TyVar → M Fired
+subInst judge r s Γ T a = do
+  (C, Δ, t) ← judge (inst s Γ a T)
+  give (r, int, Δ, t & leaf)
+
+unfoldable pub notIn : Ty → Option TyVar → Option TyVar
+notIn T none = none
+notIn T (some a) = pick (occurs a T) none (some a)
+
+unfoldable pub sameBase : Ty → Ty → Bool
+sameBase A B = leb (tyCode A) 2 && eqb (tyCode A) (tyCode B)
+
+unfoldable pub same : Option TyVar → Option TyVar → Bool
+same none o = false
+same (some a) none = false
+same (some a) (some b) = sameName a b
+
+unfoldable pub subtypeRule : Judge → Ctx → Ty → Ty → M Fired
+subtypeRule judge Γ A B =
+    when (sameBase A B) (closes Syntax.SubRefl Γ)
+    orElse when (same (asVar A) (asVar B)) (closes Syntax.SubReflTVar Γ)
+    orElse when (same (asETVar A) (asETVar B)) (closes Syntax.SubReflETVar Γ)
+    orElse onBoth (asArrow A) (asArrow B) (subArr judge Γ)
+    orElse on (asForall B) (subAllR judge Γ A)
+    orElse on (asForall A) (subAllL judge Γ B)
+    orElse on (notIn B (asETVar A)) (subInst judge Syntax.SubInstL onL Γ B)
+    orElse on (notIn A (asETVar B)) (subInst judge Syntax.SubInstR onR Γ A)
+    orElse refuse (subtypingError A B)
+
+-- ---- check: Γ ⊢ e ⇐ B ⊣ Δ. "ChkAll before ChkSub."
+
+unfoldable pub exprCode : Expr → ℕ
+exprCode (evar p x) = 16
+exprCode (app p e e′) = 17
+exprCode (abs p x A e) = 18
+exprCode (tapp p e A) = 19
+exprCode (tabs p a e) = 20
+exprCode (ann p e A) = 21
+exprCode (litInt p l h) = 22
+exprCode (litBool p b) = 23
+exprCode (letIn p x e e′) = 24
+exprCode (ifThenElse p e e′ e″) = 25
+exprCode (binOp p o e e′) = 26
+
+unfoldable pub asAbs : Expr → Option (TmVar × Ty × Expr)
+asAbs (evar p x) = none
+asAbs (app p e e′) = none
+asAbs (abs p x A e) = some (x, A, e)
+asAbs (tapp p e A) = none
+asAbs (tabs p a e) = none
+asAbs (ann p e A) = none
+asAbs (litInt p l h) = none
+asAbs (litBool p b) = none
+asAbs (letIn p x e e′) = none
+asAbs (ifThenElse p e e′ e″) = none
+asAbs (binOp p o e e′) = none
+
+-- "ChkLam first applies the context to the expected parameter and compares the written parameter with it, name for name; unequal is 17"
+unfoldable pub parameter : Bool → Ctx → Ty → Ty → M (Unit {0})
+parameter false Γ A P = give tt
+parameter true Γ A P = do P′ ← apply Γ P; pick (sameTy A P′) (give tt) (refuse (parameterMismatch A P′))
+
+-- Γ, x : P ⊢ e ⇐ C ⊣ Δ, x : P, Θ
+-- ------------------------------- ChkLam
+-- Γ ⊢ λx:A. e ⇐ P → C ⊣ Θ
+unfoldable pub chkLam : Mode → Judge → Ctx → TmVar × Ty × Expr → Ty × Ty → M Fired
+chkLam m judge Γ f P = do
+  u ← parameter (m .comparesParameter) Γ (f .1) (P .0)
+  (C, Δ, t) ← judge (check (Γ ▹ varBnd (f .0) (P .0)) (f .2) (P .1))
+  give (Syntax.ChkLam, int, rightOf (kVar (f .0)) Δ, t & leaf)
+
+-- Γ, a ⊢ e ⇐ T ⊣ Δ, a, Θ
+-- ----------------------- ChkAll
+-- Γ ⊢ e ⇐ ∀a. T ⊣ Θ
+unfoldable pub chkAll : Judge → Ctx → Expr → TyVar × Ty → M Fired
+chkAll judge Γ e B = do
+  (C, Δ, t) ← judge (check (Γ ▹ tvarBnd (B .0)) e (B .1))
+  give (Syntax.ChkAll, int, rightOf (kTVar (B .0)) Δ, t & leaf)
+
+-- Γ ⊢ e ⇒ A ⊣ Δ    Δ ⊢ [Δ]A <: [Δ]B ⊣ Θ
+-- ---------------------------------------- ChkSub
+-- Γ ⊢ e ⇐ B ⊣ Θ
+unfoldable pub chkSub : Judge → Ctx → Expr → Ty → M Fired
+chkSub judge Γ e B = do
+  (A, Δ, t) ← judge (infer Γ e)
+  A′ ← apply Δ A
+  B′ ← apply Δ B
+  (C, Θ, t′) ← judge (subtype Δ A′ B′)
+  give (Syntax.ChkSub, int, Θ, t & t′ & leaf)
+
+unfoldable pub checkRule : Mode → Judge → Ctx → Expr → Ty → M Fired
+checkRule m judge Γ e B =
+    when (eqb (exprCode e) 22 && eqb (tyCode B) 1) (closes Syntax.ChkLitInt Γ)
+    orElse when (eqb (exprCode e) 23 && eqb (tyCode B) 2) (closes Syntax.ChkLitBool Γ)
+    orElse onBoth (asAbs e) (asArrow B) (chkLam m judge Γ)
+    orElse on (asForall B) (chkAll judge Γ e)
+    orElse chkSub judge Γ e B
+
+-- ---- infer_app: Γ ⊢ e • A ⇒⇒ C ⊣ Δ
+
+-- Γ ⊢ e ⇐ A ⊣ Δ
+-- ------------------------ InfAppArr
+-- Γ ⊢ e • A → C ⇒⇒ C ⊣ Δ
+unfoldable pub infAppArr : Judge → Ctx → Expr → Ty × Ty → M Fired
+infAppArr judge Γ e A = do
+  (D, Δ, t) ← judge (check Γ e (A .0))
+  give (Syntax.InfAppArr, A .1, Δ, t & leaf)
+
+-- Γ[^a = ^b → ^c, ^b, ^c] ⊢ e ⇐ ^b ⊣ Δ
+-- ------------------------------------- InfAppETVar
+-- Γ[^a] ⊢ e • ^a ⇒⇒ ^c ⊣ Δ
+unfoldable pub infAppETVar : Judge → Ctx → Expr → TyVar → M Fired
+infAppETVar judge Γ e a = do
+  b ← fresh
+  c ← fresh
+  (D, Δ, t) ← judge (check (split a b c Γ) e (etvar b))
+  give (Syntax.InfAppETVar, etvar c, Δ, t & leaf)
+
+unfoldable pub inferAppRule : Judge → Ctx → Expr → Ty → M Fired
+inferAppRule judge Γ e A =
+    on (asArrow A) (infAppArr judge Γ e)
+    orElse on (asETVar A) (infAppETVar judge Γ e)
+    orElse refuse (applicationTypeError A)
+
+-- ---- infer: Γ ⊢ e ⇒ A ⊣ Δ
+
+-- x : A in Γ
+-- --------------- InfVar
+-- Γ ⊢ x ⇒ A ⊣ Γ
+unfoldable pub infVar : TmVar → Ctx → Option Ty → M Fired
+infVar x Γ none = refuse (unboundVariable x)
+infVar x Γ (some A) = give (Syntax.InfVar, A, Γ, leaf)
+
+-- Γ, x : A, ^b ⊢ e ⇐ ^b ⊣ Δ, x : A, Θ
+-- ------------------------------------- InfLam
+-- Γ ⊢ λx:A. e ⇒ A → ^b ⊣ solved Δ, Θ
+unfoldable pub infLam : Judge → Ctx → TmVar → Ty → Expr → M Fired
+infLam judge Γ x A e = do
+  b ← fresh
+  (C, Δ, t) ← judge (check (Γ ▹ varBnd x A ▹ etvarBnd b) e (etvar b))
+  give (Syntax.InfLam, arrow A (etvar b), solvedAndRight (kVar x) Δ, t & leaf)
+
+-- Γ ⊢ e ⇒ A ⊣ Δ    Δ ⊢ e′ • [Δ]A ⇒⇒ C ⊣ Θ
+-- ------------------------------------------ InfApp
+-- Γ ⊢ e e′ ⇒ C ⊣ Θ
+unfoldable pub infApp : Judge → Ctx → Expr → Expr → M Fired
+infApp judge Γ e e′ = do
+  (A, Δ, t) ← judge (infer Γ e)
+  A′ ← apply Δ A
+  (C, Θ, t′) ← judge (inferApp Δ e′ A′)
+  give (Syntax.InfApp, C, Θ, t & t′ & leaf)
+
+-- Γ ⊢ e ⇒ A ⊣ Δ    Δ, x : A ⊢ e′ ⇒ B ⊣ Θ, x : A, Ξ
+-- --------------------------------------------------- InfLet
+-- Γ ⊢ let x = e in e′ ⇒ B ⊣ solved Θ, Ξ
+unfoldable pub infLet : Judge → Ctx → TmVar → Expr → Expr → M Fired
+infLet judge Γ x e e′ = do
+  (A, Δ, t) ← judge (infer Γ e)
+  (B, Θ, t′) ← judge (infer (Δ ▹ varBnd x A) e′)
+  give (Syntax.InfLet, B, solvedAndRight (kVar x) Θ, t & t′ & leaf)
+
+-- "InfIf applies its third context to both branch types, first then second, before subtype; its result type stays the unapplied one."
+unfoldable pub branch : Bool → Ctx → Ty → M Ty
+branch false Γ A = give A
+branch true Γ A = apply Γ A
+
+-- Γ ⊢ e ⇐ Bool ⊣ Γ₁    Γ₁ ⊢ e′ ⇒ A ⊣ Γ₂    Γ₂ ⊢ e″ ⇒ B ⊣ Γ₃    Γ₃ ⊢ A <: B ⊣ Γ₄
+-- ---------------------------------------------------------------------------------- InfIf; strict: Γ₃ ⊢ [Γ₃]A <: [Γ₃]B
+-- Γ ⊢ if e then e′ else e″ ⇒ A ⊣ Γ₄
+unfoldable pub infIf : Mode → Judge → Ctx → Expr → Expr → Expr → M Fired
+infIf m judge Γ e e′ e″ = do
+  (C, Γ₁, t₁) ← judge (check Γ e bool)
+  (A, Γ₂, t₂) ← judge (infer Γ₁ e′)
+  (B, Γ₃, t₃) ← judge (infer Γ₂ e″)
+  A′ ← branch (m .appliesBranches) Γ₃ A
+  B′ ← branch (m .appliesBranches) Γ₃ B
+  (D, Γ₄, t₄) ← judge (subtype Γ₃ A′ B′)
+  give (Syntax.InfIf, A, Γ₄, t₁ & t₂ & t₃ & t₄ & leaf)
+
+-- Γ ⊢ e ⇐ A ⊣ Δ    Δ ⊢ e′ ⇐ A ⊣ Θ
+-- ---------------------------------- InfArith (A, C are Int), InfBool (Bool), InfCmp (Int, Bool)
+-- Γ ⊢ e op e′ ⇒ C ⊣ Θ
+unfoldable pub infBoth : Judge → Rule → Ty → Ty → Ctx → Expr → Expr → M Fired
+infBoth judge r A C Γ e e′ = do
+  (D, Δ, t) ← judge (check Γ e A)
+  (D′, Θ, t′) ← judge (check Δ e′ A)
+  give (r, C, Θ, t & t′ & leaf)
+
+-- Γ ⊢ e ⇒ A ⊣ Δ    Δ ⊢ e′ ⇐ A ⊣ Θ
+-- ---------------------------------- InfEq
+-- Γ ⊢ e == e′ ⇒ Bool ⊣ Θ
+unfoldable pub infEq : Judge → Ctx → Expr → Expr → M Fired
+infEq judge Γ e e′ = do
+  (A, Δ, t) ← judge (infer Γ e)
+  (D, Θ, t′) ← judge (check Δ e′ A)
+  give (Syntax.InfEq, bool, Θ, t & t′ & leaf)
+
+-- 002's order: 1 to 4 + - * /, 5 and 6 && ||, 7 and 8 == !=, 9 to 12 < <= > >=
+unfoldable pub infBinOp : Judge → Ctx → ℕ → Expr → Expr → M Fired
+infBinOp judge Γ o e e′ =
+    when (leb o 4) (infBoth judge Syntax.InfArith int int Γ e e′)
+    orElse when (leb o 6) (infBoth judge Syntax.InfBool bool bool Γ e e′)
+    orElse when (leb o 8) (infEq judge Γ e e′)
+    orElse infBoth judge Syntax.InfCmp int bool Γ e e′
+
+-- Γ ⊢ e ⇐ A ⊣ Δ
+-- ------------------------ InfAnn
+-- Γ ⊢ (e : A) ⇒ A ⊣ Δ
+unfoldable pub infAnn : Judge → Ctx → Expr → Ty → M Fired
+infAnn judge Γ e A = do
+  (C, Δ, t) ← judge (check Γ e A)
+  give (Syntax.InfAnn, A, Δ, t & leaf)
+
+-- Γ, a ⊢ e ⇒ A ⊣ Δ, a, Θ
+-- -------------------------------------------- InfTAbs
+-- Γ ⊢ Λa. e ⇒ ∀a. [Δ, a, Θ]A ⊣ solved Δ, Θ
+unfoldable pub infTAbs : Judge → Ctx → TyVar → Expr → M Fired
+infTAbs judge Γ a e = do
+  (A, Δ, t) ← judge (infer (Γ ▹ tvarBnd a) e)
+  A′ ← apply Δ A
+  give (Syntax.InfTAbs, forall a A′, solvedAndRight (kTVar a) Δ, t & leaf)
+
+-- Γ ⊢ e ⇒ ∀a. A ⊣ Δ
+-- ------------------------ InfTApp
+-- Γ ⊢ e[B] ⇒ [B/a]A ⊣ Δ
+unfoldable pub instantiate : Ty → Ty → M Ty
+instantiate B A = on (asForall A) (λ T. subst (T .0) B (T .1)) orElse refuse (typeApplicationError A)
+
+unfoldable pub infTApp : Judge → Ctx → Expr → Ty → M Fired
+infTApp judge Γ e B = do
+  (A, Δ, t) ← judge (infer Γ e)
+  A′ ← instantiate B A
+  give (Syntax.InfTApp, A′, Δ, t & leaf)
+
+-- (InfLitInt: Γ ⊢ n ⇒ Int ⊣ Γ; InfLitBool: Γ ⊢ b ⇒ Bool ⊣ Γ)
+unfoldable pub inferRule : Mode → Judge → Ctx → Expr → M Fired
+inferRule m judge Γ (evar p x) = infVar x Γ (find (kVar x) Γ)
+inferRule m judge Γ (ann p e A) = infAnn judge Γ e A
+inferRule m judge Γ (litInt p l h) = give (Syntax.InfLitInt, int, Γ, leaf)
+inferRule m judge Γ (litBool p b) = give (Syntax.InfLitBool, bool, Γ, leaf)
+inferRule m judge Γ (abs p x A e) = infLam judge Γ x A e
+inferRule m judge Γ (app p e e′) = infApp judge Γ e e′
+inferRule m judge Γ (tabs p a e) = infTAbs judge Γ a e
+inferRule m judge Γ (tapp p e B) = infTApp judge Γ e B
+inferRule m judge Γ (letIn p x e e′) = infLet judge Γ x e e′
+inferRule m judge Γ (ifThenElse p e e′ e″) = infIf m judge Γ e e′ e″
+inferRule m judge Γ (binOp p o e e′) = infBinOp judge Γ o e e′
+
+-- ---- "Each judgement of kinds 1 to 6 entered is charged 1 plus the entries of its input context; each that succeeds, the entries of its
+-- output context."
+
+unfoldable pub rule : Mode → Judge → Judgement → M Fired
+rule m judge (infer Γ e) = inferRule m judge Γ e
+rule m judge (check Γ e B) = checkRule m judge Γ e B
+rule m judge (inferApp Γ e A) = inferAppRule judge Γ e A
+rule m judge (subtype Γ A B) = subtypeRule judge Γ A B
+rule m judge (inst s Γ a T) = instRule judge s Γ a T
+
+unfoldable pub judgeStep : Mode → Judge → Judge
+judgeStep m judge j = do
+  u ← charge (1 + length (given j))
+  (r, C, Δ, ts) ← rule m judge j
+  v ← charge (length Δ)
+  give (C, Δ, node r j C Δ ts)
+
+-- to a depth; every judgement is charged, so the budget left is depth enough
+unfoldable pub judgeTo : Mode → ℕ → Judge
+judgeTo m zero j = halt
+judgeTo m (suc d) j = judgeStep m (λ i l n. judgeTo m d i l n) j
+
+unfoldable pub judge : Mode → Judge
+judge m j l n = judgeTo m l j l n
+
+-- `unfolding rules-compute` opens every definition above, and those they rest on
+unfoldable pub rules-compute : Unit {0}
+unfolding closes _orElse_ when on onBoth tyCode asVar asETVar asArrow asForall other instSolve instReach instArr solve reach split instArrow instForall instRule subArr subAllR subAllL subInst notIn sameBase same subtypeRule exprCode asAbs parameter chkLam chkAll chkSub checkRule infAppArr infAppETVar inferAppRule infVar infLam infApp infLet branch infIf infBoth infEq infBinOp infAnn infTAbs instantiate infTApp inferRule rule judgeStep judgeTo judge types-compute
+rules-compute = tt

@@ -1,0 +1,212 @@
+-- One theorem over all rules: a relation between runs that giving, refusing, taking a fresh name, charging and binding keep, every rule
+-- keeps.
+use Prim.Native.Nat.{ℕ}
+use mathlib.Core.Bool.{Bool, true, false}
+use mathlib.Core.Option.{Option, none, some}
+use Rattle.definition.specs.Syntax.{pick, TmVar, TyVar, Ty, int, bool, var, etvar, arrow, forall, Expr, evar, app, abs, tapp, tabs, ann, litInt, litBool, letIn, ifThenElse, binOp, Ctx, Side, onL, onR, Judgement, infer, check, inferApp, subtype, inst, Rule, TypeError}
+use Rattle.definition.specs.Question.{Mode}
+use Rattle.definition.specs.Run.{M, _>>=_, give, refuse, charge, fresh}
+use Rattle.definition.specs.Contexts.{kSETVar, find}
+use Rattle.definition.specs.Types.{solutionOr, applyStep, apply, subst, sameName}
+use Rattle.definition.specs.Rules.{Fired, Result, Judge, closes, _orElse_, when, on, onBoth, solve, reach, instArrow, instForall, instRule, subArr, subAllR, subAllL, subInst, subtypeRule, parameter, chkLam, chkAll, chkSub, checkRule, infAppArr, infAppETVar, inferAppRule, infVar, infLam, infApp, infLet, branch, infIf, infBoth, infEq, infBinOp, infAnn, infTAbs, instantiate, infTApp, inferRule, rule}
+
+abbrev pub Rel : Type 1
+Rel = (A : Type 0) → M A → M A → Type 0
+
+pub record Closed (R : Rel) : Type 1 where
+  pub giveR : {A : Type 0} (a : A) → R A (give a) (give a)
+  pub refuseR : {A : Type 0} (e : TypeError) → R A (refuse e) (refuse e)
+  pub freshR : R TyVar fresh fresh
+  pub chargeR : (c : ℕ) → R (Unit {0}) (charge c) (charge c)
+  pub bindR : {A B : Type 0} {m m′ : M A} {f f′ : A → M B} → R A m m′ → ((a : A) → R B (f a) (f′ a)) → R B (m >>= f) (m′ >>= f′)
+
+module _ (R : Rel) (c : Closed R) where
+  -- ## Choices
+
+  pickR : {A : Type 0} (b : Bool) {x x′ y y′ : M A} → R A x x′ → R A y y′ → R A (pick b x y) (pick b x′ y′)
+  unfolding pick
+  pickR true h k = h
+  pickR false h k = k
+
+  data ArmR {A : Type 0} : Option (M A) → Option (M A) → Type 0 where
+    noArm : ArmR none none
+    anArm : {m m′ : M A} → R A m m′ → ArmR (some m) (some m′)
+
+  orElseR : {A : Type 0} {o o′ : Option (M A)} {y y′ : M A} → ArmR o o′ → R A y y′ → R A (o orElse y) (o′ orElse y′)
+  unfolding _orElse_
+  orElseR noArm h = h
+  orElseR (anArm k) h = k
+
+  whenR : {A : Type 0} (b : Bool) {x x′ : M A} → R A x x′ → ArmR (when b x) (when b x′)
+  unfolding when pick
+  whenR true h = anArm h
+  whenR false h = noArm
+
+  onArmR : {A X : Type 0} (o : Option X) {f f′ : X → M A} → ((x : X) → R A (f x) (f′ x)) → ArmR (on o f) (on o f′)
+  unfolding on
+  onArmR none h = noArm
+  onArmR (some x) h = anArm (h x)
+
+  onBothR : {A X Y : Type 0} (o : Option X) (p : Option Y) {f f′ : X → Y → M A} → ((x : X) (y : Y) → R A (f x y) (f′ x y)) → ArmR (onBoth o p f) (onBoth o p f′)
+  unfolding onBoth
+  onBothR none p h = noArm
+  onBothR (some x) none h = noArm
+  onBothR (some x) (some y) h = anArm (h x y)
+
+  -- ## Types
+
+  pub substR : (a : TyVar) (B A : Ty) → R Ty (subst a B A) (subst a B A)
+  unfolding subst
+  substR a B int = c .bindR (c .chargeR 1) (λ u. c .giveR _)
+  substR a B bool = c .bindR (c .chargeR 1) (λ u. c .giveR _)
+  substR a B (var b) = c .bindR (c .chargeR 1) (λ u. c .giveR _)
+  substR a B (etvar b) = c .bindR (c .chargeR 1) (λ u. c .giveR _)
+  substR a B (arrow A A′) = c .bindR (c .chargeR 1) (λ u. c .bindR (substR a B A) (λ D. c .bindR (substR a B A′) (λ D′. c .giveR _)))
+  substR a B (forall b A) =
+      c .bindR (c .chargeR 1) (λ u. pickR (sameName b a) (c .giveR _) (c .bindR (substR a B A) (λ D. c .giveR _)))
+
+  solutionOrR : (A : Ty) (ap ap′ : Ty → M Ty) → ((B : Ty) → R Ty (ap B) (ap′ B)) → (o : Option Ty)
+      → R Ty (solutionOr A ap o) (solutionOr A ap′ o)
+  unfolding solutionOr
+  solutionOrR A ap ap′ h none = c .giveR A
+  solutionOrR A ap ap′ h (some B) = h B
+
+  pub applyStepR : (Γ : Ctx) (ap ap′ : Ty → M Ty) → ((A : Ty) → R Ty (ap A) (ap′ A)) → (A : Ty)
+      → R Ty (applyStep Γ ap A) (applyStep Γ ap′ A)
+  unfolding applyStep
+  applyStepR Γ ap ap′ h int = c .giveR int
+  applyStepR Γ ap ap′ h bool = c .giveR bool
+  applyStepR Γ ap ap′ h (var a) = c .giveR (var a)
+  applyStepR Γ ap ap′ h (etvar a) = solutionOrR (etvar a) ap ap′ h (find (kSETVar a) Γ)
+  applyStepR Γ ap ap′ h (arrow A B) = c .bindR (h A) (λ A′. c .bindR (h B) (λ B′. c .giveR (arrow A′ B′)))
+  applyStepR Γ ap ap′ h (forall a A) = c .bindR (h A) (λ A′. c .giveR (forall a A′))
+
+  module _ (applyR : (Γ : Ctx) (A : Ty) → R Ty (apply Γ A) (apply Γ A)) (judge judge′ : Judge) (h : (j : Judgement) → R Result (judge j) (judge′ j)) where
+    -- ## Shapes that rules share
+
+    closesR : (r : Rule) (Γ : Ctx) → R Fired (closes r Γ) (closes r Γ)
+    unfolding closes
+    closesR r Γ = c .giveR _
+
+    -- one judgement, and what the rule gives then
+    oneR : (j : Judgement) (f : Result → Fired) → R Fired (judge j >>= λ r. give (f r)) (judge′ j >>= λ r. give (f r))
+    oneR j f = c .bindR (h j) (λ r. c .giveR _)
+
+    -- one judgement, and a second that depends on it
+    twoR : (j : Judgement) (k : Result → Judgement) (f : Result → Result → Fired)
+        → R Fired (judge j >>= λ r. (judge (k r) >>= λ r′. give (f r r′))) (judge′ j >>= λ r. (judge′ (k r) >>= λ r′. give (f r r′)))
+    twoR j k f = c .bindR (h j) (λ r. oneR (k r) (f r))
+
+    -- ## inst_l and inst_r
+
+    solveR : (s : Side) (Γ : Ctx) (a : TyVar) (A : Ty) → R Fired (solve s Γ a A) (solve s Γ a A)
+    unfolding solve
+    solveR s Γ a A = pickR _ (pickR _ (c .refuseR _) (closesR _ _)) (c .refuseR _)
+
+    instForallR : (s : Side) (Γ : Ctx) (a b : TyVar) (A : Ty) → R Fired (instForall judge s Γ a b A) (instForall judge′ s Γ a b A)
+    unfolding instForall
+    instForallR onL Γ a b A = oneR _ _
+    instForallR onR Γ a b A = c .bindR (substR _ _ _) (λ A′. oneR _ _)
+
+    instRuleR : (s : Side) (Γ : Ctx) (a : TyVar) (A : Ty) → R Fired (instRule judge s Γ a A) (instRule judge′ s Γ a A)
+    unfolding instRule instArrow reach
+    instRuleR s Γ a int = solveR s Γ a int
+    instRuleR s Γ a bool = solveR s Γ a bool
+    instRuleR s Γ a (var b) = solveR s Γ a (var b)
+    instRuleR s Γ a (etvar b) = pickR _ (closesR _ _) (solveR s Γ a (etvar b))
+    instRuleR s Γ a (arrow A B) =
+        c .bindR (c .freshR) (λ b. c .bindR (c .freshR) (λ d. c .bindR (h _) (λ r. c .bindR (applyR _ _) (λ B′. oneR _ _))))
+    instRuleR s Γ a (forall b A) = instForallR s Γ a b A
+
+    -- ## subtype
+
+    subInstR : (r : Rule) (s : Side) (Γ : Ctx) (T : Ty) (a : TyVar) → R Fired (subInst judge r s Γ T a) (subInst judge′ r s Γ T a)
+    unfolding subInst
+    subInstR r s Γ T a = oneR _ _
+
+    subtypeRuleR : (Γ : Ctx) (A B : Ty) → R Fired (subtypeRule judge Γ A B) (subtypeRule judge′ Γ A B)
+    unfolding subtypeRule subArr subAllR subAllL
+    subtypeRuleR Γ A B =
+        orElseR (whenR _ (closesR _ _))
+        (orElseR (whenR _ (closesR _ _))
+        (orElseR (whenR _ (closesR _ _))
+        (orElseR (onBothR _ _ (λ P Q. twoR _ _ _))
+        (orElseR (onArmR _ (λ P. oneR _ _))
+        (orElseR (onArmR _ (λ P. c .bindR (substR _ _ _) (λ S. oneR _ _)))
+        (orElseR (onArmR _ (subInstR _ _ _ _))
+        (orElseR (onArmR _ (subInstR _ _ _ _))
+        (c .refuseR _))))))))
+
+    -- ## check
+
+    parameterR : (b : Bool) (Γ : Ctx) (A P : Ty) → R (Unit {0}) (parameter b Γ A P) (parameter b Γ A P)
+    unfolding parameter
+    parameterR false Γ A P = c .giveR _
+    parameterR true Γ A P = c .bindR (applyR _ _) (λ P′. pickR _ (c .giveR _) (c .refuseR _))
+
+    checkRuleR : (m : Mode) (Γ : Ctx) (e : Expr) (B : Ty) → R Fired (checkRule m judge Γ e B) (checkRule m judge′ Γ e B)
+    unfolding checkRule chkAll chkLam chkSub
+    checkRuleR m Γ e B =
+        orElseR (whenR _ (closesR _ _))
+        (orElseR (whenR _ (closesR _ _))
+        (orElseR (onBothR _ _ (λ f P. c .bindR (parameterR _ _ _ _) (λ u. oneR _ _)))
+        (orElseR (onArmR _ (λ P. oneR _ _))
+        (c .bindR (h _) (λ r. c .bindR (applyR _ _) (λ A′. c .bindR (applyR _ _) (λ B′. oneR _ _)))))))
+
+    -- ## infer_app
+
+    inferAppRuleR : (Γ : Ctx) (e : Expr) (A : Ty) → R Fired (inferAppRule judge Γ e A) (inferAppRule judge′ Γ e A)
+    unfolding inferAppRule infAppArr infAppETVar
+    inferAppRuleR Γ e A =
+        orElseR (onArmR _ (λ P. oneR _ _))
+        (orElseR (onArmR _ (λ a. c .bindR (c .freshR) (λ b. c .bindR (c .freshR) (λ d. oneR _ _))))
+        (c .refuseR _))
+
+    -- ## infer
+
+    instantiateR : (B A : Ty) → R Ty (instantiate B A) (instantiate B A)
+    unfolding instantiate
+    instantiateR B A = orElseR (onArmR _ (λ P. substR _ _ _)) (c .refuseR _)
+
+    branchR : (b : Bool) (Γ : Ctx) (A : Ty) → R Ty (branch b Γ A) (branch b Γ A)
+    unfolding branch
+    branchR false Γ A = c .giveR A
+    branchR true Γ A = applyR Γ A
+
+    infVarR : (x : TmVar) (Γ : Ctx) (o : Option Ty) → R Fired (infVar x Γ o) (infVar x Γ o)
+    unfolding infVar
+    infVarR x Γ none = c .refuseR _
+    infVarR x Γ (some A) = c .giveR _
+
+    infBothR : (r : Rule) (A C : Ty) (Γ : Ctx) (e e′ : Expr) → R Fired (infBoth judge r A C Γ e e′) (infBoth judge′ r A C Γ e e′)
+    unfolding infBoth
+    infBothR r A C Γ e e′ = twoR _ _ _
+
+    inferRuleR : (m : Mode) (Γ : Ctx) (e : Expr) → R Fired (inferRule m judge Γ e) (inferRule m judge′ Γ e)
+    unfolding inferRule infLam infApp infLet infIf infBinOp infEq infAnn infTAbs infTApp
+    inferRuleR m Γ (evar p x) = infVarR _ _ _
+    inferRuleR m Γ (litInt p l g) = c .giveR _
+    inferRuleR m Γ (litBool p v) = c .giveR _
+    inferRuleR m Γ (abs p x A e) = c .bindR (c .freshR) (λ b. oneR _ _)
+    inferRuleR m Γ (app p e e′) = c .bindR (h _) (λ r. c .bindR (applyR _ _) (λ A′. oneR _ _))
+    inferRuleR m Γ (letIn p x e e′) = twoR _ _ _
+    inferRuleR m Γ (ifThenElse p e e′ e″) =
+        c .bindR (h _) (λ r₁. c .bindR (h _) (λ r₂. c .bindR (h _) (λ r₃. c .bindR (branchR _ _ _) (λ A′. c .bindR (branchR _ _ _) (λ B′. oneR _ _)))))
+    inferRuleR m Γ (binOp p o e e′) =
+        orElseR (whenR _ (infBothR _ _ _ _ _ _))
+        (orElseR (whenR _ (infBothR _ _ _ _ _ _))
+        (orElseR (whenR _ (twoR _ _ _))
+        (infBothR _ _ _ _ _ _)))
+    inferRuleR m Γ (ann p e A) = oneR _ _
+    inferRuleR m Γ (tabs p a e) = c .bindR (h _) (λ r. c .bindR (applyR _ _) (λ A′. c .giveR _))
+    inferRuleR m Γ (tapp p e B) = c .bindR (h _) (λ r. c .bindR (instantiateR _ _) (λ A′. c .giveR _))
+
+    -- ## Every rule
+
+    pub ruleR : (m : Mode) (j : Judgement) → R Fired (rule m judge j) (rule m judge′ j)
+    unfolding rule
+    ruleR m (infer Γ e) = inferRuleR m Γ e
+    ruleR m (check Γ e B) = checkRuleR m Γ e B
+    ruleR m (inferApp Γ e A) = inferAppRuleR Γ e A
+    ruleR m (subtype Γ A B) = subtypeRuleR Γ A B
+    ruleR m (inst s Γ a A) = instRuleR s Γ a A

@@ -1,0 +1,158 @@
+-- The depth does not matter: `apply` and `judge` meet the equations of a recursion without any count. A program's proof goes by these.
+use mathlib.Core.Path.{_≡_, refl, sym, ap, _∙_}
+use Prim.Native.Nat.{ℕ, zero, suc, _+_, _-_, _≤_, _<_}
+use native.Mathlib.Omega.{arith}
+use native.Mathlib.Nat.{le-of-suc-le-suc, not-suc-le-zero, lt-of-not-le, le-refl}
+use native.Mathlib.Decide.{decLe}
+use lib.ListN.{length}
+use Rattle.definition.specs.Syntax.{TyVar, Ty, Ctx, Judgement, given}
+use Rattle.definition.specs.Question.{Mode}
+use Rattle.definition.specs.Run.{Out, done, fail, stop, M, andThen, _>>=_, give, refuse, halt, charge, fresh}
+use Rattle.definition.specs.Types.{applyStep, applyTo, apply, subst}
+use Rattle.definition.specs.Rules.{Result, Judge, rule, judgeStep, judgeTo, judge}
+use Rattle.laws.proofs.Steps.{charge-yes, charge-no}
+use Rattle.laws.proofs.Congruence.{Rel, Closed, substR, applyStepR, ruleR}
+
+-- ## Two runs that are the same at every budget up to b, and never leave more than there was
+
+abbrev pub Left : {A : Type 0} → ℕ → Out A → Type 0
+Left l (done a l′ n) = l′ ≤ l
+Left l (fail e l′) = l′ ≤ l
+Left l stop = Unit {0}
+
+abbrev pub Upto : ℕ → Rel
+Upto b A m m′ = (l n : ℕ) → l ≤ b → (m l n ≡ m′ l n) × Left l (m l n)
+
+weaken : {A : Type 0} (l l′ : ℕ) (o : Out A) → l′ ≤ l → Left l′ o → Left l o
+weaken l l′ (done a m n) h p = omega arith
+weaken l l′ (fail e m) h p = omega arith
+weaken l l′ stop h p = tt
+
+andThen-upto : (b : ℕ) {A B : Type 0} (l : ℕ) (o o′ : Out A) (f f′ : A → M B) → l ≤ b → o ≡ o′ → Left l o → ((a : A) → Upto b B (f a) (f′ a))
+    → (andThen o f ≡ andThen o′ f′) × Left l (andThen o f)
+unfolding andThen
+andThen-upto b l (done a l′ n) o′ f f′ h e p k =
+    let r : (f a l′ n ≡ f′ a l′ n) × Left l′ (f a l′ n) = k a l′ n (omega arith) in
+    (r .0 ∙ ap (λ o. andThen o f′) e, weaken l l′ (f a l′ n) p (r .1))
+andThen-upto b l (fail x l′) o′ f f′ h e p k = (ap (λ o. andThen o f′) e, p)
+andThen-upto b l stop o′ f f′ h e p k = (ap (λ o. andThen o f′) e, tt)
+
+charge-upto : (b c : ℕ) → Upto b (Unit {0}) (charge c) (charge c)
+charge-upto b c l n h =
+    (refl, elim (decLe c l) [ yes k ↦ rw (charge-yes c l n k) (omega arith) | no k ↦ rw (charge-no c l n (lt-of-not-le k)) tt ])
+
+upto : (b : ℕ) → Closed (Upto b)
+unfolding give refuse fresh _>>=_
+upto b = record {
+  giveR = λ a l n h. (refl, le-refl l);
+  refuseR = λ e l n h. (refl, le-refl l);
+  freshR = λ l n h. (refl, le-refl l);
+  chargeR = λ c. charge-upto b c;
+  bindR = λ {A} {B} {m} {m′} {f} {f′} hm hf l n h. andThen-upto b l (m l n) (m′ l n) f f′ h (hm l n h .0) (hm l n h .1) hf;
+}
+
+-- a charge of one or more, and then what is the same at every smaller budget
+charged-upto : (b c : ℕ) {A : Type 0} (f f′ : Unit {0} → M A) → 1 ≤ c → Upto b A (f tt) (f′ tt) → Upto (suc b) A (charge c >>= f) (charge c >>= f′)
+unfolding _>>=_ andThen
+charged-upto b c f f′ p h l n k =
+    elim (decLe c l) [
+      | yes q ↦
+          let r : (f tt (l - c) n ≡ f′ tt (l - c) n) × Left (l - c) (f tt (l - c) n) = h (l - c) n (omega arith) in
+          rw (charge-yes c l n q) (r .0, weaken l (l - c) (f tt (l - c) n) (omega arith) (r .1))
+      | no q ↦ rw (charge-no c l n (lt-of-not-le q)) (refl, tt)
+    ]
+
+-- with nothing left it stops at once
+charged-none : (c : ℕ) {A : Type 0} (f : Unit {0} → M A) (n : ℕ) → 1 ≤ c → (charge c >>= f) 0 n ≡ stop
+unfolding _>>=_ andThen
+charged-none c f n p = rw (charge-no c 0 n p)
+
+none-upto : {A : Type 0} (m m′ : M A) → ((n : ℕ) → m 0 n ≡ stop) → ((n : ℕ) → m′ 0 n ≡ stop) → Upto 0 A m m′
+none-upto m m′ e e′ zero n h = (e n ∙ sym (e′ n), rw (e n) tt)
+none-upto m m′ e e′ (suc l) n h = absurd (not-suc-le-zero h)
+
+-- ## Application
+
+applyTo-none : (d : ℕ) (Γ : Ctx) (A : Ty) (n : ℕ) → applyTo d Γ A 0 n ≡ stop
+unfolding applyTo halt
+applyTo-none zero Γ A n = refl
+applyTo-none (suc d) Γ A n = charged-none 1 _ n (le-refl 1)
+
+applyTo-upto : (b d d′ : ℕ) → b ≤ d → b ≤ d′ → (Γ : Ctx) (A : Ty) → Upto b Ty (applyTo d Γ A) (applyTo d′ Γ A)
+unfolding applyTo
+applyTo-upto zero d d′ h h′ Γ A = none-upto (applyTo d Γ A) (applyTo d′ Γ A) (applyTo-none d Γ A) (applyTo-none d′ Γ A)
+applyTo-upto (suc b) zero d′ h h′ Γ A = absurd (not-suc-le-zero h)
+applyTo-upto (suc b) (suc d) zero h h′ Γ A = absurd (not-suc-le-zero h′)
+applyTo-upto (suc b) (suc d) (suc d′) h h′ Γ A =
+    charged-upto b 1 _ _ (le-refl 1)
+    (applyStepR (Upto b) (upto b) Γ (λ B l n. applyTo d Γ B l n) (λ B l n. applyTo d′ Γ B l n)
+    (applyTo-upto b d d′ (le-of-suc-le-suc h) (le-of-suc-le-suc h′) Γ) A)
+
+-- `apply` at any depth that is enough
+apply-upto : (b d : ℕ) → b ≤ d → (Γ : Ctx) (A : Ty) → Upto b Ty (applyTo d Γ A) (apply Γ A)
+unfolding apply
+apply-upto b d h Γ A l n k = applyTo-upto l d l (omega arith) (le-refl l) Γ A l n (le-refl l)
+
+apply-self : (b : ℕ) (Γ : Ctx) (A : Ty) → Upto b Ty (apply Γ A) (apply Γ A)
+unfolding apply
+apply-self b Γ A l n k = applyTo-upto l l l (le-refl l) (le-refl l) Γ A l n (le-refl l)
+
+-- the equation of `apply`
+pub apply-eq : (Γ : Ctx) (A : Ty) (l n : ℕ) → apply Γ A l n ≡ (charge 1 >>= λ u. applyStep Γ (apply Γ) A) l n
+unfolding apply applyTo
+apply-eq Γ A zero n = applyTo-none 0 Γ A n ∙ sym (charged-none 1 (λ u. applyStep Γ (apply Γ) A) n (le-refl 1))
+apply-eq Γ A (suc l) n =
+    charged-upto l 1 (λ u. applyStep Γ (λ B k n. applyTo l Γ B k n) A) (λ u. applyStep Γ (apply Γ) A) (le-refl 1)
+    (applyStepR (Upto l) (upto l) Γ (λ B k n. applyTo l Γ B k n) (apply Γ) (apply-upto l l (le-refl l) Γ) A)
+    (suc l) n (le-refl (suc l)) .0
+
+-- ## Judgements
+
+judgeStep-upto : (b : ℕ) (m : Mode) (rec rec′ : Judge) → ((i : Judgement) → Upto b Result (rec i) (rec′ i)) → (j : Judgement)
+    → Upto (suc b) Result (judgeStep m rec j) (judgeStep m rec′ j)
+unfolding judgeStep
+judgeStep-upto b m rec rec′ h j =
+    charged-upto b (1 + length (given j)) _ _ (omega arith)
+    ((upto b) .bindR (ruleR (Upto b) (upto b) (apply-self b) rec rec′ h m j)
+    (λ r. (upto b) .bindR (charge-upto b _) (λ v. (upto b) .giveR _)))
+
+judgeStep-none : (m : Mode) (rec : Judge) (j : Judgement) (n : ℕ) → judgeStep m rec j 0 n ≡ stop
+unfolding judgeStep
+judgeStep-none m rec j n = charged-none (1 + length (given j)) _ n (omega arith)
+
+judgeTo-none : (m : Mode) (d : ℕ) (j : Judgement) (n : ℕ) → judgeTo m d j 0 n ≡ stop
+unfolding judgeTo halt
+judgeTo-none m zero j n = refl
+judgeTo-none m (suc d) j n = judgeStep-none m _ j n
+
+judgeTo-upto : (m : Mode) (b d d′ : ℕ) → b ≤ d → b ≤ d′ → (j : Judgement) → Upto b Result (judgeTo m d j) (judgeTo m d′ j)
+unfolding judgeTo
+judgeTo-upto m zero d d′ h h′ j = none-upto (judgeTo m d j) (judgeTo m d′ j) (judgeTo-none m d j) (judgeTo-none m d′ j)
+judgeTo-upto m (suc b) zero d′ h h′ j = absurd (not-suc-le-zero h)
+judgeTo-upto m (suc b) (suc d) zero h h′ j = absurd (not-suc-le-zero h′)
+judgeTo-upto m (suc b) (suc d) (suc d′) h h′ j =
+    judgeStep-upto b m (λ i l n. judgeTo m d i l n) (λ i l n. judgeTo m d′ i l n)
+    (judgeTo-upto m b d d′ (le-of-suc-le-suc h) (le-of-suc-le-suc h′)) j
+
+judge-upto : (m : Mode) (b : ℕ) (j : Judgement) → Upto b Result (judgeTo m b j) (judge m j)
+unfolding judge
+judge-upto m b j l n k = judgeTo-upto m l b l k (le-refl l) j l n (le-refl l)
+
+-- the equation of `judge`: a judgement is its step, whose judgements are `judge`'s
+pub judge-eq : (m : Mode) (j : Judgement) (l n : ℕ) → judge m j l n ≡ judgeStep m (judge m) j l n
+unfolding judge judgeTo
+judge-eq m j zero n = judgeTo-none m 0 j n ∙ sym (judgeStep-none m (judge m) j n)
+judge-eq m j (suc l) n =
+    judgeStep-upto l m (λ i k n. judgeTo m l i k n) (judge m) (judge-upto m l) j (suc l) n (le-refl (suc l)) .0
+
+-- ## No run leaves more than there was
+
+pub subst-left : (a : TyVar) (B A : Ty) (l n : ℕ) → Left l (subst a B A l n)
+subst-left a B A l n = substR (Upto l) (upto l) a B A l n (le-refl l) .1
+
+pub apply-left : (Γ : Ctx) (A : Ty) (l n : ℕ) → Left l (apply Γ A l n)
+apply-left Γ A l n = apply-self l Γ A l n (le-refl l) .1
+
+pub judge-left : (m : Mode) (j : Judgement) (l n : ℕ) → Left l (judge m j l n)
+unfolding judge
+judge-left m j l n = judgeTo-upto m l l l (le-refl l) (le-refl l) j l n (le-refl l) .1

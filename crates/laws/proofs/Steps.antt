@@ -1,0 +1,54 @@
+-- Stepping through a run: what a charge and a bind come to.
+use mathlib.Core.Path.{_≡_, refl}
+use Prim.Native.Nat.{ℕ, suc, _+_, _-_, _≤_, _<_}
+use mathlib.Core.Bool.{Bool, true, false, not}
+use lib.Dec.{T, leb, le→leb}
+use mir.Facts.{no-leb}
+use Rattle.definition.specs.Syntax.{pick, TypeError}
+use Rattle.definition.specs.Run.{Out, done, fail, stop, M, andThen, _>>=_, charge, fresh}
+
+-- ## Tests
+
+pub is-true : (b : Bool) → T b → b ≡ true
+is-true true t = refl
+is-true false t = absurd t
+
+pub is-false : (b : Bool) → T (not b) → b ≡ false
+is-false true t = absurd t
+is-false false t = refl
+
+pub pick-true : {A : Type 0} {b : Bool} (x y : A) → b ≡ true → pick b x y ≡ x
+unfolding pick
+pick-true x y e = rw e
+
+pub pick-false : {A : Type 0} {b : Bool} (x y : A) → b ≡ false → pick b x y ≡ y
+unfolding pick
+pick-false x y e = rw e
+
+-- ## A charge
+
+pub charge-yes : (c l n : ℕ) → c ≤ l → charge c l n ≡ done tt (l - c) n
+unfolding charge
+charge-yes c l n h = pick-true _ _ (is-true (leb c l) (le→leb c l h))
+
+pub charge-no : (c l n : ℕ) → l < c → charge c l n ≡ stop
+unfolding charge
+charge-no c l n h = pick-false _ _ (is-false (leb c l) (no-leb h))
+
+pub fresh-is : (l n : ℕ) → fresh l n ≡ done (record { number = 1_000_000 + n }) l (suc n)
+unfolding fresh
+fresh-is l n = refl
+
+-- ## A bind whose first part is known
+
+pub bind-done : {A B : Type 0} (m : M A) (f : A → M B) (l n : ℕ) {a : A} {l′ n′ : ℕ} → m l n ≡ done a l′ n′ → (m >>= f) l n ≡ f a l′ n′
+unfolding _>>=_ andThen
+bind-done m f l n e = rw e
+
+pub bind-fail : {A B : Type 0} (m : M A) (f : A → M B) (l n : ℕ) {e : TypeError} {l′ : ℕ} → m l n ≡ fail e l′ → (m >>= f) l n ≡ fail e l′
+unfolding _>>=_ andThen
+bind-fail m f l n e = rw e
+
+pub bind-stop : {A B : Type 0} (m : M A) (f : A → M B) (l n : ℕ) → m l n ≡ stop → (m >>= f) l n ≡ stop
+unfolding _>>=_ andThen
+bind-stop m f l n e = rw e

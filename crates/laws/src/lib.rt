@@ -1,0 +1,1 @@
+// The laws stand in specs/: there is nothing to run here.

@@ -1,0 +1,177 @@
+-- Laws of what references and runs denote: what stays when words stay, and what is made when words are put.
+use mathlib.Core.Path.{_≡_, refl, sym, _∙_, ap}
+use mathlib.Core.List.{List, [], _∷_, _++_}
+use Prim.Native.Nat.{ℕ, _+_, _*_, _≤_, _<_}
+use native.Mathlib.Nat.{le-trans}
+use native.Mathlib.Omega.{arith}
+use lib.ListN.{length, getD}
+use Rattle.definition.specs.Syntax.{TyVar, Ty, int, bool, var, etvar, arrow, forall, Entry, Ctx}
+use Rattle.definition.specs.Contexts.{keyOf, kindOf, nameOf, held}
+use Rattle.definition.specs.Rules.{tyCode}
+use Rattle.layout.specs.Words.{Keep, Put2, Put4}
+use Rattle.layout.specs.Places.{size, TyAt}
+use Rattle.layout.specs.Denotes.{capped, MadeAt, Den, written, int-made, bool-made, etvar-made, arrow-made, forall-made, EntryAt, CtxAt, nil, cons, Run, Base}
+use Rattle.layout.proofs.Words.{keep-refl}
+use Rattle.layout.proofs.Places.{ty-code, expr-code}
+
+-- ## Types
+
+made-frame : {t t′ h r i n k : ℕ} {w w′ : List ℕ} → Keep t h w w′ → t ≤ t′ → 1 ≤ n → MadeAt w t r i n k → MadeAt w′ t′ r i n k
+made-frame {i = i} kp le h m =
+    let b = m .below in
+    record { ref = m .ref; below = le-trans b le; is = sym (kp .below i (omega arith)) ∙ m .is }
+
+pub den-frame : {q w w′ : List ℕ} {t t′ h r : ℕ} {T : Ty} → Keep t h w w′ → t ≤ t′ → Den q w t r T → Den q w′ t′ r T
+den-frame kp le (written d) = written d
+den-frame kp le (int-made m) = int-made (made-frame kp le (omega arith) m)
+den-frame kp le (bool-made m) = bool-made (made-frame kp le (omega arith) m)
+den-frame kp le (etvar-made {i = i} m n) =
+    let b = m .below in
+    etvar-made (made-frame kp le (omega arith) m) (sym (kp .below (i + 1) (omega arith)) ∙ n)
+den-frame kp le (arrow-made {i = i} m x y f g s d e) =
+    let b = m .below in
+    arrow-made (made-frame kp le (omega arith) m) x y
+    (sym (kp .below (i + 1) (omega arith)) ∙ f)
+    (sym (kp .below (i + 2) (omega arith)) ∙ g)
+    (sym (kp .below (i + 3) (omega arith)) ∙ s)
+    (den-frame kp le d)
+    (den-frame kp le e)
+den-frame kp le (forall-made {i = i} m y n g s d) =
+    let b = m .below in
+    forall-made (made-frame kp le (omega arith) m) y
+    (sym (kp .below (i + 1) (omega arith)) ∙ n)
+    (sym (kp .below (i + 2) (omega arith)) ∙ g)
+    (sym (kp .below (i + 3) (omega arith)) ∙ s)
+    (den-frame kp le d)
+
+-- a reference below 2048 is a place of the question
+pub den-written : {q w : List ℕ} {t r : ℕ} {T : Ty} → r < 2048 → Den q w t r T → TyAt q r T
+den-written h (written d) = d
+den-written h (int-made m) = absurd (omega (arith, m .ref))
+den-written h (bool-made m) = absurd (omega (arith, m .ref))
+den-written h (etvar-made m n) = absurd (omega (arith, m .ref))
+den-written h (arrow-made m x y f g s d e) = absurd (omega (arith, m .ref))
+den-written h (forall-made m y n g s d) = absurd (omega (arith, m .ref))
+
+-- any other is a record of work, which begins with the type's code
+pub record CodeMade (w : List ℕ) (t r k : ℕ) : Type 0 where
+  pub place : ℕ
+  pub ref : r ≡ 2048 + place
+  pub below : place < t
+  pub is : getD w place 0 ≡ k
+
+code-made : {w : List ℕ} {t r i n k : ℕ} → 1 ≤ n → MadeAt w t r i n k → CodeMade w t r k
+code-made {i = i} h m = let b = m .below in record { place = i; ref = m .ref; below = omega arith; is = m .is }
+
+pub den-made : {q w : List ℕ} {t r : ℕ} {T : Ty} → 2048 ≤ r → Den q w t r T → CodeMade w t r (tyCode T)
+unfolding tyCode
+den-made h (written d) = let c = ty-code d in absurd (omega (arith, c .inside))
+den-made h (int-made m) = code-made (omega arith) m
+den-made h (bool-made m) = code-made (omega arith) m
+den-made h (etvar-made m n) = code-made (omega arith) m
+den-made h (arrow-made m x y f g s d e) = code-made (omega arith) m
+den-made h (forall-made m y n g s d) = code-made (omega arith) m
+
+pub den-small : {q w : List ℕ} {t r : ℕ} {T : Ty} → Den q w t r T → r < 2048 + t
+den-small (written d) = let c = ty-code d in omega (arith, c .inside)
+den-small (int-made m) = omega (arith, m .ref, m .below)
+den-small (bool-made m) = omega (arith, m .ref, m .below)
+den-small (etvar-made m n) = omega (arith, m .ref, m .below)
+den-small (arrow-made m x y f g s d e) = omega (arith, m .ref, m .below)
+den-small (forall-made m y n g s d) = omega (arith, m .ref, m .below)
+
+-- ## What is put at t is a type
+
+pub etvar-put : {q w w′ : List ℕ} {t n : ℕ} (a : TyVar) → n ≡ a .number → Put2 w w′ t 4 n → Den q w′ (t + 2) (2048 + t) (etvar a)
+etvar-put {t = t} a e p = etvar-made {i = t} (record { ref = refl; below = omega arith; is = p .w0 }) (p .w1 ∙ e)
+
+pub arrow-put : {q w w′ : List ℕ} {t l m n : ℕ} {A B : Ty} → Put4 w w′ t 5 l m n → n ≡ capped (size (arrow A B)) → Den q w t l A → Den q w t m B
+    → Den q w′ (t + 4) (2048 + t) (arrow A B)
+arrow-put {t = t} p s d e =
+    arrow-made {i = t} (record { ref = refl; below = omega arith; is = p .w0 }) (den-small d) (den-small e) (p .w1) (p .w2) (p .w3 ∙ s)
+    (den-frame (p .keep) (omega arith) d)
+    (den-frame (p .keep) (omega arith) e)
+
+pub forall-put : {q w w′ : List ℕ} {t b m n : ℕ} {A : Ty} (a : TyVar) → b ≡ a .number → Put4 w w′ t 6 b m n → n ≡ capped (size (forall a A))
+    → Den q w t m A → Den q w′ (t + 4) (2048 + t) (forall a A)
+forall-put {t = t} a f p s d =
+    forall-made {i = t} (record { ref = refl; below = omega arith; is = p .w0 }) (den-small d) (p .w1 ∙ f) (p .w2) (p .w3 ∙ s)
+    (den-frame (p .keep) (omega arith) d)
+
+-- ## The bottom of work
+
+pub base-frame : {q w w′ : List ℕ} {t t′ h : ℕ} → Keep t h w w′ → t ≤ t′ → Base q w t → Base q w′ t′
+base-frame kp le b = record {
+  floor = le-trans (b .floor) le;
+  int-is = sym (kp .below 0 (omega (arith, b .floor))) ∙ b .int-is;
+  bool-is = sym (kp .below 1 (omega (arith, b .floor))) ∙ b .bool-is;
+  past-ty = λ p A d. let c = ty-code d in sym (kp .below (16 + p) (omega (arith, b .floor, c .inside))) ∙ b .past-ty p A d;
+  past-expr = λ p e d. let c = expr-code d in sym (kp .below (16 + p) (omega (arith, b .floor, c .inside))) ∙ b .past-expr p e d;
+}
+
+pub int-den : {q w : List ℕ} {t : ℕ} → Base q w t → Den q w t 2048 int
+int-den b = int-made {i = 0} (record { ref = refl; below = omega (arith, b .floor); is = b .int-is })
+
+pub bool-den : {q w : List ℕ} {t : ℕ} → Base q w t → Den q w t 2049 bool
+bool-den b = bool-made {i = 1} (record { ref = refl; below = omega (arith, b .floor); is = b .bool-is })
+
+-- ## Runs of entries
+
+entry-move : {q w w′ : List ℕ} {t t′ h at to : ℕ} {e : Entry} → Keep t h w w′ → t ≤ t′ → to + 4 ≤ t′
+    → getD w′ to 0 ≡ getD w at 0 → getD w′ (to + 1) 0 ≡ getD w (at + 1) 0 → getD w′ (to + 2) 0 ≡ getD w (at + 2) 0
+    → EntryAt q w t at e → EntryAt q w′ t′ to e
+entry-move kp le h a b c x = record {
+  ref = x .ref;
+  below = h;
+  kind = a ∙ x .kind;
+  name = b ∙ x .name;
+  ref-is = c ∙ x .ref-is;
+  den = den-frame kp le (x .den);
+}
+
+-- where the words of a run stand again, so does the run
+pub ctx-move : {q w w′ : List ℕ} {t t′ h at : ℕ} (to : ℕ) {Γ : Ctx} → Keep t h w w′ → t ≤ t′ → to + 4 * length Γ ≤ t′
+    → ((j : ℕ) → j < 4 * length Γ → getD w′ (to + j) 0 ≡ getD w (at + j) 0)
+    → CtxAt q w t at Γ → CtxAt q w′ t′ to Γ
+ctx-move to kp le h s nil = nil
+ctx-move {w = w} {w′ = w′} to kp le h s (cons {at} {e} {Γ} x g) =
+    cons
+    (entry-move kp le (omega arith) (word 0 (omega arith)) (s 1 (omega arith)) (s 2 (omega arith)) x)
+    (ctx-move (to + 4) kp le (omega arith) (λ j l. step j (omega arith)) g)
+  where
+    word : (j : ℕ) → j < 1 → getD w′ to 0 ≡ getD w at 0
+    word j l =
+        let a : to ≡ to + 0 = omega arith in
+        let b : at + 0 ≡ at = omega arith in
+        ap (λ (i : ℕ). getD w′ i 0) a ∙ s 0 (omega arith) ∙ ap (λ (i : ℕ). getD w i 0) b
+
+    step : (j : ℕ) → 4 + j < 4 * length (e ∷ Γ) → getD w′ (to + 4 + j) 0 ≡ getD w (at + 4 + j) 0
+    step j l =
+        let a : to + 4 + j ≡ to + (4 + j) = omega arith in
+        let b : at + (4 + j) ≡ at + 4 + j = omega arith in
+        ap (λ (i : ℕ). getD w′ i 0) a ∙ s (4 + j) l ∙ ap (λ (i : ℕ). getD w i 0) b
+
+-- a run stays where its words stay
+pub ctx-frame : {q w w′ : List ℕ} {t t′ h at : ℕ} {Γ : Ctx} → Keep t h w w′ → t ≤ t′ → CtxAt q w t at Γ → CtxAt q w′ t′ at Γ
+ctx-frame kp le nil = nil
+ctx-frame kp le (cons {at} x g) =
+    let b = x .below in
+    cons
+    (entry-move kp le (omega arith) (sym (kp .below at (omega arith))) (sym (kp .below (at + 1) (omega arith)))
+    (sym (kp .below (at + 2) (omega arith))) x)
+    (ctx-frame kp le g)
+
+pub run-frame : {q w w′ : List ℕ} {t t′ h at n : ℕ} {Γ : Ctx} → Keep t h w w′ → t ≤ t′ → Run q w t at n Γ → Run q w′ t′ at n Γ
+run-frame kp le r = record { ctx = ctx-frame kp le (r .ctx); count = r .count; below = le-trans (r .below) le }
+
+-- two runs, one after the other
+pub ctx-join : {q w : List ℕ} {t at : ℕ} (L : Ctx) {R : Ctx} → CtxAt q w t at L → CtxAt q w t (at + 4 * length L) R → CtxAt q w t at (L ++ R)
+ctx-join {at = at} [] {R} nil h = let a : at + 4 * 0 ≡ at = omega arith in rw a at h
+ctx-join {q} {w} {t} {at} (f ∷ L) {R} (cons x g) h =
+    let a : at + 4 * length (f ∷ L) ≡ at + 4 + 4 * length L = omega arith in
+    cons x (ctx-join L g (rw a at h))
+
+-- an entry that was put
+pub entry-put : {q w w′ : List ℕ} {at k a r d : ℕ} (e : Entry) (t : ℕ) → Put4 w w′ at k a r d → at + 4 ≤ t → k ≡ kindOf (keyOf e)
+    → a ≡ nameOf (keyOf e) → Den q w′ t r (held e) → EntryAt q w′ t at e
+entry-put {r = r} e t p h x y d = record { ref = r; below = h; kind = p .w0 ∙ x; name = p .w1 ∙ y; ref-is = p .w2; den = d }

@@ -1,0 +1,4 @@
+-- Laws of what words denote.
+pub mod Words
+pub mod Places
+pub mod Denotes

@@ -1,0 +1,73 @@
+-- `copy` meets its contract.
+use native.Mathlib.Omega.{arith}
+use mathlib.Core.Path.{_≡_, refl, sym, _∙_, ap}
+use Prim.Native.Nat.{ℕ, _≤_, _<_, _-_, _*_, _+_}
+use lib.ListN.{length, getD}
+use Rattle.layout.specs.Words.{Keep}
+use Rattle.layout.proofs.Words.{keep-refl, keep-trans, keep-set}
+use Rattle.layout.proofs.Words.{copy-more}
+use Rattle.layout.proofs.copy.Statement.{statement}
+use Rattle.layout.proofs.copy.Tie as tie
+use Rattle.layout.proofs.copy.Reads as reads
+use Rattle.layout.proofs.copy.Lts as lts
+
+abbrev Inv-loop : tie.InvT-loop
+Inv-loop work₀ from to n i₀ work i = (i ≤ n) × Keep to (to + n) work₀ work × ((j : ℕ) → j < i → getD work (to + j) 0 ≡ getD work₀ (from + j) 0)
+
+abbrev μ-loop : tie.MeasureT-loop
+μ-loop work₀ from to n i₀ work i = n - i
+
+loop-holds : tie.Need-loop-holds Inv-loop μ-loop
+loop-holds c = (omega arith, keep-refl _ _ _, λ j l. absurd (omega arith))
+
+add-x : tie.Need-add-x Inv-loop μ-loop
+add-x c = omega arith
+
+mul-x : tie.Need-mul-x Inv-loop μ-loop
+mul-x c = omega arith
+
+slice-read-x : tie.Need-slice-read-x Inv-loop μ-loop
+slice-read-x c = omega arith
+
+add-work : tie.Need-add-work Inv-loop μ-loop
+add-work c = omega arith
+
+mul-work : tie.Need-mul-work Inv-loop μ-loop
+mul-work c = omega arith
+
+slice-write-work : tie.Need-slice-write-work Inv-loop μ-loop
+slice-write-work c = omega arith
+
+add-i : tie.Need-add-i Inv-loop μ-loop
+add-i c = omega arith
+
+loop-less : tie.Need-loop-less Inv-loop μ-loop
+loop-less c = omega arith
+
+loop-again : tie.Need-loop-again Inv-loop μ-loop
+loop-again c = (omega arith, keep-trans (c .before .before .loop .inv .1) (keep-set _ _ _ _ _ (omega arith) (omega arith)), copy-more (c .before .before .before .args .from) (c .before .before .before .args .n) (c .before .before .loop .i) (c .before .before .before .pre .0) (c .before .before .before .pre .1) (omega arith) (c .before .before .loop .inv .1) (c .before .before .loop .inv .2))
+
+same-length : tie.Need-same-length Inv-loop μ-loop
+same-length c = sym (c .before .loop .inv .1 .long)
+
+returns : tie.Need-returns Inv-loop μ-loop
+returns c = record { keep = c .before .loop .inv .1; same = λ j l. c .before .loop .inv .2 j (omega arith) }
+
+pub copy-spec : {M : Type 1} → statement M
+copy-spec =
+    tie.close
+    (tie.spec
+    Inv-loop
+    μ-loop
+    loop-holds
+    add-x
+    mul-x
+    slice-read-x
+    add-work
+    mul-work
+    slice-write-work
+    add-i
+    loop-less
+    loop-again
+    same-length
+    returns)

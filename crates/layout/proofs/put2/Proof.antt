@@ -1,0 +1,26 @@
+-- `put2` meets its contract.
+use Rattle.layout.proofs.Words.{put-two}
+use borrow.Author.Needs.{needs}
+use Rattle.layout.proofs.put2.Statement.{statement}
+use Rattle.layout.proofs.put2.Tie as tie
+use Rattle.layout.proofs.put2.Reads as reads
+use Rattle.layout.proofs.put2.Lts as lts
+use Rattle.layout.proofs.put.Reads as put-reads
+
+put-requires : tie.Need-put-requires
+put-requires c κs = search needs
+
+add-put : tie.Need-add-put
+add-put c = search needs
+
+put-requires-2 : tie.Need-put-requires-2
+put-requires-2 c κs = search needs
+
+same-length : tie.Need-same-length
+same-length c = search needs
+
+returns : tie.Need-returns
+returns c = rw (c .before .before .put2 .ensures, c .before .before .before .before .before .before .put .ensures) (put-two _ _ _ _ (c .before .before .before .before .before .before .before .before .before .pre .0))
+
+pub put2-spec : {M : Type 1} → statement M
+put2-spec = tie.close (tie.spec put-requires add-put put-requires-2 same-length returns)

@@ -1,0 +1,49 @@
+-- `put4` meets its contract.
+use Rattle.layout.proofs.Words.{put-four}
+use borrow.Author.Needs.{needs}
+use Rattle.layout.proofs.put4.Statement.{statement}
+use Rattle.layout.proofs.put4.Tie as tie
+use Rattle.layout.proofs.put4.Reads as reads
+use Rattle.layout.proofs.put4.Lts as lts
+use Rattle.layout.proofs.put.Reads as put-reads
+
+put-requires : tie.Need-put-requires
+put-requires c κs = search needs
+
+add-put : tie.Need-add-put
+add-put c = search needs
+
+put-requires-2 : tie.Need-put-requires-2
+put-requires-2 c κs = search needs
+
+add-put-2 : tie.Need-add-put-2
+add-put-2 c = search needs
+
+put-requires-3 : tie.Need-put-requires-3
+put-requires-3 c κs = search needs
+
+add-put-3 : tie.Need-add-put-3
+add-put-3 c = search needs
+
+put-requires-4 : tie.Need-put-requires-4
+put-requires-4 c κs = search needs
+
+same-length : tie.Need-same-length
+same-length c = search needs
+
+returns : tie.Need-returns
+returns c = rw (c .before .before .put4 .ensures, c .before .before .before .before .before .before .put3 .ensures, c .before .before .before .before .before .before .before .before .before .before .put2 .ensures, c .before .before .before .before .before .before .before .before .before .before .before .before .before .before .put .ensures) (put-four _ _ _ _ _ _ (c .before .before .before .before .before .before .before .before .before .before .before .before .before .before .before .before .before .pre .0))
+
+pub put4-spec : {M : Type 1} → statement M
+put4-spec =
+    tie.close
+    (tie.spec
+    put-requires
+    add-put
+    put-requires-2
+    add-put-2
+    put-requires-3
+    add-put-3
+    put-requires-4
+    same-length
+    returns)

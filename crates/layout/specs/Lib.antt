@@ -1,0 +1,6 @@
+-- What words of the question and of work denote.
+pub mod Names
+pub mod Words
+pub mod Places
+pub mod Denotes
+pub mod Room

@@ -1,0 +1,133 @@
+// How types, contexts and a run's state lie in the question and in work (docs/LAYOUT.md), and the words they are made of.
+ghost use mathlib.Core.Path.{_≡_};
+ghost use Prim.Native.Nat.{_+_, _*_, _≤_, _<_, _^_};
+ghost use lib.ListN.{length, getD, set};
+ghost use Rattle.definition.specs.Contexts.{kindOf, nameOf};
+ghost use Rattle.layout.specs.Names.{key};
+ghost use Rattle.layout.specs.Words.{Put2, Put4, Copied};
+
+// A type reference below this is a place in the question; from here on, this plus a place in work.
+pub const BASE: usize = 2048;
+
+// The records of Int and Bool stand at the bottom of work.
+pub const INT: usize = 2048;
+
+pub const BOOL: usize = 2049;
+
+// From here on work holds, for each place of the question, the place past the item that stands there.
+pub const ENDS: usize = 16;
+
+// Types and runs of entries grow up from here.
+pub const FLOOR: usize = 2064;
+
+// A length in words stops at this.
+pub const MOST: usize = 4_294_967_295;
+
+// A variable's name and a type's name: two kinds, so that a lookup cannot take the other.
+pub struct TmVar(pub u32);
+
+pub struct TyVar(pub u32);
+
+// What a search asks for: an entry's kind and name.
+pub enum Key {
+    Var(TmVar),
+    TVar(TyVar),
+    ETVar(TyVar),
+    SETVar(TyVar),
+    Mark(TyVar),
+}
+
+impl Key {
+    pub fn kind(self) -> usize
+        ensures { λ r. ⌜ r ≡ kindOf (key self) ⌝ }
+    {
+        match self {
+            Key::Var(_) => 32,
+            Key::TVar(_) => 33,
+            Key::ETVar(_) => 34,
+            Key::SETVar(_) => 35,
+            Key::Mark(_) => 36,
+        }
+    }
+
+    pub fn name(self) -> usize
+        ensures { λ r. ⌜ (r ≡ nameOf (key self)) × (r < 2 ^ 32) ⌝ }
+    {
+        match self {
+            Key::Var(x) => x.0 as usize,
+            Key::TVar(a) => a.0 as usize,
+            Key::ETVar(a) => a.0 as usize,
+            Key::SETVar(a) => a.0 as usize,
+            Key::Mark(a) => a.0 as usize,
+        }
+    }
+}
+
+// A run's state: types and runs of entries grow up from top, nodes down from low; the budget left; the fresh names taken.
+pub struct State {
+    pub top: usize,
+    pub low: usize,
+    pub left: usize,
+    pub fresh: usize,
+}
+
+// A context: n entries of four words (kind, name, type reference, spare) from a place of work on.
+pub struct Span {
+    pub at: usize,
+    pub n: usize,
+}
+
+// A type that was made (or found) and the state then; or the next charge would pass the budget.
+pub enum Made {
+    Done(State, usize),
+    Spent,
+}
+
+// The word at i, as a number that indexes.
+pub fn word(s: &[u32], i: usize) -> usize
+    requires { ⌜ i < length (now s) ⌝ }
+    ensures { λ r. ⌜ (r ≡ getD (now (s .entry)) i 0) × (r < 2 ^ 32) ⌝ }
+{
+    s[i] as usize
+}
+
+// Puts v at i.
+pub fn put(w: &mut [u32], i: usize, v: usize)
+    requires { ⌜ (i < length (now w)) × (v < 2 ^ 32) ⌝ }
+    ensures { λ _. ⌜ now (w .exit) ≡ set (now (w .entry)) i v ⌝ }
+{
+    w[i] = v as u32;
+}
+
+// Puts two words.
+pub fn put2(w: &mut [u32], i: usize, a: usize, b: usize)
+    requires { ⌜ (i + 2 ≤ length (now w)) × (a < 2 ^ 32) × (b < 2 ^ 32) ⌝ }
+    ensures { λ _. ⌜ Put2 (now (w .entry)) (now (w .exit)) i a b ⌝ }
+{
+    put(w, i, a);
+    put(w, i + 1, b);
+}
+
+// Puts four words.
+pub fn put4(w: &mut [u32], i: usize, a: usize, b: usize, c: usize, d: usize)
+    requires { ⌜ (i + 4 ≤ length (now w)) × (a < 2 ^ 32) × (b < 2 ^ 32) × (c < 2 ^ 32) × (d < 2 ^ 32) ⌝ }
+    ensures { λ _. ⌜ Put4 (now (w .entry)) (now (w .exit)) i a b c d ⌝ }
+{
+    put(w, i, a);
+    put(w, i + 1, b);
+    put(w, i + 2, c);
+    put(w, i + 3, d);
+}
+
+// Copies n words to a place past them.
+pub fn copy(work: &mut [u32], from: usize, to: usize, n: usize)
+    requires { ⌜ (from + n ≤ to) × (to + n ≤ length (now work)) ⌝ }
+    ensures { λ _. ⌜ Copied (now (work .entry)) (now (work .exit)) from to n ⌝ }
+{
+    let mut i = 0;
+    while i < n {
+        let x = work[from + i];
+        work[to + i] = x;
+        i += 1;
+    }
+}

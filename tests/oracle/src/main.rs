@@ -1,0 +1,75 @@
+// The Rust comparison program: see README.md.
+mod asked;
+mod cases;
+mod compare;
+mod convert;
+mod decode;
+mod make_contexts;
+mod make_damage;
+mod make_large;
+mod make_questions;
+mod make_sizes;
+mod make_terms;
+mod make_types;
+mod original_run;
+mod places;
+mod question;
+mod reading;
+mod record;
+mod recount;
+mod replay;
+mod reply;
+mod report;
+mod rng;
+mod run;
+mod strings;
+mod tally;
+
+use std::process::ExitCode;
+
+/// Deep questions recurse deeply, in the Rust and here.
+const STACK: usize = 2 << 30;
+
+const USAGE: &str = "usage: oracle compare --count N --seed S
+       oracle record --count N --seed S --date D
+       oracle generate --count N --seed S
+       oracle answer < LINES
+       oracle replay FILE";
+
+/// The value after a flag.
+fn flag<'a>(arguments: &'a [String], name: &str) -> Result<&'a str, String> {
+    let at = arguments.iter().position(|argument| argument == name);
+    let value = at.and_then(|at| arguments.get(at + 1));
+    value.map(String::as_str).ok_or_else(|| format!("{name} is missing\n{USAGE}"))
+}
+
+fn number(arguments: &[String], name: &str) -> Result<u64, String> {
+    flag(arguments, name)?.parse().map_err(|_| format!("{name} wants a number"))
+}
+
+fn command(arguments: &[String]) -> Result<(), String> {
+    let count = || number(arguments, "--count");
+    let seed = || number(arguments, "--seed");
+    match arguments.first().map(String::as_str) {
+        Some("compare") => compare::compare(count()?, seed()?),
+        Some("record") => record::record(count()? as usize, seed()?, flag(arguments, "--date")?),
+        Some("generate") => replay::generate(count()?, seed()?),
+        Some("answer") => replay::answer(),
+        Some("replay") => replay::replay(arguments.get(1).ok_or(USAGE)?),
+        _ => Err(USAGE.to_string()),
+    }
+}
+
+fn main() -> ExitCode {
+    let arguments: Vec<String> = std::env::args().skip(1).collect();
+    let work = move || command(&arguments);
+    let thread = std::thread::Builder::new().stack_size(STACK).spawn(work);
+    match thread.expect("a thread with a large stack").join() {
+        Ok(Ok(())) => ExitCode::SUCCESS,
+        Ok(Err(reason)) => {
+            eprintln!("{reason}");
+            ExitCode::FAILURE
+        }
+        Err(_) => ExitCode::FAILURE,
+    }
+}

@@ -1,0 +1,55 @@
+// Commands over lines: generated questions, answers to them, and a replay.
+use std::io::{stdin, stdout, BufRead, BufWriter, Write};
+
+use crate::asked::{parse_asked, parse_recorded};
+use crate::make_sizes::in_full;
+use crate::make_types::Maker;
+use crate::reply::reply;
+
+fn written(result: std::io::Result<()>) -> Result<(), String> {
+    result.map_err(|error| error.to_string())
+}
+
+/// Prints questions with sizes, without their replies.
+pub fn generate(count: u64, seed: u64) -> Result<(), String> {
+    let mut maker = Maker::new(seed);
+    let mut out = BufWriter::new(stdout().lock());
+    for _ in 0..count {
+        let words = maker.any_words();
+        let full = reply(&in_full(&words));
+        let asked = maker.resized(words, &full);
+        written(writeln!(out, "{asked}"))?;
+    }
+    written(out.flush())
+}
+
+/// Answers each line of the standard input.
+pub fn answer() -> Result<(), String> {
+    let mut out = BufWriter::new(stdout().lock());
+    for line in stdin().lock().lines() {
+        let line = line.map_err(|error| error.to_string())?;
+        if line.starts_with('#') || line.trim().is_empty() {
+            continue;
+        }
+        let asked = parse_asked(&line).ok_or_else(|| format!("not a question: {line}"))?;
+        written(writeln!(out, "{asked} | {}", reply(&asked)))?;
+    }
+    written(out.flush())
+}
+
+/// Holds each recorded line to the live answer.
+pub fn replay(file: &str) -> Result<(), String> {
+    let text = std::fs::read_to_string(file).map_err(|error| format!("{file}: {error}"))?;
+    let mut count = 0;
+    for line in text.lines().filter(|line| !line.starts_with('#')) {
+        let (asked, recorded) =
+            parse_recorded(line).ok_or_else(|| format!("not a recorded line: {line}"))?;
+        let live = reply(&asked);
+        if live != recorded {
+            return Err(format!("{asked}\n  recorded {recorded}\n  live     {live}"));
+        }
+        count += 1;
+    }
+    println!("{count} recorded answers hold");
+    Ok(())
+}
