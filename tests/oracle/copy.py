@@ -1,11 +1,13 @@
 #!/usr/bin/env python3
 """Writes the two test copies of the Rust: copy.py ZOO ORACLE OUT.
 
-OUT/original is the Rust with its private functions and fields opened.
+OUT/original is the Rust with its private functions and fields opened (and, where
+EXACT is set, with a Display of types that tells any two of them apart).
 OUT/counted is the same text with charges, strict mode and structured nodes
 put around it. Every patch must match exactly once, so that a changed source
 is noticed here and not in a wrong answer.
 """
+import os
 import pathlib
 import shutil
 import sys
@@ -96,6 +98,12 @@ def counted_errors(errors):
                 "        match self {\n            TypeError::ParameterMismatch { .. } => Ok(()),\n")
 
 
+def exact(ast):
+    """The text with parentheses round every Forall: the Rust's own Display has
+    none, and then two types left of an arrow may have one string."""
+    return once(ast, 'write!(f, "∀{}. {}", var, ty)', 'write!(f, "(∀{}. {})", var, ty)')
+
+
 def write(out, own, texts):
     out.mkdir(parents=True, exist_ok=True)
     for name, text in texts.items():
@@ -110,7 +118,8 @@ def main():
     errors = without_crates((zoo / "errors.rs").read_text())
     typecheck = opened((zoo / "typecheck.rs").read_text())
     write(out / "original", oracle / "original",
-          {"ast.rs": ast, "errors.rs": errors, "typecheck.rs": typecheck})
+          {"ast.rs": exact(ast) if "EXACT" in os.environ else ast,
+           "errors.rs": errors, "typecheck.rs": typecheck})
     write(out / "counted", oracle / "counted",
           {"ast.rs": "use std::rc::Rc as Box;\n\n" + ast,
            "errors.rs": counted_errors(errors),

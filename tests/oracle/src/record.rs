@@ -28,9 +28,9 @@ struct Chosen {
 
 /// What a line shows; a line is chosen for a feature that was seen too seldom.
 fn features(asked: &Asked, answer: &Reply, full: &Reply) -> Vec<String> {
-    let head = |at: usize| asked.words.get(at).copied().unwrap_or(9).min(9);
+    let kind = asked.words.first().map_or(8, |kind| *kind.min(&8));
     match (answer.code, read(&asked.words)) {
-        (code @ 1..=3, _) => vec![format!("code {code} kind {}", head(0))],
+        (code @ 1..=3, _) => vec![format!("code {code} kind {kind}")],
         (_, Err(fault)) => fault_features(&asked.words, &fault),
         _ => run_features(asked, answer, full),
     }
