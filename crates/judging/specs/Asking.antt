@@ -3,7 +3,7 @@ use mathlib.Core.Path.{_≡_}
 use mathlib.Core.List.{List}
 use Prim.Native.Nat.{ℕ, _+_, _*_, _≤_, _<_, _^_}
 use lib.ListN.{length}
-use Rattle.definition.specs.Syntax.{TyVar, Ty, etvar, Expr, Ctx, onL, onR, Judgement, infer, check, inferApp, subtype, inst}
+use Rattle.definition.specs.Syntax.{TyVar, Ty, etvar, Expr, Ctx, Side, onL, onR, Judgement, infer, check, inferApp, subtype, inst}
 use Rattle.definition.specs.Question as question
 use Rattle.layout.specs.Places.{ExprAt}
 use Rattle.layout.specs.Denotes.{Den, Run, Base}
@@ -28,6 +28,23 @@ pub data Asks (q w : List ℕ) (t : ℕ) (g : Span) (a : Ask) : Judgement → Ty
       → Den q w t (a .right) T → Asks q w t g a (inst onL Γ x T)
   as-inst-r : {Γ : Ctx} {x : TyVar} {T : Ty} → a .kind ≡ 6 → a .ex ≡ 0 → Run q w t (g .at) (g .n) Γ → Den q w t (a .left) T
       → Den q w t (a .right) (etvar x) → Asks q w t g a (inst onR Γ x T)
+
+-- the six judgements as they are asked
+abbrev pub inferAsk : ℕ → Ask
+inferAsk e = record { kind = 1; ex = e; left = 0; right = 0 }
+
+abbrev pub checkAsk : ℕ → ℕ → Ask
+checkAsk e B = record { kind = 2; ex = e; left = 0; right = B }
+
+abbrev pub appAsk : ℕ → ℕ → Ask
+appAsk A e = record { kind = 3; ex = e; left = A; right = 0 }
+
+abbrev pub subAsk : ℕ → ℕ → Ask
+subAsk A B = record { kind = 4; ex = 0; left = A; right = B }
+
+abbrev pub instAsk : Side → ℕ → ℕ → Ask
+instAsk onL a T = record { kind = 5; ex = 0; left = a; right = T }
+instAsk onR a T = record { kind = 6; ex = 0; left = T; right = a }
 
 -- what is asked can be written into a node
 pub record Small (a : Ask) : Type 0 where

@@ -9,7 +9,7 @@ use Rattle.layout.specs.declared.State.{State}
 use Rattle.judging.specs.declared.Ask.{Ask}
 use Rattle.judging.specs.declared.Answer.{Answer}
 use Rattle.judging.specs.declared.Entered.{Entered}
-use Rattle.judging.specs.declared.Entered.the-variants.{In} 
+use Rattle.judging.specs.declared.Entered.the-variants.{In}
 use Rattle.judging.specs.declared.Step.{Step}
 use Rattle.judging.specs.declared.Step.the-variants.{Done}
 use Rattle.judging.specs.Asking.{Small}

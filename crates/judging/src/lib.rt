@@ -1,5 +1,7 @@
 // What the six judgements share: what is asked and what comes back, entering and leaving, the nodes of the tree.
-use layout::{Span, State, put4};
+use layout::Span;
+use layout::State;
+use layout::put4;
 ghost use Rattle.judging.specs.Leaving.{Entering, EnteredBy, LeavePre, Left};
 
 // What varies with the mode.
