@@ -7,3 +7,4 @@ pub mod Types
 pub mod Rules
 pub mod Reply
 pub mod Memory
+pub mod Host

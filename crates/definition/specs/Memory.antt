@@ -1,7 +1,7 @@
 -- What the report slice and the work slice hold after a call.
-use Prim.Native.Nat.{ℕ, zero, suc}
-use mathlib.Core.List.{List, [], _∷_, _++_}
-use lib.ListN.{length, drop}
+use Prim.Native.Nat.{ℕ}
+use mathlib.Core.List.{List, _++_}
+use lib.ListN.{length, drop, replicate}
 use lib.Dec.{leb}
 use Rattle.definition.specs.Syntax.{pick}
 use Rattle.definition.specs.Reply.{Reply, workWords, reply, reply-computes}
@@ -10,13 +10,9 @@ use Rattle.definition.specs.Reply.{Reply, workWords, reply, reply-comput
 unfoldable pub reportAfter : Reply → List ℕ → List ℕ
 reportAfter r slice = r .report ++ drop (length (r .report)) slice
 
-unfoldable pub zeros : ℕ → List ℕ
-zeros zero = []
-zeros (suc n) = 0 ∷ zeros n
-
 -- "Work is untouched on 1 to 5; otherwise its first 32 x budget + 4,096 words end as 0 and the rest unchanged."
 unfoldable pub workAfter : Reply → ℕ → List ℕ → List ℕ
-workAfter r budget work = pick (leb (r .code) 5) work (zeros (workWords budget) ++ drop (workWords budget) work)
+workAfter r budget work = pick (leb (r .code) 5) work (replicate (workWords budget) 0 ++ drop (workWords budget) work)
 
 -- what a call leaves: its reply, the report slice, the work slice
 pub record Call : Type 0 where
@@ -32,5 +28,5 @@ call budget question work slice =
 
 -- `unfolding memory-computes` opens every definition above, and those they rest on
 unfoldable pub memory-computes : Unit {0}
-unfolding reportAfter zeros workAfter call reply-computes
+unfolding reportAfter workAfter call reply-computes
 memory-computes = tt

@@ -1,0 +1,2 @@
+-- Words as bytes.
+pub mod Bytes
