@@ -55,7 +55,7 @@ put-words (w ∷ ws) d at h =
     let j : at + 4 + 4 * length ws ≡ at + 4 * length (w ∷ ws) = omega arith in
     let dp : drop (at + 4 + 4 * length ws) (putWord d at w) ≡ drop (at + 4 * length (w ∷ ws)) d =
     ap (λ (n : ℕ). drop n (putWord d at w)) i ∙ ap (drop (length (take at d ++ b) + 4 * length ws)) d′
-        ∙ drop-append-add (take at d ++ b) (drop (at + 4) d) (4 * length ws) ∙ drop-drop (4 * length ws) (at + 4) d ∙ ap (λ (n : ℕ). drop n d) j in
+    ∙ drop-append-add (take at d ++ b) (drop (at + 4) d) (4 * length ws) ∙ drop-drop (4 * length ws) (at + 4) d ∙ ap (λ (n : ℕ). drop n d) j in
     put-words ws (putWord d at w) (at + 4) (omega (arith, length-put d at w (omega arith)))
     ∙ rw (tk, dp) (append-assoc (take at d) b (bytesOf ws ++ drop (at + 4 * length (w ∷ ws)) d))
 

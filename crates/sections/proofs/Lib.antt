@@ -1,0 +1,3 @@
+-- Laws of sections.
+pub mod Sections
+pub mod Reports

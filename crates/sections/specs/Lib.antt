@@ -1,0 +1,2 @@
+-- The sections of a report.
+pub mod Sections
