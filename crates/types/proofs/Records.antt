@@ -1,0 +1,66 @@
+-- What stands in a type's record in work, which is at its reference less 2048.
+use mathlib.Core.Path.{_≡_}
+use mathlib.Core.List.{List}
+use Prim.Native.Nat.{ℕ, _+_, _-_, _≤_, _<_}
+use native.Mathlib.Omega.{arith}
+use lib.ListN.{getD}
+use Rattle.definition.specs.Syntax.{TyVar, Ty, arrow, forall}
+use Rattle.definition.specs.Rules.{tyCode}
+use Rattle.layout.specs.Places.{size, TyAt}
+use Rattle.layout.specs.Denotes.{capped, MadeAt, Den, written, int-made, bool-made, etvar-made, arrow-made, forall-made}
+use Rattle.layout.proofs.Places.{ty-code}
+use Rattle.types.specs.Reading.{recordSize, Part}
+use Rattle.types.proofs.Codes.{Naming, etvar-names, forall-names}
+
+-- a record of n words that begins with the code k stands at place i
+pub record RecordAt (w : List ℕ) (t i n k : ℕ) : Type 0 where
+  pub end : i + n ≤ t
+  pub code : getD w i 0 ≡ k
+
+place-is : {w : List ℕ} {t r i n k : ℕ} → MadeAt w t r i n k → r - 2048 ≡ i
+place-is m = omega (arith, m .ref)
+
+record-at : {w : List ℕ} {t r i n k : ℕ} → MadeAt w t r i n k → RecordAt w t (r - 2048) n k
+record-at m = rw (place-is m) (record { end = m .below; code = m .is })
+
+not-written : {q : List ℕ} {r : ℕ} {T : Ty} → 2048 ≤ r → TyAt q r T → ⊥
+not-written h d = let c = ty-code d in omega (arith, c .inside)
+
+module _ {q w : List ℕ} {t r : ℕ} (h : 2048 ≤ r) where
+  pub made-record : {T : Ty} → Den q w t r T → RecordAt w t (r - 2048) (recordSize T) (tyCode T)
+  unfolding tyCode recordSize
+  made-record (written d) = absurd (not-written h d)
+  made-record (int-made m) = record-at m
+  made-record (bool-made m) = record-at m
+  made-record (etvar-made m n) = record-at m
+  made-record (arrow-made m x y f g s d e) = record-at m
+  made-record (forall-made m y n g s d) = record-at m
+
+  pub made-length : {T : Ty} → 5 ≤ tyCode T → Den q w t r T → getD w (r - 2048 + 3) 0 ≡ capped (size T)
+  unfolding tyCode
+  made-length l (written d) = absurd (not-written h d)
+  made-length l (int-made m) = absurd (omega arith)
+  made-length l (bool-made m) = absurd (omega arith)
+  made-length l (etvar-made m n) = absurd (omega arith)
+  made-length l (arrow-made m x y f g s d e) = rw (place-is m) s
+  made-length l (forall-made m y n g s d) = rw (place-is m) s
+
+  pub made-name : {T : Ty} {b : TyVar} → Naming T b → Den q w t r T → getD w (r - 2048 + 1) 0 ≡ b .number
+  made-name n (written d) = absurd (not-written h d)
+  made-name etvar-names (etvar-made m n) = rw (place-is m) n
+  made-name forall-names (forall-made m y n g s d) = rw (place-is m) n
+
+  part-before : {m k : ℕ} {A : Ty} → k ≡ m → m < r → Den q w t m A → Part q w t r k A
+  part-before e l d = rw e (record { den = d; less = omega arith })
+
+  pub made-left : {A B : Ty} → Den q w t r (arrow A B) → Part q w t r (getD w (r - 2048 + 1) 0) A
+  made-left (written d) = absurd (not-written h d)
+  made-left (arrow-made m x y f g s d e) = rw (place-is m) (part-before f x d)
+
+  pub made-right : {A B : Ty} → Den q w t r (arrow A B) → Part q w t r (getD w (r - 2048 + 2) 0) B
+  made-right (written d) = absurd (not-written h d)
+  made-right (arrow-made m x y f g s d e) = rw (place-is m) (part-before g y e)
+
+  pub made-body : {a : TyVar} {A : Ty} → Den q w t r (forall a A) → Part q w t r (getD w (r - 2048 + 2) 0) A
+  made-body (written d) = absurd (not-written h d)
+  made-body (forall-made m y n g s d) = rw (place-is m) (part-before g y d)

@@ -1,0 +1,44 @@
+-- `put_arrow` meets its contract.
+use native.Mathlib.Omega.{arith}
+use mathlib.Core.Path.{refl}
+use Rattle.layout.proofs.Denotes.{den-small, arrow-put}
+use borrow.Author.Needs.{needs}
+use Rattle.types.proofs.put_arrow.Statement.{statement}
+use Rattle.types.proofs.put_arrow.Tie as tie
+
+add-made : tie.Need-add-made
+add-made c = search needs
+
+type-length-requires : tie.Need-type-length-requires
+type-length-requires c κs = search needs
+
+type-length-requires-2 : tie.Need-type-length-requires-2
+type-length-requires-2 c κs = search needs
+
+sat-add-requires : tie.Need-sat-add-requires
+sat-add-requires c κs = search needs
+
+sat-add-requires-2 : tie.Need-sat-add-requires-2
+sat-add-requires-2 c κs = search needs
+
+put4-requires : tie.Need-put4-requires
+put4-requires c κs = omega (arith, c .before .sat-add2 .ensures, den-small (c .before .before .before .before .before .before .before .before .before .pre .left .den), den-small (c .before .before .before .before .before .before .before .before .before .pre .right .den), c .before .before .before .before .before .before .before .before .before .pre .left .cap, c .before .before .before .before .before .before .before .before .before .pre .room)
+
+same-length : tie.Need-same-length
+same-length c = search needs
+
+returns : tie.Need-returns
+returns c = record { keep = c .before .before .put4 .ensures .keep; ref = refl; den = λ A B d e. arrow-put (c .before .before .put4 .ensures) (omega (arith, c .before .before .before .before .sat-add2 .ensures, c .before .before .before .before .before .sat-add .ensures, c .before .before .before .before .before .before .before .before .type-length .ensures .is A d, c .before .before .before .before .before .before .type-length2 .ensures .is B e)) d e }
+
+pub put-arrow-spec : {M : Type 1} → statement M
+put-arrow-spec =
+    tie.close
+    (tie.spec
+    add-made
+    type-length-requires
+    type-length-requires-2
+    sat-add-requires
+    sat-add-requires-2
+    put4-requires
+    same-length
+    returns)

@@ -1,0 +1,2 @@
+-- What the uncharged walks take and give.
+pub mod Walks
