@@ -1,0 +1,42 @@
+-- `push2` meets its contract.
+use Rattle.contexts.proofs.Build.{pushed2}
+use borrow.Author.Needs.{needs}
+use Rattle.contexts.proofs.push2.Statement.{statement}
+use Rattle.contexts.proofs.push2.Tie as tie
+
+mul-p : tie.Need-mul-p
+mul-p c = search needs
+
+add-p : tie.Need-add-p
+add-p c = search needs
+
+add-p2 : tie.Need-add-p2
+add-p2 c = search needs
+
+splice-requires : tie.Need-splice-requires
+splice-requires c κs = search needs
+
+put-entry-requires : tie.Need-put-entry-requires
+put-entry-requires c κs = search needs
+
+put-entry-requires-2 : tie.Need-put-entry-requires-2
+put-entry-requires-2 c κs = search needs
+
+same-length : tie.Need-same-length
+same-length c = search needs
+
+returns : tie.Need-returns
+returns c = pushed2 (c .before .before .before .before .before .before .before .before .before .before .before .before .before .before .pre .0 .below) (c .before .before .before .before .before .before .before .before .before .before .splice .ensures) (c .before .before .before .before .before .before .put-entry .ensures) (c .before .before .put-entry2 .ensures)
+
+pub push2-spec : {M : Type 1} → statement M
+push2-spec =
+    tie.close
+    (tie.spec
+    mul-p
+    add-p
+    add-p2
+    splice-requires
+    put-entry-requires
+    put-entry-requires-2
+    same-length
+    returns)

@@ -1,0 +1,31 @@
+-- `replace` meets its contract.
+use Rattle.contexts.proofs.Build.{replaced}
+use borrow.Author.Needs.{needs}
+use Rattle.contexts.proofs.replace.Statement.{statement}
+use Rattle.contexts.proofs.replace.Tie as tie
+
+find-requires : tie.Need-find-requires
+find-requires c κs = search needs
+
+mul-p : tie.Need-mul-p
+mul-p c = search needs
+
+add-p : tie.Need-add-p
+add-p c = search needs
+
+splice-requires : tie.Need-splice-requires
+splice-requires c κs = search needs
+
+put-entry-requires : tie.Need-put-entry-requires
+put-entry-requires c κs = search needs
+
+same-length : tie.Need-same-length
+same-length c = search needs
+
+returns : tie.Need-returns
+returns c = replaced (c .before .before .before .before .before .before .before .before .before .before .before .pre .0 .below) (c .before .before .before .before .before .before .before .before .find .ensures) (c .before .before .before .before .before .before .splice .ensures) (c .before .before .put-entry .ensures)
+
+pub replace-spec : {M : Type 1} → statement M
+replace-spec =
+    tie.close
+    (tie.spec find-requires mul-p add-p splice-requires put-entry-requires same-length returns)

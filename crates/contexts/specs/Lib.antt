@@ -1,0 +1,3 @@
+-- What the functions on contexts promise.
+pub mod Search
+pub mod Build
