@@ -3,8 +3,6 @@ use Rattle.judging.specs.Leaving.{entered, unpaid}
 use borrow.Author.Needs.{needs}
 use Rattle.judging.proofs.enter.Statement.{statement}
 use Rattle.judging.proofs.enter.Tie as tie
-use Rattle.judging.proofs.enter.Reads as reads
-use Rattle.judging.proofs.enter.Lts as lts
 
 returns : tie.Need-returns
 returns c = unpaid (c .if1 .taken)

@@ -5,9 +5,6 @@ use Rattle.judging.proofs.Nodes.{node-keep, node-words}
 use borrow.Author.Needs.{needs}
 use Rattle.judging.proofs.leave.Statement.{statement}
 use Rattle.judging.proofs.leave.Tie as tie
-use Rattle.judging.proofs.leave.Reads as reads
-use Rattle.judging.proofs.leave.Lts as lts
-use Rattle.layout.proofs.put4.Reads as put4-reads
 
 returns : tie.Need-returns
 returns c = unpaid-out (c .if1 .taken) refl

@@ -8,8 +8,6 @@ use Rattle.layout.proofs.Words.{keep-refl, keep-trans, keep-set}
 use Rattle.layout.proofs.Words.{copy-more}
 use Rattle.layout.proofs.copy.Statement.{statement}
 use Rattle.layout.proofs.copy.Tie as tie
-use Rattle.layout.proofs.copy.Reads as reads
-use Rattle.layout.proofs.copy.Lts as lts
 
 abbrev Inv-loop : tie.InvT-loop
 Inv-loop work₀ from to n i₀ work i = (i ≤ n) × Keep to (to + n) work₀ work × ((j : ℕ) → j < i → getD work (to + j) 0 ≡ getD work₀ (from + j) 0)

@@ -3,9 +3,6 @@ use Rattle.layout.proofs.Words.{put-four}
 use borrow.Author.Needs.{needs}
 use Rattle.layout.proofs.put4.Statement.{statement}
 use Rattle.layout.proofs.put4.Tie as tie
-use Rattle.layout.proofs.put4.Reads as reads
-use Rattle.layout.proofs.put4.Lts as lts
-use Rattle.layout.proofs.put.Reads as put-reads
 
 put-requires : tie.Need-put-requires
 put-requires c κs = search needs

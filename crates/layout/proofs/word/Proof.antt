@@ -4,8 +4,6 @@ use mathlib.Core.Path.{refl}
 use borrow.Author.Needs.{needs}
 use Rattle.layout.proofs.word.Statement.{statement}
 use Rattle.layout.proofs.word.Tie as tie
-use Rattle.layout.proofs.word.Reads as reads
-use Rattle.layout.proofs.word.Lts as lts
 
 mul-result : tie.Need-mul-result
 mul-result c = search needs

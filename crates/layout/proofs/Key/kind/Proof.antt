@@ -3,8 +3,6 @@ use borrow.Author.Needs.{needs}
 use Rattle.definition.specs.Contexts.{kindOf}
 use Rattle.layout.proofs.Key.kind.Statement.{statement}
 use Rattle.layout.proofs.Key.kind.Tie as tie
-use Rattle.layout.proofs.Key.kind.Reads as reads
-use Rattle.layout.proofs.Key.kind.Lts as lts
 
 enum-told : tie.Need-enum-told
 enum-told c = search needs

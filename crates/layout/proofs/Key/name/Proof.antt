@@ -3,8 +3,6 @@ use borrow.Author.Needs.{needs}
 use Rattle.definition.specs.Contexts.{nameOf}
 use Rattle.layout.proofs.Key.name.Statement.{statement}
 use Rattle.layout.proofs.Key.name.Tie as tie
-use Rattle.layout.proofs.Key.name.Reads as reads
-use Rattle.layout.proofs.Key.name.Lts as lts
 
 enum-known-self : tie.Need-enum-known-self
 enum-known-self c = search needs
