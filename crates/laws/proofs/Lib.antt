@@ -5,3 +5,4 @@ pub mod Congruence
 pub mod Depth
 pub mod LaterPasses
 pub mod Endless
+pub mod Faults
