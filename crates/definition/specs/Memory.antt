@@ -1,5 +1,6 @@
 -- What the report slice and the work slice hold after a call.
 use Prim.Native.Nat.{ℕ}
+use mathlib.Core.Bool.{_&&_}
 use mathlib.Core.List.{List, _++_}
 use lib.ListN.{length, drop, replicate}
 use lib.Dec.{leb}
@@ -12,7 +13,7 @@ reportAfter r slice = r .report ++ drop (length (r .report)) slice
 
 -- "Work is untouched on 1 to 5; otherwise its first 32 x budget + 4,096 words end as 0 and the rest unchanged."
 unfoldable pub workAfter : Reply → ℕ → List ℕ → List ℕ
-workAfter r budget work = pick (leb (r .code) 5) work (replicate (workWords budget) 0 ++ drop (workWords budget) work)
+workAfter r budget work = pick (leb 1 (r .code) && leb (r .code) 5) work (replicate (workWords budget) 0 ++ drop (workWords budget) work)
 
 -- what a call leaves: its reply, the report slice, the work slice
 pub record Call : Type 0 where

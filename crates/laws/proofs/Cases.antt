@@ -2,8 +2,10 @@
 use mathlib.Core.Path.{_≡_, refl}
 use Prim.Native.Nat.{ℕ, zero, suc, _+_, _*_}
 use mathlib.Core.List.{List, [], _∷_, _++_, map}
-use lib.ListN.{length, take}
+use lib.ListN.{length, take, drop, replicate}
 use Rattle.definition.specs.Reply.{Reply, refusal, reply, reply-computes}
+use Rattle.definition.specs.Memory.{call, memory-computes}
+use Rattle.definition.specs.Host.{hostCall, host-computes}
 
 -- what document 01 says of a reply: all of it, or code, at, and how the report begins
 pub data Says : Type 0 where
@@ -76,3 +78,21 @@ pub edges :
     × (reply 1 4128 0 [] ≡ refusal 3 0 0)
 unfolding reply-computes
 edges = (refl, refl, refl, refl, refl, refl, refl)
+
+-- Memory: code 1 leaves both slices; 11 and 0 zero the first 32 x budget + 4,096 words of work alone, and write their report alone
+pub memory :
+    (call 0 [] (7 ∷ 8 ∷ []) (9 ∷ []) ≡ record { answered = refusal 1 0 0; reportSlice = 9 ∷ []; workSlice = 7 ∷ 8 ∷ [] })
+    × (drop 4126 (call 1 (7 ∷ 0 ∷ 0 ∷ 2 ∷ 16 ∷ 5 ∷ 0 ∷ 0 ∷ []) (replicate 4130 3) (9 ∷ 9 ∷ 9 ∷ []) .workSlice) ≡ 0 ∷ 0 ∷ 3 ∷ 3 ∷ [])
+    × (call 1 (7 ∷ 0 ∷ 0 ∷ 2 ∷ 16 ∷ 5 ∷ 0 ∷ 0 ∷ []) (replicate 4130 3) (9 ∷ 9 ∷ 9 ∷ []) .reportSlice ≡ 0 ∷ 0 ∷ 9 ∷ [])
+    × (drop 4126 (call 2 (7 ∷ 0 ∷ 0 ∷ 3 ∷ 22 ∷ 1 ∷ 0 ∷ 0 ∷ 0 ∷ []) (replicate 4162 3) (replicate 13 9) .workSlice) ≡ replicate 34 0 ++ 3 ∷ 3 ∷ [])
+unfolding memory-computes
+memory = (refl, refl, refl, refl)
+
+-- The telephone host: 15 bytes of reply, a question that is not whole words, and case (a)
+pub telephone :
+    (hostCall (7 ∷ []) (replicate 15 9) ≡ record { returns = 8; replySlice = replicate 15 9 })
+    × (hostCall (7 ∷ []) (replicate 17 9) ≡ record { returns = 3; replySlice = 3 ∷ replicate 15 0 ++ 9 ∷ [] })
+    × (take 20 (hostCall (7 ∷ replicate 11 0 ++ 3 ∷ 0 ∷ 0 ∷ 0 ∷ 22 ∷ 0 ∷ 0 ∷ 0 ∷ 1 ∷ replicate 15 0) (replicate 100 9) .replySlice)
+        ≡ 0 ∷ 0 ∷ 0 ∷ 0 ∷ 0 ∷ 0 ∷ 0 ∷ 0 ∷ 13 ∷ 0 ∷ 0 ∷ 0 ∷ 2 ∷ 0 ∷ 0 ∷ 0 ∷ 1 ∷ 0 ∷ 0 ∷ 0 ∷ [])
+unfolding host-computes
+telephone = (refl, refl, refl)
