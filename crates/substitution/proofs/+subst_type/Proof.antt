@@ -1,0 +1,247 @@
+-- `subst_type` meets its contract: each answer is a law of its arm. The budget left falls.
+use Prim.Native.Nat.{ℕ, _<_}
+use native.Mathlib.Omega.{arith}
+use borrow.Author.Needs.{needs}
+use borrow.Fn.Kinds.{In}
+use borrow.Fn.PlainCycle.{Measures, is, falls, and}
+use Rattle.types.proofs.Held.{held-as, held-named}
+use Rattle.substitution.proofs.Arms.{began, fewer, held, part-asks, spent-at-once, given-at-once, halves, left-spent, left-fewer, right-asks, right-spent, arrow-asks, arrow-does, body, body-spent, forall-asks, forall-does}
+use Rattle.substitution.proofs.Ways.{subst-asks, subst-pre, subst-does, substed, subst-way, no-parts, plain-substed, name-substed, shadowed-substed, forall-substed}
+use Rattle.substitution.proofs.arrow_made.Reads as arrow-made-reads
+use Rattle.substitution.proofs.begin.Reads as begin-reads
+use Rattle.substitution.proofs.chosen.Reads as chosen-reads
+use Rattle.substitution.proofs.forall_made.Reads as forall-made-reads
+use Rattle.types.proofs.body_of.Reads as body-of-reads
+use Rattle.types.proofs.left_of.Reads as left-of-reads
+use Rattle.types.proofs.name_of.Reads as name-of-reads
+use Rattle.types.proofs.right_of.Reads as right-of-reads
+use Rattle.substitution.proofs.subst_type.Reads as own
+use Rattle.substitution.proofs.+subst_type.Lts-subst_type as lts
+use Rattle.substitution.proofs.subst_type.Kinds as kinds
+use Rattle.substitution.proofs.+subst_type.{statement}
+use Rattle.substitution.proofs.+subst_type.Tie.{close}
+
+abbrev measure : Measures 2 kinds.ps ℕ
+measure κs a = a .1 .1 .0 .left
+
+abbrev asked : ℕ → In 2 kinds.ps
+asked t = and 2 kinds.ps (is 2 kinds.ps measure t) own.Pre
+
+abbrev below : ℕ → In 2 kinds.ps
+below t = and 2 kinds.ps (falls 2 kinds.ps _<_ measure t) own.Pre
+
+abbrev claims : ℕ → lts.Claims
+claims t = (
+  begin-reads.Asked,
+  begin-reads.Learnt,
+  left-of-reads.Asked,
+  left-of-reads.Learnt,
+  right-of-reads.Asked,
+  right-of-reads.Learnt,
+  below t,
+  own.Post,
+  arrow-made-reads.Asked,
+  arrow-made-reads.Learnt,
+  name-of-reads.Asked,
+  name-of-reads.Learnt,
+  body-of-reads.Asked,
+  body-of-reads.Learnt,
+  forall-made-reads.Asked,
+  forall-made-reads.Learnt,
+  chosen-reads.Asked,
+  chosen-reads.Learnt,
+)
+
+begin-requires : (t : ℕ) → lts.Need-begin-requires (claims t) (asked t) own.Post
+begin-requires t c κs = held (subst-asks (c .before .before .before .pre .1))
+
+enum-known-paid : (t : ℕ) → lts.Need-enum-known-paid (claims t) (asked t) own.Post
+enum-known-paid t c = search needs
+
+enum-told : (t : ℕ) → lts.Need-enum-told (claims t) (asked t) own.Post
+enum-told t c = search needs
+
+same-length : (t : ℕ) → lts.Need-same-length (claims t) (asked t) own.Post
+same-length t c = search needs
+
+returns : (t : ℕ) → lts.Need-returns (claims t) (asked t) own.Post
+returns t c = substed (spent-at-once (subst-way _ (c .before .before .before .before .before .before .args .a) _) (c .before .before .begin .ensures) (c .enum-told .given .1))
+
+left-of-requires : (t : ℕ) → lts.Need-left-of-requires (claims t) (asked t) own.Post
+left-of-requires t c κs = held-as (held (subst-asks (c .before .before .before .before .before .before .before .before .before .pre .1))) (began (c .before .before .before .before .before .begin .ensures) (c .before .before .before .paid .given .1) .tag) 5 (c .before .match2 .keys1)
+
+right-of-requires : (t : ℕ) → lts.Need-right-of-requires (claims t) (asked t) own.Post
+right-of-requires t c κs = held-as (held (subst-asks (c .before .before .before .before .before .before .before .before .before .before .before .pre .1))) (began (c .before .before .before .before .before .before .before .begin .ensures) (c .before .before .before .before .before .paid .given .1) .tag) 5 (c .before .before .before .match2 .keys1)
+
+subst-type-requires : (t : ℕ) → lts.Need-subst-type-requires (claims t) (asked t) own.Post
+subst-type-requires t c κs =
+    let b = began (c .before .before .before .before .before .before .before .before .before .begin .ensures) (c .before .before .before .before .before .before .before .paid .given .1) in
+    let parts = halves (b .tag) (c .before .before .before .before .before .match2 .keys1) (c .before .before .before .left-of .ensures) (c .before .right-of .ensures) in
+    let h = subst-asks (c .before .before .before .before .before .before .before .before .before .before .before .before .before .pre .1) in
+    (omega (arith, c .before .before .before .before .before .before .before .before .before .before .before .before .before .pre .0, fewer b), subst-pre (part-asks b h (parts (h .type) (h .den) .left)))
+
+enum-known-st1 : (t : ℕ) → lts.Need-enum-known-st1 (claims t) (asked t) own.Post
+enum-known-st1 t c = search needs
+
+enum-told-2 : (t : ℕ) → lts.Need-enum-told-2 (claims t) (asked t) own.Post
+enum-told-2 t c = search needs
+
+same-length-2 : (t : ℕ) → lts.Need-same-length-2 (claims t) (asked t) own.Post
+same-length-2 t c = search needs
+
+returns-2 : (t : ℕ) → lts.Need-returns-2 (claims t) (asked t) own.Post
+returns-2 t c =
+    let b = began (c .before .before .before .before .before .before .before .before .before .before .before .before .before .before .begin .ensures) (c .before .before .before .before .before .before .before .before .before .before .before .before .paid .given .1) in
+    let parts = halves (b .tag) (c .before .before .before .before .before .before .before .before .before .before .match2 .keys1) (c .before .before .before .before .before .before .before .before .left-of .ensures) (c .before .before .before .before .before .before .right-of .ensures) in
+    substed (left-spent (subst-way _ (c .before .before .before .before .before .before .before .before .before .before .before .before .before .before .before .before .before .before .args .a) _) b parts (subst-does (c .before .before .before .before .subst-type .ensures)) (c .enum-told2 .given .1))
+
+subst-type-requires-2 : (t : ℕ) → lts.Need-subst-type-requires-2 (claims t) (asked t) own.Post
+subst-type-requires-2 t c κs =
+    let b = began (c .before .before .before .before .before .before .before .before .before .before .before .before .before .before .before .before .begin .ensures) (c .before .before .before .before .before .before .before .before .before .before .before .before .before .before .paid .given .1) in
+    let parts = halves (b .tag) (c .before .before .before .before .before .before .before .before .before .before .before .before .match2 .keys1) (c .before .before .before .before .before .before .before .before .before .before .left-of .ensures) (c .before .before .before .before .before .before .before .before .right-of .ensures) in
+    let h = subst-asks (c .before .before .before .before .before .before .before .before .before .before .before .before .before .before .before .before .before .before .before .before .pre .1) in
+    let fell = left-fewer (subst-way _ (c .before .before .before .before .before .before .before .before .before .before .before .before .before .before .before .before .before .before .before .before .args .a) _) b parts (subst-does (c .before .before .before .before .before .before .subst-type .ensures)) (c .before .before .st1 .given .1) h in
+    (omega (arith, c .before .before .before .before .before .before .before .before .before .before .before .before .before .before .before .before .before .before .before .before .pre .0, fewer b), subst-pre (right-asks (subst-way _ (c .before .before .before .before .before .before .before .before .before .before .before .before .before .before .before .before .before .before .before .before .args .a) _) b parts (subst-does (c .before .before .before .before .before .before .subst-type .ensures)) (c .before .before .st1 .given .1) h))
+
+enum-known-st2 : (t : ℕ) → lts.Need-enum-known-st2 (claims t) (asked t) own.Post
+enum-known-st2 t c = search needs
+
+enum-told-3 : (t : ℕ) → lts.Need-enum-told-3 (claims t) (asked t) own.Post
+enum-told-3 t c = search needs
+
+same-length-3 : (t : ℕ) → lts.Need-same-length-3 (claims t) (asked t) own.Post
+same-length-3 t c = search needs
+
+returns-3 : (t : ℕ) → lts.Need-returns-3 (claims t) (asked t) own.Post
+returns-3 t c =
+    let b = began (c .before .before .before .before .before .before .before .before .before .before .before .before .before .before .before .before .before .before .before .before .before .begin .ensures) (c .before .before .before .before .before .before .before .before .before .before .before .before .before .before .before .before .before .before .before .paid .given .1) in
+    let parts = halves (b .tag) (c .before .before .before .before .before .before .before .before .before .before .before .before .before .before .before .before .before .match2 .keys1) (c .before .before .before .before .before .before .before .before .before .before .before .before .before .before .before .left-of .ensures) (c .before .before .before .before .before .before .before .before .before .before .before .before .before .right-of .ensures) in
+    substed (right-spent (subst-way _ (c .before .before .before .before .before .before .before .before .before .before .before .before .before .before .before .before .before .before .before .before .before .before .before .before .before .args .a) _) b parts (subst-does (c .before .before .before .before .before .before .before .before .before .before .before .subst-type .ensures)) (c .before .before .before .before .before .before .before .st1 .given .1) (subst-does (c .before .before .before .before .subst-type2 .ensures)) (c .enum-told3 .given .1))
+
+arrow-made-requires : (t : ℕ) → lts.Need-arrow-made-requires (claims t) (asked t) own.Post
+arrow-made-requires t c κs =
+    let b = began (c .before .before .before .before .before .before .before .before .before .before .before .before .before .before .before .before .before .before .before .before .before .before .before .begin .ensures) (c .before .before .before .before .before .before .before .before .before .before .before .before .before .before .before .before .before .before .before .before .before .paid .given .1) in
+    let parts = halves (b .tag) (c .before .before .before .before .before .before .before .before .before .before .before .before .before .before .before .before .before .before .before .match2 .keys1) (c .before .before .before .before .before .before .before .before .before .before .before .before .before .before .before .before .before .left-of .ensures) (c .before .before .before .before .before .before .before .before .before .before .before .before .before .before .before .right-of .ensures) in
+    arrow-asks (subst-way _ (c .before .before .before .before .before .before .before .before .before .before .before .before .before .before .before .before .before .before .before .before .before .before .before .before .before .before .before .args .a) _) b parts (subst-does (c .before .before .before .before .before .before .before .before .before .before .before .before .before .subst-type .ensures)) (c .before .before .before .before .before .before .before .before .before .st1 .given .1) (subst-does (c .before .before .before .before .before .before .subst-type2 .ensures)) (c .before .before .st2 .given .1) (subst-asks (c .before .before .before .before .before .before .before .before .before .before .before .before .before .before .before .before .before .before .before .before .before .before .before .before .before .before .before .pre .1))
+
+name-of-requires : (t : ℕ) → lts.Need-name-of-requires (claims t) (asked t) own.Post
+name-of-requires t c κs = held-named (held (subst-asks (c .before .before .before .before .before .before .before .before .before .pre .1))) (began (c .before .before .before .before .before .begin .ensures) (c .before .before .before .paid .given .1) .tag) (omega (arith, c .before .match2 .keys2)) (λ e. omega (arith, c .before .match2 .keys2, e))
+
+same-length-4 : (t : ℕ) → lts.Need-same-length-4 (claims t) (asked t) own.Post
+same-length-4 t c = search needs
+
+returns-4 : (t : ℕ) → lts.Need-returns-4 (claims t) (asked t) own.Post
+returns-4 t c =
+    let b = began (c .before .before .before .before .before .before .before .before .before .begin .ensures) (c .before .before .before .before .before .before .before .paid .given .1) in
+    substed (given-at-once b (λ B g. shadowed-substed (c .before .before .before .before .before .before .before .before .before .before .before .before .before .args .a) (b .tag) (c .before .before .before .before .before .match2 .keys2) (c .before .before .before .name-of .ensures) (c .if1 .taken) B))
+
+body-of-requires : (t : ℕ) → lts.Need-body-of-requires (claims t) (asked t) own.Post
+body-of-requires t c κs = held-as (held (subst-asks (c .before .before .before .before .before .before .before .before .before .before .before .before .before .before .pre .1))) (began (c .before .before .before .before .before .before .before .before .before .before .begin .ensures) (c .before .before .before .before .before .before .before .before .paid .given .1) .tag) 6 (c .before .before .before .before .before .before .match2 .keys2)
+
+subst-type-requires-3 : (t : ℕ) → lts.Need-subst-type-requires-3 (claims t) (asked t) own.Post
+subst-type-requires-3 t c κs =
+    let b = began (c .before .before .before .before .before .before .before .before .before .before .before .before .begin .ensures) (c .before .before .before .before .before .before .before .before .before .before .paid .given .1) in
+    let parts = body (b .tag) (c .before .before .before .before .before .before .before .before .match2 .keys2) (c .before .before .before .before .before .before .name-of .ensures) (c .before .body-of .ensures) in
+    let h = subst-asks (c .before .before .before .before .before .before .before .before .before .before .before .before .before .before .before .before .pre .1) in
+    (omega (arith, c .before .before .before .before .before .before .before .before .before .before .before .before .before .before .before .before .pre .0, fewer b), subst-pre (part-asks b h (parts (h .type) (h .den) .den)))
+
+enum-known-st1-2 : (t : ℕ) → lts.Need-enum-known-st1-2 (claims t) (asked t) own.Post
+enum-known-st1-2 t c = search needs
+
+enum-told-4 : (t : ℕ) → lts.Need-enum-told-4 (claims t) (asked t) own.Post
+enum-told-4 t c = search needs
+
+same-length-5 : (t : ℕ) → lts.Need-same-length-5 (claims t) (asked t) own.Post
+same-length-5 t c = search needs
+
+returns-5 : (t : ℕ) → lts.Need-returns-5 (claims t) (asked t) own.Post
+returns-5 t c =
+    let b = began (c .before .before .before .before .before .before .before .before .before .before .before .before .before .before .before .before .before .begin .ensures) (c .before .before .before .before .before .before .before .before .before .before .before .before .before .before .before .paid .given .1) in
+    let parts = body (b .tag) (c .before .before .before .before .before .before .before .before .before .before .before .before .before .match2 .keys2) (c .before .before .before .before .before .before .before .before .before .before .before .name-of .ensures) (c .before .before .before .before .before .before .body-of .ensures) in
+    substed (body-spent (forall-substed (c .before .before .before .before .before .before .before .before .if1 .left)) b parts (subst-does (c .before .before .before .before .subst-type3 .ensures)) (c .enum-told4 .given .1))
+
+forall-made-requires : (t : ℕ) → lts.Need-forall-made-requires (claims t) (asked t) own.Post
+forall-made-requires t c κs =
+    let b = began (c .before .before .before .before .before .before .before .before .before .before .before .before .before .before .before .before .before .before .before .begin .ensures) (c .before .before .before .before .before .before .before .before .before .before .before .before .before .before .before .before .before .paid .given .1) in
+    let parts = body (b .tag) (c .before .before .before .before .before .before .before .before .before .before .before .before .before .before .before .match2 .keys2) (c .before .before .before .before .before .before .before .before .before .before .before .before .before .name-of .ensures) (c .before .before .before .before .before .before .before .before .body-of .ensures) in
+    forall-asks (forall-substed (c .before .before .before .before .before .before .before .before .before .before .if1 .left)) b parts (subst-does (c .before .before .before .before .before .before .subst-type3 .ensures)) (c .before .before .st12 .given .1) (subst-asks (c .before .before .before .before .before .before .before .before .before .before .before .before .before .before .before .before .before .before .before .before .before .before .before .pre .1))
+
+same-length-6 : (t : ℕ) → lts.Need-same-length-6 (claims t) (asked t) own.Post
+same-length-6 t c = search needs
+
+returns-6 : (t : ℕ) → lts.Need-returns-6 (claims t) (asked t) own.Post
+returns-6 t c =
+    let b = began (c .before .before .before .before .before .begin .ensures) (c .before .before .before .paid .given .1) in
+    substed (given-at-once b (λ B g. plain-substed (c .before .before .before .before .before .before .before .before .before .args .a) (b .tag) (c .if2 .taken) B))
+
+chosen-requires : (t : ℕ) → lts.Need-chosen-requires (claims t) (asked t) own.Post
+chosen-requires t c κs = held-named (held (subst-asks (c .before .before .before .before .before .before .before .before .before .before .pre .1))) (began (c .before .before .before .before .before .before .begin .ensures) (c .before .before .before .before .paid .given .1) .tag) (omega (arith, c .before .if2 .left)) (c .before .before .match2 .rest .0 .1)
+
+same-length-7 : (t : ℕ) → lts.Need-same-length-7 (claims t) (asked t) own.Post
+same-length-7 t c = search needs
+
+returns-7 : (t : ℕ) → lts.Need-returns-7 (claims t) (asked t) own.Post
+returns-7 t c =
+    let b = began (c .before .before .before .before .before .before .before .before .before .before .before .before .before .before .before .before .before .before .before .before .before .before .before .before .before .before .begin .ensures) (c .before .before .before .before .before .before .before .before .before .before .before .before .before .before .before .before .before .before .before .before .before .before .before .before .paid .given .1) in
+    let parts = halves (b .tag) (c .before .before .before .before .before .before .before .before .before .before .before .before .before .before .before .before .before .before .before .before .before .before .match2 .keys1) (c .before .before .before .before .before .before .before .before .before .before .before .before .before .before .before .before .before .before .before .before .left-of .ensures) (c .before .before .before .before .before .before .before .before .before .before .before .before .before .before .before .before .before .before .right-of .ensures) in
+    substed (arrow-does (subst-way _ (c .before .before .before .before .before .before .before .before .before .before .before .before .before .before .before .before .before .before .before .before .before .before .before .before .before .before .before .before .before .before .args .a) _) b parts (subst-does (c .before .before .before .before .before .before .before .before .before .before .before .before .before .before .before .before .subst-type .ensures)) (c .before .before .before .before .before .before .before .before .before .before .before .before .st1 .given .1) (subst-does (c .before .before .before .before .before .before .before .before .before .subst-type2 .ensures)) (c .before .before .before .before .before .st2 .given .1) (subst-asks (c .before .before .before .before .before .before .before .before .before .before .before .before .before .before .before .before .before .before .before .before .before .before .before .before .before .before .before .before .before .before .pre .1)) (c .before .before .arrow-made .ensures))
+
+same-length-8 : (t : ℕ) → lts.Need-same-length-8 (claims t) (asked t) own.Post
+same-length-8 t c = search needs
+
+returns-8 : (t : ℕ) → lts.Need-returns-8 (claims t) (asked t) own.Post
+returns-8 t c =
+    let b = began (c .before .before .before .before .before .before .before .before .before .before .before .before .before .before .before .before .before .before .before .before .before .before .begin .ensures) (c .before .before .before .before .before .before .before .before .before .before .before .before .before .before .before .before .before .before .before .before .paid .given .1) in
+    let parts = body (b .tag) (c .before .before .before .before .before .before .before .before .before .before .before .before .before .before .before .before .before .before .match2 .keys2) (c .before .before .before .before .before .before .before .before .before .before .before .before .before .before .before .before .name-of .ensures) (c .before .before .before .before .before .before .before .before .before .before .before .body-of .ensures) in
+    substed (forall-does (forall-substed (c .before .before .before .before .before .before .before .before .before .before .before .before .before .if1 .left)) b parts (subst-does (c .before .before .before .before .before .before .before .before .before .subst-type3 .ensures)) (c .before .before .before .before .before .st12 .given .1) (subst-asks (c .before .before .before .before .before .before .before .before .before .before .before .before .before .before .before .before .before .before .before .before .before .before .before .before .before .before .pre .1)) (c .before .before .forall-made .ensures))
+
+same-length-9 : (t : ℕ) → lts.Need-same-length-9 (claims t) (asked t) own.Post
+same-length-9 t c = search needs
+
+returns-9 : (t : ℕ) → lts.Need-returns-9 (claims t) (asked t) own.Post
+returns-9 t c =
+    let b = began (c .before .before .before .before .before .before .before .begin .ensures) (c .before .before .before .before .before .paid .given .1) in
+    let low = no-parts (held (subst-asks (c .before .before .before .before .before .before .before .before .before .before .before .pre .1))) (b .tag) (c .before .before .before .match2 .rest .0 .1) (c .before .before .before .match2 .rest .1) in
+    substed (given-at-once b (name-substed (c .before .before .before .before .before .before .before .before .before .before .before .args .a) (b .tag) (omega (arith, c .before .before .if2 .left)) low (c .chosen .ensures)))
+
+pub +subst-type-spec : {M : Type 1} → statement M
++subst-type-spec = close measure λ t. lts.spec (claims t)
+    (asked t)
+    own.Post
+    (begin-requires t)
+    (enum-known-paid t)
+    (enum-told t)
+    (same-length t)
+    (returns t)
+    (left-of-requires t)
+    (right-of-requires t)
+    (subst-type-requires t)
+    (enum-known-st1 t)
+    (enum-told-2 t)
+    (same-length-2 t)
+    (returns-2 t)
+    (subst-type-requires-2 t)
+    (enum-known-st2 t)
+    (enum-told-3 t)
+    (same-length-3 t)
+    (returns-3 t)
+    (arrow-made-requires t)
+    (name-of-requires t)
+    (same-length-4 t)
+    (returns-4 t)
+    (body-of-requires t)
+    (subst-type-requires-3 t)
+    (enum-known-st1-2 t)
+    (enum-told-4 t)
+    (same-length-5 t)
+    (returns-5 t)
+    (forall-made-requires t)
+    (same-length-6 t)
+    (returns-6 t)
+    (chosen-requires t)
+    (same-length-7 t)
+    (returns-7 t)
+    (same-length-8 t)
+    (returns-8 t)
+    (same-length-9 t)
+    (returns-9 t)

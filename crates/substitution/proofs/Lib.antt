@@ -1,0 +1,5 @@
+-- Laws of runs that make a type.
+pub mod Passing
+pub mod Equations
+pub mod Arms
+pub mod Ways

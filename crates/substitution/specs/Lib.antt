@@ -1,0 +1,3 @@
+-- What substitution and application promise.
+pub mod Passing
+pub mod Calls
