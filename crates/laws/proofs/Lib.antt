@@ -5,4 +5,3 @@ pub mod Congruence
 pub mod Depth
 pub mod LaterPasses
 pub mod Endless
-pub mod Faults

@@ -1,0 +1,14 @@
+-- Demand 3 proved: Demand3 has the theorems, WellFormed, Changes and Examples show what they reach, the others lead there.
+pub mod Related
+pub mod Contexts
+pub mod Runs
+pub mod Types
+pub mod Rules
+pub mod Words
+pub mod Readers
+pub mod Reading
+pub mod Replies
+pub mod Demand3
+pub mod WellFormed
+pub mod Changes
+pub mod Examples

@@ -1,0 +1,185 @@
+-- Results and type errors that are alike are written as reports that are alike, and so are the replies.
+use mathlib.Core.Path.{_≡_, refl, ap}
+use Prim.Native.Nat.{ℕ, suc, _-_, min}
+use mathlib.Core.Bool.{Bool, true, false, _&&_}
+use mathlib.Core.List.{List, [], _∷_, _++_, append-assoc}
+use lib.ListN.{length}
+use lib.Dec.{leb, eqb}
+use Rattle.definition.specs.Syntax
+use Rattle.definition.specs.Syntax.{pick, Ty, Entry, Ctx, onL, onR, Judgement, Tree, Trees, TypeError, tyWords, entryWords, ctxWords, noSection, sections, ctxSection, tySection, judgementWords, children, treeWords, treesWords}
+use Rattle.definition.specs.Question.{Read, Question}
+use Rattle.definition.specs.Run.{Out}
+use Rattle.definition.specs.Rules.{Result, judge}
+use Rattle.definition.specs.Reply.{refusal, most, reported, errorCode, errorAt, errorWords, givesType, resultWords, answer, outReply, readReply}
+use Rattle.alike.specs.Alike.{Pairing, Label, the, section, IsTy, IsEntry, IsCtx, IsTyOrNone, noTy, aTy, IsNodes, IsReport, InReplies, Alike, atLabel, AlikeReplies}
+use Rattle.alike.proofs.Related
+use Rattle.alike.proofs.Related.{TyR, EntryR, CtxR, JudgementR, TreeR, TreesR, TypeErrorR, pickR}
+use Rattle.alike.proofs.Runs.{OutR, doneR, failR, stopR, Runs, bindR, giveR}
+use Rattle.alike.proofs.Types.{applyR}
+use Rattle.alike.proofs.Rules.{exprParts, ResultR, judgeR}
+use Rattle.alike.proofs.Words.{sameLength, done, under, item, join, sect, lastSect}
+use Rattle.alike.proofs.Readers.{GotR, gotR}
+use Rattle.alike.proofs.Reading.{QuestionR}
+
+-- words of two reports
+abbrev Told : Pairing → (List Label → Type 0) → List ℕ → List ℕ → Type 0
+Told P = Alike (InReplies P)
+
+same : (P : Pairing) (n : ℕ) → InReplies P (the n) n n
+same P n = InReplies.same
+
+code : {P : Pairing} {Is : List Label → Type 0} {n : ℕ} {u u′ : List ℕ} → Told P (λ s. Is (the n ∷ s)) u u′ → Told P Is (n ∷ u) (n ∷ u′)
+code a = under _ InReplies.same a
+
+joinNodes : {s t : List Label} → IsNodes s → IsNodes t → IsNodes (s ++ t)
+joinNodes IsNodes.noNode q = q
+joinNodes (IsNodes.node i A B o C v) q = simp append-assoc (IsNodes.node i A B o C (joinNodes v q))
+
+module _ {P : Pairing} where
+  -- ## Types and contexts
+
+  tyW : {A A′ : Ty} → TyR P A A′ → Told P IsTy (tyWords A) (tyWords A′)
+  unfolding tyWords
+  tyW Related.intR = code (done IsTy.int)
+  tyW Related.boolR = code (done IsTy.bool)
+  tyW (Related.varR a) = code (under _ (InReplies.typeNames (a .numbers)) (done IsTy.var))
+  tyW (Related.etvarR a) = code (under _ (InReplies.typeNames (a .numbers)) (done IsTy.etvar))
+  tyW (Related.arrowR s t) =
+      let a = tyW s in
+      code (join a (item (λ v. IsTy.arrow (a .format)) (tyW t)))
+  tyW (Related.forallR a t) = code (under _ (InReplies.typeNames (a .numbers)) (item (λ v. IsTy.forall) (tyW t)))
+
+  entryW : {e e′ : Entry} → EntryR P e e′ → Told P IsEntry (entryWords e) (entryWords e′)
+  unfolding entryWords
+  entryW (Related.varBndR x t) = code (under _ (InReplies.variables (x .numbers)) (item (λ v. IsEntry.varBnd) (tyW t)))
+  entryW (Related.tvarBndR a) = code (under _ (InReplies.typeNames (a .numbers)) (done IsEntry.tvarBnd))
+  entryW (Related.etvarBndR a) = code (under _ (InReplies.typeNames (a .numbers)) (done IsEntry.etvarBnd))
+  entryW (Related.setvarBndR a t) = code (under _ (InReplies.typeNames (a .numbers)) (item (λ v. IsEntry.setvarBnd) (tyW t)))
+  entryW (Related.markR a) = code (under _ (InReplies.typeNames (a .numbers)) (done IsEntry.mark))
+
+  ctxW : {Γ Γ′ : Ctx} → CtxR P Γ Γ′ → Told P IsCtx (ctxWords Γ) (ctxWords Γ′)
+  unfolding ctxWords
+  ctxW Related.nilR = done IsCtx.noEntry
+  ctxW (Related.consR e c) = let a = entryW e in join a (item (λ v. IsCtx.entry (a .format)) (ctxW c))
+
+  -- ## Trees
+
+  childrenR : {ts ts′ : Trees} → TreesR P ts ts′ → children ts ≡ children ts′
+  unfolding children
+  childrenR Related.leafR = refl
+  childrenR (Related.andR t ts) = ap suc (childrenR ts)
+
+  -- a node's three numbers and five sections, before other nodes
+  fiveW : (r n p : ℕ) {i i′ A A′ B B′ o o′ C C′ v v′ : List ℕ} → Told P IsCtx i i′ → Told P IsTyOrNone A A′
+      → Told P IsTyOrNone B B′ → Told P IsCtx o o′ → Told P IsTyOrNone C C′ → Told P IsNodes v v′
+      → Told P IsNodes
+      (r ∷ n ∷ p ∷ sections (Syntax.section i) (Syntax.section A) (Syntax.section B) (Syntax.section o) (Syntax.section C) ++ v)
+      (r ∷ n ∷ p ∷ sections (Syntax.section i′) (Syntax.section A′) (Syntax.section B′) (Syntax.section o′) (Syntax.section C′) ++ v′)
+  unfolding sections
+  fiveW r n p i A B o C v =
+      simp append-assoc
+      (code (code (code
+      (sect (same P) i (sect (same P) A (sect (same P) B (sect (same P) o (sect (same P) C
+      (item (λ s. IsNodes.node (i .format) (A .format) (B .format) (o .format) (C .format)) v)))))))))
+
+  tyOrNoneW : {A A′ : Ty} → TyR P A A′ → Told P IsTyOrNone (tyWords A) (tyWords A′)
+  tyOrNoneW t = item (λ s. aTy) (tyW t)
+
+  noneW : Told P IsTyOrNone [] []
+  noneW = done noTy
+
+  nodeW : (r n : ℕ) {j j′ : Judgement} {C C′ : Ty} {Δ Δ′ : Ctx} {v v′ : List ℕ} → JudgementR P j j′ → TyR P C C′ → CtxR P Δ Δ′
+      → Told P IsNodes v v′ → Told P IsNodes (r ∷ n ∷ judgementWords j C Δ ++ v) (r ∷ n ∷ judgementWords j′ C′ Δ′ ++ v′)
+  unfolding judgementWords ctxSection tySection noSection Syntax.section
+  nodeW r n (Related.inferR c e) t d v = rw (exprParts e .place) (fiveW r n _ (ctxW c) noneW noneW (ctxW d) (tyOrNoneW t) v)
+  nodeW r n (Related.checkR c e b) t d v = rw (exprParts e .place) (fiveW r n _ (ctxW c) noneW (tyOrNoneW b) (ctxW d) noneW v)
+  nodeW r n (Related.inferAppR c e a) t d v = rw (exprParts e .place) (fiveW r n _ (ctxW c) (tyOrNoneW a) noneW (ctxW d) (tyOrNoneW t) v)
+  nodeW r n (Related.subtypeR c a b) t d v = fiveW r n 0 (ctxW c) (tyOrNoneW a) (tyOrNoneW b) (ctxW d) noneW v
+  nodeW r n (Related.instR {s = onL} c a b) t d v = fiveW r n 0 (ctxW c) (tyOrNoneW (Related.etvarR a)) (tyOrNoneW b) (ctxW d) noneW v
+  nodeW r n (Related.instR {s = onR} c a b) t d v = fiveW r n 0 (ctxW c) (tyOrNoneW b) (tyOrNoneW (Related.etvarR a)) (ctxW d) noneW v
+
+  mutual
+    unfolding treeWords
+
+    treeW : {t t′ : Tree} → TreeR P t t′ → Told P IsNodes (treeWords t) (treeWords t′)
+    treeW (Related.nodeR j c d ts) = rw (childrenR ts) (nodeW _ _ j c d (treesW ts))
+
+    treesW : {ts ts′ : Trees} → TreesR P ts ts′ → Told P IsNodes (treesWords ts) (treesWords ts′)
+    treesW Related.leafR = done IsNodes.noNode
+    treesW (Related.andR t ts) = let a = treeW t in join a (item (λ s. joinNodes (a .format)) (treesW ts))
+
+  -- ## Replies
+
+  emptyW : Told P IsReport [] []
+  emptyW = done IsReport.empty
+
+  reportedR : (room c units : ℕ) {p p′ : ℕ} {u u′ : List ℕ} → InReplies P (atLabel c p) p p′ → Told P IsReport u u′
+      → AlikeReplies P (reported room c p units u) (reported room c p′ units u′)
+  unfolding reported pick
+  reportedR room c units {u = u} {u′ = u′} a w =
+      let e : length u ≡ length u′ = sameLength (w .words) in
+      pickR (AlikeReplies P) (ap (λ n. leb n room && leb n most) e)
+      (record { code = refl; at = a; len = e; units = refl; report = w })
+      (record { code = refl; at = InReplies.same; len = ap (λ n. min n most) e; units = refl; report = emptyW })
+
+  pub refusalR : (c u : ℕ) → InReplies P (atLabel c 0) 0 0 → AlikeReplies P (refusal c 0 u) (refusal c 0 u)
+  unfolding refusal
+  refusalR c u a = record { code = refl; at = a; len = refl; units = refl; report = emptyW }
+
+  errorW : {A A′ B B′ : List ℕ} → Told P IsTyOrNone A A′ → Told P IsTyOrNone B B′
+      → Told P IsReport (Syntax.section A ++ Syntax.section B) (Syntax.section A′ ++ Syntax.section B′)
+  errorW a b = sect (same P) a (lastSect (same P) b (IsReport.error (a .format) (b .format)))
+
+  errorR : (room units : ℕ) {e e′ : TypeError} → TypeErrorR P e e′
+      → AlikeReplies P
+      (reported room (errorCode e) (errorAt e) units (errorWords e))
+      (reported room (errorCode e′) (errorAt e′) units (errorWords e′))
+  unfolding errorCode errorAt errorWords tySection noSection Syntax.section pick
+  errorR room u (Related.unboundVariableR x) = reportedR room 11 u (InReplies.variables (x .numbers)) (errorW noneW noneW)
+  errorR room u (Related.applicationTypeErrorR t) = reportedR room 12 u InReplies.same (errorW (tyOrNoneW t) noneW)
+  errorR room u (Related.typeApplicationErrorR t) = reportedR room 13 u InReplies.same (errorW (tyOrNoneW t) noneW)
+  errorR room u (Related.occursCheckR a t) = reportedR room 14 u (InReplies.typeNames (a .numbers)) (errorW (tyOrNoneW t) noneW)
+  errorR room u (Related.subtypingErrorR s t) = reportedR room 15 u InReplies.same (errorW (tyOrNoneW s) (tyOrNoneW t))
+  errorR room u (Related.instantiationErrorR a t) = reportedR room 16 u (InReplies.typeNames (a .numbers)) (errorW (tyOrNoneW t) noneW)
+  errorR room u (Related.parameterMismatchR s t) = reportedR room 17 u InReplies.same (errorW (tyOrNoneW s) (tyOrNoneW t))
+
+  resultW : (k : ℕ) (r r′ : Result) → ResultR P r r′ → Told P IsReport (resultWords k r) (resultWords k r′)
+  unfolding resultWords ctxSection tySection noSection Syntax.section pick
+  resultW k r r′ w = typed (givesType k)
+    where
+      whole : {A A′ : List ℕ} → Told P IsTyOrNone A A′
+          → Told P IsReport
+          (Syntax.section A ++ (Syntax.section (ctxWords (r .1)) ++ Syntax.section (treeWords (r .2))))
+          (Syntax.section A′ ++ (Syntax.section (ctxWords (r′ .1)) ++ Syntax.section (treeWords (r′ .2))))
+      whole a =
+          let c = ctxW (w .1) in
+          let t = treeW (w .2) in
+          sect (same P) a (sect (same P) c (lastSect (same P) t (IsReport.result (a .format) (c .format) (t .format))))
+
+      typed : (b : Bool)
+          → Told P IsReport
+          (pick b (tySection (r .0)) noSection ++ (ctxSection (r .1) ++ Syntax.section (treeWords (r .2))))
+          (pick b (tySection (r′ .0)) noSection ++ (ctxSection (r′ .1) ++ Syntax.section (treeWords (r′ .2))))
+      typed true = whole (tyOrNoneW (w .0))
+      typed false = whole noneW
+
+  outReplyR : {k k′ : ℕ} (budget room : ℕ) {o o′ : Out Result} → k ≡ k′ → OutR P (ResultR P) o o′
+      → AlikeReplies P (outReply k budget room o) (outReply k′ budget room o′)
+  unfolding outReply pick
+  outReplyR {k′ = k′} budget room e (doneR {l = l} w) = rw e (reportedR room 0 (budget - l) InReplies.same (resultW k′ _ _ w))
+  outReplyR budget room e (failR {l = l} x) = errorR room (budget - l) x
+  outReplyR budget room e stopR = refusalR 6 budget InReplies.same
+
+  answerR : {q q′ : Question} → QuestionR P q q′ → Runs P (ResultR P) (answer q) (answer q′)
+  unfolding answer
+  answerR {q} {q′} h =
+      let asked : Runs P (ResultR P) (judge (q .manner) (q .asks)) (judge (q′ .manner) (q′ .asks)) =
+      rw (h .manners) (judgeR (q′ .manner) (h .judgements)) in
+      pickR (Runs P (ResultR P)) (ap (λ k. eqb k 7) (h .kinds))
+      (bindR asked (λ r r′ w. bindR (applyR (w .1) (w .0)) (λ A A′ t. giveR _ _ (t, w .1, w .2))))
+      asked
+
+  pub readReplyR : (budget room : ℕ) {o o′ : Read Question} → GotR (QuestionR P) [] [] o o′
+      → AlikeReplies P (readReply budget room o) (readReply budget room o′)
+  unfolding readReply
+  readReplyR budget room (gotR h) = outReplyR budget room (h .kinds) (answerR h .at budget 0)

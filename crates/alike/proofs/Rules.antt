@@ -1,0 +1,318 @@
+-- Judgements that are alike run alike: one pass over the rules.
+use mathlib.Core.Path.{_≡_, refl, ap, ap₂}
+use Prim.Native.Nat.{ℕ, zero, suc, _+_}
+use mathlib.Core.Bool.{Bool, true, false, _&&_}
+use mathlib.Core.Option.{Option}
+use lib.Dec.{leb, eqb}
+use Rattle.definition.specs.Syntax.{TmVar, TyVar, Ty, Expr, Ctx, Side, onL, onR, Judgement, placeOf, given, Rule}
+use Rattle.definition.specs.Question.{Mode}
+use Rattle.definition.specs.Run.{M, _>>=_, give}
+use Rattle.definition.specs.Rules.{Fired, Result, Judge, closes, _orElse_, when, on, onBoth, tyCode, asVar, asETVar, asArrow, asForall, solve, reach, split, instArrow, instForall, instRule, subArr, subAllR, subAllL, subInst, notIn, sameBase, same, subtypeRule, exprCode, asAbs, parameter, chkLam, chkAll, chkSub, checkRule, infAppArr, infAppETVar, inferAppRule, infVar, infLam, infApp, infLet, branch, infIf, infBoth, infEq, infBinOp, infAnn, infTAbs, instantiate, infTApp, inferRule, rule, judgeStep, judgeTo, judge}
+use Rattle.alike.specs.Alike.{Pairing}
+use Rattle.alike.proofs.Related
+use Rattle.alike.proofs.Related.{VarR, NameR, TyR, intR, boolR, varR, etvarR, arrowR, forallR, varBndR, tvarBndR, etvarBndR, setvarBndR, markR, CtxR, nilR, consR, ExprR, JudgementR, inferR, checkR, inferAppR, subtypeR, instR, TreeR, nodeR, TreesR, leafR, andR, OptionR, noneR, someR, pickR}
+use Rattle.alike.proofs.Contexts.{sameNameR, kVarR, kTVarR, kMarkR, findR, rightOfR, beforeR, pushR, replaceR, solvedAndRightR, lengthR}
+use Rattle.alike.proofs.Runs.{Runs, bindR, giveR, refuseR, haltR, freshR, chargeR}
+use Rattle.alike.proofs.Types.{isMonoR, occursR, substR, applyR, sameTyR}
+
+-- what rules and judgements give
+abbrev pub FiredR : Pairing → Fired → Fired → Type 0
+FiredR P f f′ = (f .0 ≡ f′ .0) × TyR P (f .1) (f′ .1) × CtxR P (f .2) (f′ .2) × TreesR P (f .3) (f′ .3)
+
+abbrev pub ResultR : Pairing → Result → Result → Type 0
+ResultR P r r′ = TyR P (r .0) (r′ .0) × CtxR P (r .1) (r′ .1) × TreeR P (r .2) (r′ .2)
+
+-- ## The first arm that is there
+
+module _ {P : Pairing} {A : Type 0} {W : A → A → Type 0} where
+  orElseR : {o o′ : Option (M A)} {m m′ : M A} → OptionR (Runs P W) o o′ → Runs P W m m′ → Runs P W (o orElse m) (o′ orElse m′)
+  unfolding _orElse_
+  orElseR noneR w = w
+  orElseR (someR p) w = p
+
+  whenR : {b b′ : Bool} {m m′ : M A} → b ≡ b′ → Runs P W m m′ → OptionR (Runs P W) (when b m) (when b′ m′)
+  unfolding when
+  whenR e w = pickR (OptionR (Runs P W)) e (someR w) noneR
+
+  onArmR : {X : Type 0} {U : X → X → Type 0} {o o′ : Option X} {f f′ : X → M A} → OptionR U o o′
+      → ((x x′ : X) → U x x′ → Runs P W (f x) (f′ x′)) → OptionR (Runs P W) (on o f) (on o′ f′)
+  unfolding on
+  onArmR noneR h = noneR
+  onArmR (someR p) h = someR (h _ _ p)
+
+  onBothR : {X Y : Type 0} {U : X → X → Type 0} {W₂ : Y → Y → Type 0} {o o′ : Option X} {q q′ : Option Y}
+      {f f′ : X → Y → M A} → OptionR U o o′ → OptionR W₂ q q′
+      → ((x x′ : X) (y y′ : Y) → U x x′ → W₂ y y′ → Runs P W (f x y) (f′ x′ y′)) → OptionR (Runs P W) (onBoth o q f) (onBoth o′ q′ f′)
+  unfolding onBoth
+  onBothR noneR q h = noneR
+  onBothR (someR p) noneR h = noneR
+  onBothR (someR p) (someR q) h = someR (h _ _ _ _ p q)
+
+-- ## The parts of a type and of an expression
+
+abbrev ArrowR : Pairing → Ty × Ty → Ty × Ty → Type 0
+ArrowR P p p′ = TyR P (p .0) (p′ .0) × TyR P (p .1) (p′ .1)
+
+abbrev ForallR : Pairing → TyVar × Ty → TyVar × Ty → Type 0
+ForallR P p p′ = NameR P (p .0) (p′ .0) × TyR P (p .1) (p′ .1)
+
+abbrev AbsR : Pairing → TmVar × Ty × Expr → TmVar × Ty × Expr → Type 0
+AbsR P f f′ = VarR P (f .0) (f′ .0) × TyR P (f .1) (f′ .1) × ExprR P (f .2) (f′ .2)
+
+record TyParts (P : Pairing) (A A′ : Ty) : Type 0 where
+  code : tyCode A ≡ tyCode A′
+  var : OptionR (NameR P) (asVar A) (asVar A′)
+  etvar : OptionR (NameR P) (asETVar A) (asETVar A′)
+  arrow : OptionR (ArrowR P) (asArrow A) (asArrow A′)
+  forall : OptionR (ForallR P) (asForall A) (asForall A′)
+
+pub record ExprParts (P : Pairing) (e e′ : Expr) : Type 0 where
+  pub place : placeOf e ≡ placeOf e′
+  code : exprCode e ≡ exprCode e′
+  abs : OptionR (AbsR P) (asAbs e) (asAbs e′)
+
+module _ {P : Pairing} where
+  tyParts : {A A′ : Ty} → TyR P A A′ → TyParts P A A′
+  unfolding tyCode asVar asETVar asArrow asForall
+  tyParts intR = record { code = refl; var = noneR; etvar = noneR; arrow = noneR; forall = noneR }
+  tyParts boolR = record { code = refl; var = noneR; etvar = noneR; arrow = noneR; forall = noneR }
+  tyParts (varR p) = record { code = refl; var = someR p; etvar = noneR; arrow = noneR; forall = noneR }
+  tyParts (etvarR p) = record { code = refl; var = noneR; etvar = someR p; arrow = noneR; forall = noneR }
+  tyParts (arrowR p q) = record { code = refl; var = noneR; etvar = noneR; arrow = someR (p, q); forall = noneR }
+  tyParts (forallR p q) = record { code = refl; var = noneR; etvar = noneR; arrow = noneR; forall = someR (p, q) }
+
+  pub exprParts : {e e′ : Expr} → ExprR P e e′ → ExprParts P e e′
+  unfolding placeOf exprCode asAbs
+  exprParts (Related.evarR x) = record { place = refl; code = refl; abs = noneR }
+  exprParts (Related.appR e f) = record { place = refl; code = refl; abs = noneR }
+  exprParts (Related.absR x t e) = record { place = refl; code = refl; abs = someR (x, t, e) }
+  exprParts (Related.tappR e t) = record { place = refl; code = refl; abs = noneR }
+  exprParts (Related.tabsR a e) = record { place = refl; code = refl; abs = noneR }
+  exprParts (Related.annR e t) = record { place = refl; code = refl; abs = noneR }
+  exprParts Related.litIntR = record { place = refl; code = refl; abs = noneR }
+  exprParts Related.litBoolR = record { place = refl; code = refl; abs = noneR }
+  exprParts (Related.letInR x e f) = record { place = refl; code = refl; abs = noneR }
+  exprParts (Related.ifThenElseR e f g) = record { place = refl; code = refl; abs = noneR }
+  exprParts (Related.binOpR e f) = record { place = refl; code = refl; abs = noneR }
+
+  -- ## inst_l and inst_r
+
+  closesR : (r : Rule) {Γ Γ′ : Ctx} → CtxR P Γ Γ′ → Runs P (FiredR P) (closes r Γ) (closes r Γ′)
+  unfolding closes
+  closesR r c = giveR _ _ (refl, intR, c, leafR)
+
+  solveR : (s : Side) {Γ Γ′ : Ctx} {a a′ : TyVar} {A A′ : Ty} → CtxR P Γ Γ′ → NameR P a a′ → TyR P A A′
+      → Runs P (FiredR P) (solve s Γ a A) (solve s Γ′ a′ A′)
+  unfolding solve
+  solveR s c a t =
+      pickR (Runs P (FiredR P)) (isMonoR t)
+      (pickR (Runs P (FiredR P)) (occursR a t) (refuseR (Related.occursCheckR a t)) (closesR _ (replaceR a (consR (setvarBndR a t) nilR) c)))
+      (refuseR (Related.instantiationErrorR a t))
+
+  splitR : {a a′ b b′ d d′ : TyVar} {Γ Γ′ : Ctx} → NameR P a a′ → NameR P b b′ → NameR P d d′ → CtxR P Γ Γ′
+      → CtxR P (split a b d Γ) (split a′ b′ d′ Γ′)
+  unfolding split
+  splitR a b d c = replaceR a (consR (setvarBndR a (arrowR (etvarR b) (etvarR d))) (consR (etvarBndR b) (consR (etvarBndR d) nilR))) c
+
+  module _ (judge judge′ : Judge) (h : (j j′ : Judgement) → JudgementR P j j′ → Runs P (ResultR P) (judge j) (judge′ j′)) where
+    -- one judgement, and what the rule gives then
+    oneR : {j j′ : Judgement} {f f′ : Result → Fired} → JudgementR P j j′ → ((r r′ : Result) → ResultR P r r′ → FiredR P (f r) (f′ r′))
+        → Runs P (FiredR P) (judge j >>= λ r. give (f r)) (judge′ j′ >>= λ r. give (f′ r))
+    oneR j k = bindR (h _ _ j) (λ r r′ w. giveR _ _ (k r r′ w))
+
+    -- one judgement, and a second that depends on it
+    twoR : {j j′ : Judgement} {k k′ : Result → Judgement} {f f′ : Result → Result → Fired} → JudgementR P j j′
+        → ((r r′ : Result) → ResultR P r r′ → JudgementR P (k r) (k′ r′))
+        → ((r r′ s s′ : Result) → ResultR P r r′ → ResultR P s s′ → FiredR P (f r s) (f′ r′ s′))
+        → Runs P (FiredR P) (judge j >>= λ r. (judge (k r) >>= λ s. give (f r s))) (judge′ j′ >>= λ r. (judge′ (k′ r) >>= λ s. give (f′ r s)))
+    twoR j i k = bindR (h _ _ j) (λ r r′ w. oneR (i r r′ w) (λ s s′. k r r′ s s′ w))
+
+    instForallR : (s : Side) {Γ Γ′ : Ctx} {a a′ b b′ : TyVar} {A A′ : Ty} → CtxR P Γ Γ′ → NameR P a a′ → NameR P b b′ → TyR P A A′
+        → Runs P (FiredR P) (instForall judge s Γ a b A) (instForall judge′ s Γ′ a′ b′ A′)
+    unfolding instForall
+    instForallR onL c a b t = oneR (instR (pushR c (tvarBndR b)) a t) (λ r r′ w. (refl, intR, rightOfR (kTVarR b) (w .1), andR (w .2) leafR))
+    instForallR onR c a b t =
+        bindR (substR b (etvarR b) t) (λ T T′ t. oneR (instR (pushR (pushR c (etvarBndR b)) (markR b)) a t)
+        (λ r r′ w. (refl, intR, rightOfR (kMarkR b) (w .1), andR (w .2) leafR)))
+
+    instRuleR : (s : Side) {Γ Γ′ : Ctx} {a a′ : TyVar} {A A′ : Ty} → CtxR P Γ Γ′ → NameR P a a′ → TyR P A A′
+        → Runs P (FiredR P) (instRule judge s Γ a A) (instRule judge′ s Γ′ a′ A′)
+    unfolding instRule instArrow reach
+    instRuleR s c a intR = solveR s c a intR
+    instRuleR s c a boolR = solveR s c a boolR
+    instRuleR s c a (varR p) = solveR s c a (varR p)
+    instRuleR s c a (etvarR p) =
+        pickR (Runs P (FiredR P)) (beforeR c a p) (closesR _ (replaceR p (consR (setvarBndR p (etvarR a)) nilR) c)) (solveR s c a (etvarR p))
+    instRuleR s c a (arrowR p q) =
+        bindR freshR (λ b b′ β. bindR freshR (λ d d′ δ. bindR (h _ _ (instR (splitR a β δ c) β p)) (λ r r′ w. bindR (applyR (w .1) q) (λ B B′ t.
+        oneR (instR (w .1) δ t) (λ s s′ v. (refl, intR, v .1, andR (w .2) (andR (v .2) leafR)))))))
+    instRuleR s c a (forallR p q) = instForallR s c a p q
+
+    -- ## subtype
+
+    sameBaseR : {A A′ B B′ : Ty} → TyR P A A′ → TyR P B B′ → sameBase A B ≡ sameBase A′ B′
+    unfolding sameBase
+    sameBaseR p q = ap₂ (λ x y. leb x 2 && eqb x y) (tyParts p .code) (tyParts q .code)
+
+    sameR : {o o′ q q′ : Option TyVar} → OptionR (NameR P) o o′ → OptionR (NameR P) q q′ → same o q ≡ same o′ q′
+    unfolding same
+    sameR noneR q = refl
+    sameR (someR p) noneR = refl
+    sameR (someR p) (someR q) = sameNameR p q
+
+    notInR : {A A′ : Ty} {o o′ : Option TyVar} → TyR P A A′ → OptionR (NameR P) o o′ → OptionR (NameR P) (notIn A o) (notIn A′ o′)
+    unfolding notIn
+    notInR t noneR = noneR
+    notInR t (someR p) = pickR (OptionR (NameR P)) (occursR p t) noneR (someR p)
+
+    subInstR : (r : Rule) (s : Side) {Γ Γ′ : Ctx} {A A′ : Ty} → CtxR P Γ Γ′ → TyR P A A′ → (a a′ : TyVar) → NameR P a a′
+        → Runs P (FiredR P) (subInst judge r s Γ A a) (subInst judge′ r s Γ′ A′ a′)
+    unfolding subInst
+    subInstR r s c t a a′ p = oneR (instR c p t) (λ r r′ w. (refl, intR, w .1, andR (w .2) leafR))
+
+    subtypeRuleR : {Γ Γ′ : Ctx} {A A′ B B′ : Ty} → CtxR P Γ Γ′ → TyR P A A′ → TyR P B B′
+        → Runs P (FiredR P) (subtypeRule judge Γ A B) (subtypeRule judge′ Γ′ A′ B′)
+    unfolding subtypeRule subArr subAllR subAllL
+    subtypeRuleR c p q =
+        orElseR (whenR (sameBaseR p q) (closesR _ c))
+        (orElseR (whenR (sameR (tyParts p .var) (tyParts q .var)) (closesR _ c))
+        (orElseR (whenR (sameR (tyParts p .etvar) (tyParts q .etvar)) (closesR _ c))
+        (orElseR (onBothR (tyParts p .arrow) (tyParts q .arrow) (λ A A′ B B′ a b.
+        twoR (subtypeR c (b .0) (a .0)) (λ r r′ w. subtypeR (w .1) (a .1) (b .1))
+        (λ r r′ s s′ w v. (refl, intR, v .1, andR (w .2) (andR (v .2) leafR)))))
+        (orElseR (onArmR (tyParts q .forall) (λ B B′ b. oneR (subtypeR (pushR c (tvarBndR (b .0))) p (b .1))
+        (λ r r′ w. (refl, intR, rightOfR (kTVarR (b .0)) (w .1), andR (w .2) leafR))))
+        (orElseR (onArmR (tyParts p .forall) (λ A A′ a. bindR (substR (a .0) (etvarR (a .0)) (a .1)) (λ T T′ t.
+        oneR (subtypeR (pushR (pushR c (etvarBndR (a .0))) (markR (a .0))) t q)
+        (λ r r′ w. (refl, intR, rightOfR (kMarkR (a .0)) (w .1), andR (w .2) leafR)))))
+        (orElseR (onArmR (notInR q (tyParts p .etvar)) (subInstR _ _ c q))
+        (orElseR (onArmR (notInR p (tyParts q .etvar)) (subInstR _ _ c p))
+        (refuseR (Related.subtypingErrorR p q)))))))))
+
+    -- ## check
+
+    parameterR : (b : Bool) {Γ Γ′ : Ctx} {A A′ B B′ : Ty} → CtxR P Γ Γ′ → TyR P A A′ → TyR P B B′
+        → Runs P _≡_ (parameter b Γ A B) (parameter b Γ′ A′ B′)
+    unfolding parameter
+    parameterR false c p q = giveR _ _ refl
+    parameterR true c p q =
+        bindR (applyR c q) (λ T T′ t. pickR (Runs P _≡_) (sameTyR p t) (giveR _ _ refl) (refuseR (Related.parameterMismatchR p t)))
+
+    checkRuleR : (m : Mode) {Γ Γ′ : Ctx} {e e′ : Expr} {B B′ : Ty} → CtxR P Γ Γ′ → ExprR P e e′ → TyR P B B′
+        → Runs P (FiredR P) (checkRule m judge Γ e B) (checkRule m judge′ Γ′ e′ B′)
+    unfolding checkRule chkLam chkAll chkSub
+    checkRuleR m c e q =
+        orElseR (whenR (ap₂ (λ x y. eqb x 22 && eqb y 1) (exprParts e .code) (tyParts q .code)) (closesR _ c))
+        (orElseR (whenR (ap₂ (λ x y. eqb x 23 && eqb y 2) (exprParts e .code) (tyParts q .code)) (closesR _ c))
+        (orElseR (onBothR (exprParts e .abs) (tyParts q .arrow) (λ f f′ B B′ a b. bindR (parameterR _ c (a .1) (b .0)) (λ u u′ v.
+        oneR (checkR (pushR c (varBndR (a .0) (b .0))) (a .2) (b .1))
+        (λ r r′ w. (refl, intR, rightOfR (kVarR (a .0)) (w .1), andR (w .2) leafR)))))
+        (orElseR (onArmR (tyParts q .forall) (λ B B′ b. oneR (checkR (pushR c (tvarBndR (b .0))) e (b .1))
+        (λ r r′ w. (refl, intR, rightOfR (kTVarR (b .0)) (w .1), andR (w .2) leafR))))
+        (bindR (h _ _ (inferR c e)) (λ r r′ w. bindR (applyR (w .1) (w .0)) (λ A A′ s. bindR (applyR (w .1) q) (λ B B′ t.
+        oneR (subtypeR (w .1) s t) (λ s s′ v. (refl, intR, v .1, andR (w .2) (andR (v .2) leafR))))))))))
+
+    -- ## infer_app
+
+    inferAppRuleR : {Γ Γ′ : Ctx} {e e′ : Expr} {A A′ : Ty} → CtxR P Γ Γ′ → ExprR P e e′ → TyR P A A′
+        → Runs P (FiredR P) (inferAppRule judge Γ e A) (inferAppRule judge′ Γ′ e′ A′)
+    unfolding inferAppRule infAppArr infAppETVar
+    inferAppRuleR c e p =
+        orElseR (onArmR (tyParts p .arrow) (λ A A′ a. oneR (checkR c e (a .0)) (λ r r′ w. (refl, a .1, w .1, andR (w .2) leafR))))
+        (orElseR (onArmR (tyParts p .etvar) (λ a a′ α. bindR freshR (λ b b′ β. bindR freshR (λ d d′ δ.
+        oneR (checkR (splitR α β δ c) e (etvarR β)) (λ r r′ w. (refl, etvarR δ, w .1, andR (w .2) leafR))))))
+        (refuseR (Related.applicationTypeErrorR p)))
+
+    -- ## infer
+
+    infVarR : {x x′ : TmVar} {Γ Γ′ : Ctx} {o o′ : Option Ty} → VarR P x x′ → CtxR P Γ Γ′ → OptionR (TyR P) o o′
+        → Runs P (FiredR P) (infVar x Γ o) (infVar x′ Γ′ o′)
+    unfolding infVar
+    infVarR x c noneR = refuseR (Related.unboundVariableR x)
+    infVarR x c (someR t) = giveR _ _ (refl, t, c, leafR)
+
+    branchR : (b : Bool) {Γ Γ′ : Ctx} {A A′ : Ty} → CtxR P Γ Γ′ → TyR P A A′ → Runs P (TyR P) (branch b Γ A) (branch b Γ′ A′)
+    unfolding branch
+    branchR false c t = giveR _ _ t
+    branchR true c t = applyR c t
+
+    infBothR : (r : Rule) {A A′ C C′ : Ty} {Γ Γ′ : Ctx} {e e′ f f′ : Expr} → TyR P A A′ → TyR P C C′ → CtxR P Γ Γ′ → ExprR P e e′
+        → ExprR P f f′
+        → Runs P (FiredR P) (infBoth judge r A C Γ e f) (infBoth judge′ r A′ C′ Γ′ e′ f′)
+    unfolding infBoth
+    infBothR r a t c e f =
+        twoR (checkR c e a) (λ r r′ w. checkR (w .1) f a) (λ r r′ s s′ w v. (refl, t, v .1, andR (w .2) (andR (v .2) leafR)))
+
+    infBinOpR : (o : ℕ) {Γ Γ′ : Ctx} {e e′ f f′ : Expr} → CtxR P Γ Γ′ → ExprR P e e′ → ExprR P f f′
+        → Runs P (FiredR P) (infBinOp judge Γ o e f) (infBinOp judge′ Γ′ o e′ f′)
+    unfolding infBinOp infEq
+    infBinOpR o c e f =
+        orElseR (whenR refl (infBothR _ intR intR c e f))
+        (orElseR (whenR refl (infBothR _ boolR boolR c e f))
+        (orElseR (whenR refl (twoR (inferR c e) (λ r r′ w. checkR (w .1) f (w .0))
+        (λ r r′ s s′ w v. (refl, boolR, v .1, andR (w .2) (andR (v .2) leafR)))))
+        (infBothR _ intR boolR c e f)))
+
+    instantiateR : {A A′ B B′ : Ty} → TyR P B B′ → TyR P A A′ → Runs P (TyR P) (instantiate B A) (instantiate B′ A′)
+    unfolding instantiate
+    instantiateR b p = orElseR (onArmR (tyParts p .forall) (λ A A′ a. substR (a .0) b (a .1))) (refuseR (Related.typeApplicationErrorR p))
+
+    inferRuleR : (m : Mode) {Γ Γ′ : Ctx} {e e′ : Expr} → CtxR P Γ Γ′ → ExprR P e e′
+        → Runs P (FiredR P) (inferRule m judge Γ e) (inferRule m judge′ Γ′ e′)
+    unfolding inferRule infLam infApp infLet infIf infAnn infTAbs infTApp
+    inferRuleR m c (Related.evarR x) = infVarR x c (findR (kVarR x) c)
+    inferRuleR m c (Related.annR e t) = oneR (checkR c e t) (λ r r′ w. (refl, t, w .1, andR (w .2) leafR))
+    inferRuleR m c Related.litIntR = giveR _ _ (refl, intR, c, leafR)
+    inferRuleR m c Related.litBoolR = giveR _ _ (refl, boolR, c, leafR)
+    inferRuleR m c (Related.absR x t e) =
+        bindR freshR (λ b b′ β. oneR (checkR (pushR (pushR c (varBndR x t)) (etvarBndR β)) e (etvarR β))
+        (λ r r′ w. (refl, arrowR t (etvarR β), solvedAndRightR (kVarR x) (w .1), andR (w .2) leafR)))
+    inferRuleR m c (Related.appR e f) =
+        bindR (h _ _ (inferR c e)) (λ r r′ w. bindR (applyR (w .1) (w .0)) (λ A A′ t.
+        oneR (inferAppR (w .1) f t) (λ s s′ v. (refl, v .0, v .1, andR (w .2) (andR (v .2) leafR)))))
+    inferRuleR m c (Related.tabsR a e) =
+        bindR (h _ _ (inferR (pushR c (tvarBndR a)) e)) (λ r r′ w. bindR (applyR (w .1) (w .0)) (λ A A′ t.
+        giveR _ _ (refl, forallR a t, solvedAndRightR (kTVarR a) (w .1), andR (w .2) leafR)))
+    inferRuleR m c (Related.tappR e t) =
+        bindR (h _ _ (inferR c e)) (λ r r′ w. bindR (instantiateR t (w .0)) (λ A A′ s. giveR _ _ (refl, s, w .1, andR (w .2) leafR)))
+    inferRuleR m c (Related.letInR x e f) =
+        twoR (inferR c e) (λ r r′ w. inferR (pushR (w .1) (varBndR x (w .0))) f)
+        (λ r r′ s s′ w v. (refl, v .0, solvedAndRightR (kVarR x) (v .1), andR (w .2) (andR (v .2) leafR)))
+    inferRuleR m c (Related.ifThenElseR e f g) =
+        bindR (h _ _ (checkR c e boolR)) (λ r r′ w₁. bindR (h _ _ (inferR (w₁ .1) f)) (λ r r′ w₂. bindR (h _ _ (inferR (w₂ .1) g)) (λ r r′ w₃.
+        bindR (branchR _ (w₃ .1) (w₂ .0)) (λ A A′ s. bindR (branchR _ (w₃ .1) (w₃ .0)) (λ B B′ t. oneR (subtypeR (w₃ .1) s t)
+        (λ r r′ w₄. (refl, w₂ .0, w₄ .1, andR (w₁ .2) (andR (w₂ .2) (andR (w₃ .2) (andR (w₄ .2) leafR))))))))))
+    inferRuleR m c (Related.binOpR e f) = infBinOpR _ c e f
+
+    -- ## Every rule
+
+    ruleR : (m : Mode) {j j′ : Judgement} → JudgementR P j j′ → Runs P (FiredR P) (rule m judge j) (rule m judge′ j′)
+    unfolding rule
+    ruleR m (inferR c e) = inferRuleR m c e
+    ruleR m (checkR c e t) = checkRuleR m c e t
+    ruleR m (inferAppR c e t) = inferAppRuleR c e t
+    ruleR m (subtypeR c p q) = subtypeRuleR c p q
+    ruleR m (instR c a t) = instRuleR _ c a t
+
+    givenR : {j j′ : Judgement} → JudgementR P j j′ → CtxR P (given j) (given j′)
+    unfolding given
+    givenR (inferR c e) = c
+    givenR (checkR c e t) = c
+    givenR (inferAppR c e t) = c
+    givenR (subtypeR c p q) = c
+    givenR (instR c a t) = c
+
+    judgeStepR : (m : Mode) {j j′ : Judgement} → JudgementR P j j′ → Runs P (ResultR P) (judgeStep m judge j) (judgeStep m judge′ j′)
+    unfolding judgeStep
+    judgeStepR m p =
+        bindR (chargeR (ap (λ n. 1 + n) (lengthR (givenR p)))) (λ u u′ v. bindR (ruleR m p) (λ r r′ w. bindR (chargeR (lengthR (w .2)))
+        (λ u u′ v. giveR _ _ (w .1, w .2, rw (w .0) (nodeR p (w .1) (w .2) (w .3))))))
+
+  judgeToR : (m : Mode) (d : ℕ) (j j′ : Judgement) → JudgementR P j j′ → Runs P (ResultR P) (judgeTo m d j) (judgeTo m d j′)
+  unfolding judgeTo
+  judgeToR m zero j j′ p = haltR
+  judgeToR m (suc d) j j′ p = judgeStepR _ _ (λ i i′ q. record { at = λ l n. judgeToR m d i i′ q .at l n }) m p
+
+  pub judgeR : (m : Mode) {j j′ : Judgement} → JudgementR P j j′ → Runs P (ResultR P) (judge m j) (judge m j′)
+  unfolding judge
+  judgeR m p = record { at = λ l n. judgeToR m l _ _ p .at l n }

@@ -1,0 +1,2 @@
+-- What demand 3 says, before any proof.
+pub mod Alike

@@ -1,0 +1,1 @@
+// What alike means stands in specs/, the theorem in proofs/: there is nothing to run here.

@@ -1,0 +1,2 @@
+-- Loading a context.
+pub mod Loading

@@ -1,0 +1,196 @@
+-- Reading entries, one after the other.
+use Prim.Native.Nat.{ℕ, _+_, _*_, _≤_, _<_}
+use mathlib.Core.Path.{_≡_, refl, sym, subst, _∙_}
+use mathlib.Core.Logic.{_⊎_, ⊎-elim}
+use mathlib.Core.List.{List, [], _∷_}
+use native.Mathlib.Omega.{arith}
+use lib.ListN.{length, getD}
+use lib.Seq.{slice-cons}
+use Rattle.definition.specs.Syntax.{pick, int, Entry, varBnd, tvarBnd, etvarBnd, setvarBnd, mark, Ctx}
+use Rattle.definition.specs.Contexts.{keyOf, kindOf, nameOf, held}
+use Rattle.definition.specs.Question.{Read, Reader, next, _>>=_, give, badShape, variable, typeName, type, row, entry, unlessEnd, context}
+use Rattle.layout.proofs.Places.{ty-within}
+use Rattle.reading.specs.declared.Item.{Item}
+use Rattle.reading.specs.declared.Item.the-variants as item
+use Rattle.reading.specs.declared.Part.{Part}
+use Rattle.reading.specs.declared.Part.the-variants as part
+use Rattle.reading.specs.Items as items
+use Rattle.reading.specs.Items.{from, Inside, TyTo, Reads, NameRead, TypeThen}
+use Rattle.reading.specs.Contexts.{RestTo, var-rest, tvar-rest, etvar-rest, setvar-rest, mark-rest, EntryTo, EntriesTo, none, some, ListTo, ContextTo, Leaves, past, refused, EntryRead, ContextRead}
+use Rattle.reading.proofs.Depth.{more, context-eq}
+use Rattle.reading.proofs.Items.{bad, from-end, Nones, oneOf-end, oneOf-is, oneOf-none, reads-at, reads-map, reads-two, code-at, after-word, variable-read, typeName-read}
+
+-- ## One entry
+
+unfoldable pub entryRows : List (ℕ × Reader Entry)
+entryRows =
+    (32, (do x ← variable; A ← type; give (varBnd x A)))
+    ∷ (33, (do a ← typeName; give (tvarBnd a)))
+    ∷ (34, (do a ← typeName; give (etvarBnd a)))
+    ∷ (35, (do a ← typeName; A ← type; give (setvarBnd a A)))
+    ∷ (36, (do a ← typeName; give (mark a)))
+    ∷ []
+
+pub entry-end : {q : List ℕ} {p e : ℕ} → Inside q p e → e ≤ p → EntryRead q p e (item.Fault 4 p)
+unfolding entry
+entry-end {q} {p} {e} i h = reads-at (oneOf-end _ q p e h) (items.refused (bad i))
+
+module _ {q : List ℕ} {p e : ℕ} (i : Inside q p e) (h : p < e) where
+  entry-row : {w : ℕ} → getD q p 0 ≡ w → entry p (from q p e) ≡ row w entryRows (badShape p) (p + 1) (from q (p + 1) e)
+  unfolding entry entryRows
+  entry-row k = oneOf-is entryRows q p e h (i .high) k
+
+  pub entry-none : Nones (Unit {0}) (getD q p 0) entryRows → EntryRead q p e (item.Fault 4 p)
+  unfolding entry entryRows
+  entry-none n = reads-at (oneOf-none entryRows q p e h (i .high) n) (items.refused (bad i))
+
+  module _ {r : Item} (x : NameRead q (p + 1) e r) where
+    pub entry-var : {r′ : Item} → getD q p 0 ≡ 32 → TypeThen q e r r′ → EntryRead q p e r′
+    unfolding row pick entryRows _>>=_ keyOf kindOf nameOf
+    entry-var k y =
+        reads-at (entry-row k)
+        (reads-two varBnd
+        (λ v A m n s t. record { kind = code-at i h k; name = s .at; rest = var-rest (subst (λ (j : ℕ). TyTo q j A n) (after-word p s) t) })
+        (variable-read x) y)
+
+    pub entry-tvar : getD q p 0 ≡ 33 → EntryRead q p e r
+    unfolding row pick entryRows _>>=_ keyOf kindOf nameOf
+    entry-tvar k =
+        reads-at (entry-row k)
+        (reads-map tvarBnd
+        (λ a m s. record { kind = code-at i h k; name = s .at; rest = subst (RestTo q (p + 2) (tvarBnd a)) (sym (after-word p s)) tvar-rest }) (typeName-read x))
+
+    pub entry-etvar : getD q p 0 ≡ 34 → EntryRead q p e r
+    unfolding row pick entryRows _>>=_ keyOf kindOf nameOf
+    entry-etvar k =
+        reads-at (entry-row k)
+        (reads-map etvarBnd
+        (λ a m s. record { kind = code-at i h k; name = s .at; rest = subst (RestTo q (p + 2) (etvarBnd a)) (sym (after-word p s)) etvar-rest }) (typeName-read x))
+
+    pub entry-setvar : {r′ : Item} → getD q p 0 ≡ 35 → TypeThen q e r r′ → EntryRead q p e r′
+    unfolding row pick entryRows _>>=_ keyOf kindOf nameOf
+    entry-setvar k y =
+        reads-at (entry-row k)
+        (reads-two setvarBnd
+        (λ a A m n s t. record { kind = code-at i h k; name = s .at; rest = setvar-rest (subst (λ (j : ℕ). TyTo q j A n) (after-word p s) t) })
+        (typeName-read x) y)
+
+    pub entry-mark : getD q p 0 ≡ 36 → EntryRead q p e r
+    unfolding row pick entryRows _>>=_ keyOf kindOf nameOf
+    entry-mark k =
+        reads-at (entry-row k)
+        (reads-map mark
+        (λ a m s. record { kind = code-at i h k; name = s .at; rest = subst (RestTo q (p + 2) (mark a)) (sym (after-word p s)) mark-rest }) (typeName-read x))
+
+-- an entry has two words at least
+rest-on : {q : List ℕ} {p m : ℕ} {x : Entry} → RestTo q p x m → p ≤ m
+rest-on (var-rest t) = omega arith
+rest-on tvar-rest = omega arith
+rest-on etvar-rest = omega arith
+rest-on (setvar-rest t) = omega arith
+rest-on mark-rest = omega arith
+
+pub entry-on : {q : List ℕ} (x : Entry) (p m : ℕ) → EntryTo q p x m → p + 2 ≤ m
+entry-on x p m s = rest-on (s .rest)
+
+-- ## Entries
+
+pub entries-few : {q : List ℕ} {p m : ℕ} {Γ : Ctx} → EntriesTo q p Γ m → p + 2 * length Γ ≤ m
+entries-few none = omega arith
+entries-few (some {p} {m} {n} {x} {Γ} s l) = omega (arith, entry-on x p m s, entries-few l)
+
+-- they end within the question, so there are 1,024 at most
+rest-within : {q : List ℕ} {p m : ℕ} {x : Entry} → p ≤ length q → RestTo q p x m → m ≤ length q
+rest-within h (var-rest t) = omega (arith, ty-within (t .at))
+rest-within h tvar-rest = h
+rest-within h etvar-rest = h
+rest-within h (setvar-rest t) = omega (arith, ty-within (t .at))
+rest-within h mark-rest = h
+
+pub entries-within : {q : List ℕ} {p m : ℕ} {Γ : Ctx} → p ≤ length q → EntriesTo q p Γ m → m ≤ length q
+entries-within h none = h
+entries-within h (some s l) = entries-within (rest-within (omega (arith, s .name .within)) (s .rest)) l
+
+pub entries-most : {q : List ℕ} {p m : ℕ} {Γ : Ctx} → EntriesTo q p Γ m → 2 * length Γ ≤ length q
+entries-most none = omega arith
+entries-most (some s l) = let few = entries-few (some s l) in omega (arith, few, entries-within (omega (arith, s .kind .within)) (some s l))
+
+-- which entries hold a type, by their kind
+pub rest-typed : {q : List ℕ} {p m : ℕ} {x : Entry} → (kindOf (keyOf x) ≡ 32) ⊎ (kindOf (keyOf x) ≡ 35) → RestTo q p x m → TyTo q p (held x) m
+unfolding keyOf kindOf held
+rest-typed h (var-rest t) = t
+rest-typed h tvar-rest = absurd (⊎-elim (λ e. omega arith) (λ e. omega arith) h)
+rest-typed h etvar-rest = absurd (⊎-elim (λ e. omega arith) (λ e. omega arith) h)
+rest-typed h (setvar-rest t) = t
+rest-typed h mark-rest = absurd (⊎-elim (λ e. omega arith) (λ e. omega arith) h)
+
+pub rest-bare : {q : List ℕ} {p m : ℕ} {x : Entry} → (kindOf (keyOf x) ≡ 32 → ⊥) → (kindOf (keyOf x) ≡ 35 → ⊥) → RestTo q p x m → (p ≡ m) × (held x ≡ int)
+unfolding keyOf kindOf held
+rest-bare g h (var-rest t) = absurd (g refl)
+rest-bare g h tvar-rest = (refl, refl)
+rest-bare g h etvar-rest = (refl, refl)
+rest-bare g h (setvar-rest t) = absurd (h refl)
+rest-bare g h mark-rest = (refl, refl)
+
+-- one entry more than the rest has
+abbrev pub added : Part → Part
+added (part.Past n m) = part.Past (n + 1) m
+added (part.Fault c p) = part.Fault c p
+
+entries-more : {q : List ℕ} {p m e : ℕ} {r : Part} {o : Read Entry} → Reads q e (EntryTo q p) (item.Past m) o → ContextRead q m e r
+    → Leaves q e (ContextTo q p e) (added r) (next o (λ x. _>>=_ context (λ Γ. give (x ∷ Γ))))
+unfolding next _>>=_ give
+entries-more {q} {p} {m} {e} (items.past {a = x} s l) y = go y
+  where
+    go : {r : Part} {o : Read Ctx} → Leaves q e (ContextTo q m e) r o → Leaves q e (ContextTo q p e) (added r) (next o (λ Γ. give (x ∷ Γ)))
+    go (past {a = Γ} {v = n} {m = k} t le) =
+        let u : ListTo q p (x ∷ Γ) (n + 1) k = record { entries = some s (t .list .entries); count = omega arith } in
+        past (record { list = u; whole = t .whole }) le
+    go (refused b) = refused b
+
+entry-refused : {A B : Type 0} {q : List ℕ} {e c a : ℕ} {S : A → ℕ → Type 0} {S′ : B → ℕ → ℕ → Type 0} {o : Read A} (k : A → Reader B)
+    → Reads q e S (item.Fault c a) o → Leaves q e S′ (part.Fault c a) (next o k)
+unfolding next
+entry-refused k (items.refused b) = refused b
+
+pub leaves-at : {A : Type 0} {q : List ℕ} {e : ℕ} {S : A → ℕ → ℕ → Type 0} {r : Part} {o o′ : Read A} → o′ ≡ o → Leaves q e S r o → Leaves q e S r o′
+leaves-at h x = rw h x
+
+module _ {q : List ℕ} {p e : ℕ} (i : Inside q p e) where
+  pub context-end : e ≤ p → ContextRead q p e (part.Past 0 p)
+  unfolding unlessEnd
+  context-end h =
+      let s : ContextTo q p e [] 0 p = record { list = record { entries = none; count = refl }; whole = omega arith } in
+      leaves-at (context-eq p _ ∙ rw (from-end q p e h)) (past s (i .low))
+
+  module _ (h : p < e) where
+    context-more : context p (from q p e) ≡ next (entry p (from q p e)) (λ x. _>>=_ context (λ Γ. give (x ∷ Γ)))
+    unfolding unlessEnd more _>>=_
+    context-more = context-eq p _ ∙ rw (slice-cons p e q 0 h (i .high))
+
+    context-step : {m : ℕ} {r : Item} {r′ : Part} → EntryRead q p e r → r ≡ item.Past m → ContextRead q m e r′ → ContextRead q p e (added r′)
+    context-step x k y = leaves-at context-more (entries-more (rw k at x) y)
+
+    pub context-some : {m n j : ℕ} {r : Item} {r′ : Part} → EntryRead q p e r → r ≡ item.Past m → ContextRead q m e r′ → r′ ≡ part.Past n j
+        → ContextRead q p e (part.Past (n + 1) j)
+    context-some x k y l = context-step x k (rw l at y)
+
+    pub context-rest : {m c a : ℕ} {r : Item} {r′ : Part} → EntryRead q p e r → r ≡ item.Past m → ContextRead q m e r′ → r′ ≡ part.Fault c a
+        → ContextRead q p e r′
+    context-rest x k y l = rw l (context-step x k (rw l at y))
+
+    pub context-refused : {c a : ℕ} {r : Item} → EntryRead q p e r → r ≡ item.Fault c a → ContextRead q p e (part.Fault c a)
+    context-refused x k = leaves-at context-more (entry-refused _ (rw k at x))
+
+    -- the place past an entry
+    pub entry-past : {m : ℕ} {r : Item} → EntryRead q p e r → r ≡ item.Past m → (p < m) × Inside q m e
+    entry-past {m} x k = go (rw k at x)
+      where
+        go : {o : Read Entry} → Reads q e (EntryTo q p) (item.Past m) o → (p < m) × Inside q m e
+        go (items.past {a = y} s l) = (omega (arith, entry-on y p m s), record { low = l; high = i .high; small = i .small })
+
+  pub context-few : {n m : ℕ} {r : Part} → ContextRead q p e r → r ≡ part.Past n m → n ≤ e
+  context-few {n} {m} x k = go (rw k at x)
+    where
+      go : {o : Read Ctx} → Leaves q e (ContextTo q p e) (part.Past n m) o → n ≤ e
+      go (past t l) = omega (arith, t .list .count, entries-few (t .list .entries))

@@ -1,0 +1,242 @@
+-- The depth does not matter: `type`, `expression` and `context` meet the equations of a recursion without any count. A program's proof goes
+-- by these.
+use Prim.Native.Nat.{ℕ, zero, suc, _≤_}
+use mathlib.Core.Path.{_≡_, refl, sym, ap, _∙_}
+use mathlib.Core.List.{List, [], _∷_}
+use mathlib.Core.Bool.{Bool, true, false}
+use native.Mathlib.Omega.{arith}
+use native.Mathlib.Nat.{le-of-suc-le-suc, not-suc-le-zero, le-refl}
+use lib.ListN.{length}
+use Rattle.definition.specs.Syntax.{pick, Ty, Expr, Ctx}
+use Rattle.definition.specs.Question.{Read, got, fault, Reader, next, _>>=_, give, badShape, reservedName, word, any, within, name, variable, typeName, row, oneOf, tyRows, readTy, type, exprRows, readExpr, expression, entry, unlessEnd, readCtx, context}
+
+-- ## Two readers that are the same on up to n words, and never leave more than there were
+
+abbrev Left : {A : Type 0} → ℕ → Read A → Type 0
+Left n (got a p ws) = length ws ≤ n
+Left n (fault c p) = Unit {0}
+
+abbrev Upto : {A : Type 0} → ℕ → Reader A → Reader A → Type 0
+Upto n m m′ = (p : ℕ) (ws : List ℕ) → length ws ≤ n → (m p ws ≡ m′ p ws) × Left (length ws) (m p ws)
+
+weaken : {A : Type 0} (n n′ : ℕ) (o : Read A) → n ≤ n′ → Left n o → Left n′ o
+weaken n n′ (got a p ws) h l = omega arith
+weaken n n′ (fault c p) h l = tt
+
+next-upto : {A B : Type 0} (n k : ℕ) (o o′ : Read A) (f f′ : A → Reader B) → k ≤ n → o ≡ o′ → Left k o → ((a : A) → Upto n (f a) (f′ a))
+    → (next o f ≡ next o′ f′) × Left k (next o f)
+unfolding next
+next-upto n k (got a p ws) o′ f f′ h e l g =
+    let r = g a p ws (omega arith) in
+    (r .0 ∙ ap (λ o. next o f′) e, weaken (length ws) k (f a p ws) l (r .1))
+next-upto n k (fault c p) o′ f f′ h e l g = (ap (λ o. next o f′) e, tt)
+
+bind-upto : {A B : Type 0} {n : ℕ} {m m′ : Reader A} {f f′ : A → Reader B} → Upto n m m′ → ((a : A) → Upto n (f a) (f′ a))
+    → Upto n (_>>=_ m f) (_>>=_ m′ f′)
+unfolding _>>=_
+bind-upto {n = n} {m} {m′} {f} {f′} h g p ws l = next-upto n (length ws) (m p ws) (m′ p ws) f f′ l (h p ws l .0) (h p ws l .1) g
+
+give-upto : {A : Type 0} {n : ℕ} (a : A) → Upto n (give a) (give a)
+unfolding give
+give-upto a p ws l = (refl, le-refl (length ws))
+
+fault-upto : {A : Type 0} {n : ℕ} (p : ℕ) → Upto {A = A} n (badShape p) (badShape p)
+unfolding badShape
+fault-upto p q ws l = (refl, tt)
+
+reserved-upto : {A : Type 0} {n : ℕ} (p : ℕ) → Upto {A = A} n (reservedName p) (reservedName p)
+unfolding reservedName
+reserved-upto p q ws l = (refl, tt)
+
+pick-upto : {A : Type 0} {n : ℕ} (b : Bool) {x x′ y y′ : Reader A} → Upto n x x′ → Upto n y y′ → Upto n (pick b x y) (pick b x′ y′)
+unfolding pick
+pick-upto true h k = h
+pick-upto false h k = k
+
+-- a word is used up
+word-upto : {A : Type 0} {n : ℕ} {k k′ : ℕ → ℕ → Reader A} → ((p w : ℕ) → Upto n (k p w) (k′ p w)) → Upto (suc n) (word k) (word k′)
+unfolding word
+word-upto h p [] l = (refl, tt)
+word-upto {n = n} {k} {k′} h p (w ∷ ws) l =
+    let r = h p w (suc p) ws (omega arith) in
+    (r .0, weaken (length ws) (suc (length ws)) (k p w (suc p) ws) (omega arith) (r .1))
+
+-- where nothing is read again, one word or any number
+less-upto : {A : Type 0} {n : ℕ} {m m′ : Reader A} → Upto (suc n) m m′ → Upto n m m′
+less-upto h p ws l = h p ws (omega arith)
+
+name-upto : {n : ℕ} → Upto n name name
+unfolding name
+name-upto = less-upto (word-upto (λ p w. pick-upto _ (give-upto w) (reserved-upto p)))
+
+variable-upto : {n : ℕ} → Upto n variable variable
+unfolding variable
+variable-upto = bind-upto name-upto (λ a. give-upto _)
+
+typeName-upto : {n : ℕ} → Upto n typeName typeName
+unfolding typeName
+typeName-upto = bind-upto name-upto (λ a. give-upto _)
+
+any-upto : {n : ℕ} → Upto n any any
+unfolding any
+any-upto = less-upto (word-upto (λ p w. give-upto w))
+
+within-upto : {n : ℕ} (low high : ℕ) → Upto n (within low high) (within low high)
+unfolding within
+within-upto low high = less-upto (word-upto (λ p w. pick-upto _ (give-upto w) (fault-upto p)))
+
+data Rows {A : Type 0} (n : ℕ) : List (ℕ × Reader A) → List (ℕ × Reader A) → Type 0 where
+  last : Rows n [] []
+  and : {k : ℕ} {m m′ : Reader A} {r r′ : List (ℕ × Reader A)} → Upto n m m′ → Rows n r r′ → Rows n ((k, m) ∷ r) ((k, m′) ∷ r′)
+
+row-upto : {A : Type 0} {n : ℕ} (w p : ℕ) {r r′ : List (ℕ × Reader A)} → Rows n r r′ → Upto n (row w r (badShape p)) (row w r′ (badShape p))
+unfolding row
+row-upto w p last = fault-upto p
+row-upto w p (and h k) = pick-upto _ h (row-upto w p k)
+
+oneOf-upto : {A : Type 0} {n : ℕ} {r r′ : List (ℕ × Reader A)} → Rows n r r′ → Upto (suc n) (oneOf r) (oneOf r′)
+unfolding oneOf
+oneOf-upto h = word-upto (λ p w. row-upto w p h)
+
+-- ## Types
+
+tyRows-upto : {n : ℕ} {m m′ : Reader Ty} → Upto n m m′ → Rows n (tyRows m) (tyRows m′)
+unfolding tyRows
+tyRows-upto h =
+    and (give-upto _)
+    (and (give-upto _)
+    (and (bind-upto typeName-upto (λ a. give-upto _))
+    (and (bind-upto typeName-upto (λ a. give-upto _))
+    (and (bind-upto h (λ A. bind-upto h (λ B. give-upto _)))
+    (and (bind-upto typeName-upto (λ a. bind-upto h (λ A. give-upto _))) last)))))
+
+-- on no words, where both say o
+none-upto : {A : Type 0} (m m′ : Reader A) (o : ℕ → Read A) → ((p : ℕ) → Left 0 (o p)) → ((p : ℕ) → m p [] ≡ o p) → ((p : ℕ) → m′ p [] ≡ o p)
+    → Upto 0 m m′
+none-upto m m′ o h e e′ p [] l = (e p ∙ sym (e′ p), rw (e p) (h p))
+none-upto m m′ o h e e′ p (w ∷ ws) l = absurd (not-suc-le-zero l)
+
+readTy-none : (d p : ℕ) → readTy d p [] ≡ fault 4 p
+unfolding readTy oneOf word
+readTy-none zero p = refl
+readTy-none (suc d) p = refl
+
+readTy-upto : (n d d′ : ℕ) → n ≤ d → n ≤ d′ → Upto n (readTy d) (readTy d′)
+unfolding readTy
+readTy-upto zero d d′ h h′ = none-upto (readTy d) (readTy d′) (λ p. fault 4 p) (λ p. tt) (readTy-none d) (readTy-none d′)
+readTy-upto (suc n) zero d′ h h′ = absurd (not-suc-le-zero h)
+readTy-upto (suc n) (suc d) zero h h′ = absurd (not-suc-le-zero h′)
+readTy-upto (suc n) (suc d) (suc d′) h h′ =
+    oneOf-upto (tyRows-upto (readTy-upto n d d′ (le-of-suc-le-suc h) (le-of-suc-le-suc h′)))
+
+-- `type` is the reader of types at any depth that is enough
+type-upto : (n d : ℕ) → n ≤ d → Upto n (readTy d) type
+unfolding type
+type-upto n d h p ws l = readTy-upto (length ws) d (length ws) (omega arith) (le-refl (length ws)) p ws (le-refl (length ws))
+
+type-self : {n : ℕ} → Upto n type type
+unfolding type
+type-self p ws l = readTy-upto (length ws) (length ws) (length ws) (le-refl (length ws)) (le-refl (length ws)) p ws (le-refl (length ws))
+
+-- the equation of `type`
+pub type-eq : (p : ℕ) (ws : List ℕ) → type p ws ≡ oneOf (tyRows type) p ws
+unfolding type readTy oneOf word
+type-eq p [] = refl
+type-eq p (w ∷ ws) = oneOf-upto (tyRows-upto (type-upto (length ws) (length ws) (le-refl (length ws)))) p (w ∷ ws) (le-refl (length (w ∷ ws))) .0
+
+-- ## Expressions
+
+exprRows-upto : {n : ℕ} (p : ℕ) {m m′ : Reader Expr} → Upto n m m′ → Rows n (exprRows p m) (exprRows p m′)
+unfolding exprRows
+exprRows-upto p h =
+    and (bind-upto variable-upto (λ x. give-upto _))
+    (and (bind-upto h (λ e. bind-upto h (λ e′. give-upto _)))
+    (and (bind-upto variable-upto (λ x. bind-upto type-self (λ A. bind-upto h (λ e. give-upto _))))
+    (and (bind-upto h (λ e. bind-upto type-self (λ A. give-upto _)))
+    (and (bind-upto typeName-upto (λ a. bind-upto h (λ e. give-upto _)))
+    (and (bind-upto h (λ e. bind-upto type-self (λ A. give-upto _)))
+    (and (bind-upto any-upto (λ l. bind-upto any-upto (λ k. give-upto _)))
+    (and (bind-upto (within-upto 0 1) (λ b. give-upto _))
+    (and (bind-upto variable-upto (λ x. bind-upto h (λ e. bind-upto h (λ e′. give-upto _))))
+    (and (bind-upto h (λ e. bind-upto h (λ e′. bind-upto h (λ e″. give-upto _))))
+    (and (bind-upto (within-upto 1 12) (λ o. bind-upto h (λ e. bind-upto h (λ e′. give-upto _)))) last))))))))))
+
+-- its rows name the place
+exprOf-upto : {n : ℕ} {m m′ : Reader Expr} → Upto n m m′ → Upto (suc n) (λ p. oneOf (exprRows p m) p) (λ p. oneOf (exprRows p m′) p)
+exprOf-upto h p = oneOf-upto (exprRows-upto p h) p
+
+readExpr-none : (d p : ℕ) → readExpr d p [] ≡ fault 4 p
+unfolding readExpr oneOf word
+readExpr-none zero p = refl
+readExpr-none (suc d) p = refl
+
+readExpr-upto : (n d d′ : ℕ) → n ≤ d → n ≤ d′ → Upto n (readExpr d) (readExpr d′)
+unfolding readExpr
+readExpr-upto zero d d′ h h′ = none-upto (readExpr d) (readExpr d′) (λ p. fault 4 p) (λ p. tt) (readExpr-none d) (readExpr-none d′)
+readExpr-upto (suc n) zero d′ h h′ = absurd (not-suc-le-zero h)
+readExpr-upto (suc n) (suc d) zero h h′ = absurd (not-suc-le-zero h′)
+readExpr-upto (suc n) (suc d) (suc d′) h h′ = exprOf-upto (readExpr-upto n d d′ (le-of-suc-le-suc h) (le-of-suc-le-suc h′))
+
+expression-upto : (n d : ℕ) → n ≤ d → Upto n (readExpr d) expression
+unfolding expression
+expression-upto n d h p ws l = readExpr-upto (length ws) d (length ws) (omega arith) (le-refl (length ws)) p ws (le-refl (length ws))
+
+-- the equation of `expression`
+pub expression-eq : (p : ℕ) (ws : List ℕ) → expression p ws ≡ oneOf (exprRows p expression) p ws
+unfolding expression readExpr oneOf word
+expression-eq p [] = refl
+expression-eq p (w ∷ ws) = exprOf-upto (expression-upto (length ws) (length ws) (le-refl (length ws))) p (w ∷ ws) (le-refl (length (w ∷ ws))) .0
+
+-- ## Contexts
+
+-- one entry, and the rest by m
+unfoldable pub more : Reader Ctx → Reader Ctx
+more m = do e ← entry; Γ ← m; give (e ∷ Γ)
+
+-- what follows a word has one word less
+after-word : {A B : Type 0} {n : ℕ} {k : ℕ → ℕ → Reader A} {f f′ : A → Reader B} → ((p w : ℕ) → Upto n (k p w) (k p w))
+    → ((a : A) → Upto n (f a) (f′ a)) → Upto (suc n) (_>>=_ (word k) f) (_>>=_ (word k) f′)
+unfolding _>>=_ word next
+after-word h g p [] l = (refl, tt)
+after-word {n = n} {k} {f} {f′} h g p (w ∷ ws) l =
+    let r = bind-upto (h p w) g (suc p) ws (omega arith) in
+    (r .0, weaken (length ws) (suc (length ws)) (next (k p w (suc p) ws) f) (omega arith) (r .1))
+
+more-upto : {n : ℕ} {m m′ : Reader Ctx} → Upto n m m′ → Upto (suc n) (more m) (more m′)
+unfolding more entry oneOf
+more-upto h =
+    after-word (λ p w. row-upto w p
+    (and (bind-upto variable-upto (λ x. bind-upto type-self (λ A. give-upto _)))
+    (and (bind-upto typeName-upto (λ a. give-upto _))
+    (and (bind-upto typeName-upto (λ a. give-upto _))
+    (and (bind-upto typeName-upto (λ a. bind-upto type-self (λ A. give-upto _)))
+    (and (bind-upto typeName-upto (λ a. give-upto _)) last))))))
+    (λ e. bind-upto h (λ Γ. give-upto _))
+
+unlessEnd-upto : {A : Type 0} {n : ℕ} (a : A) {m m′ : Reader A} → Upto n m m′ → Upto n (unlessEnd a m) (unlessEnd a m′)
+unfolding unlessEnd
+unlessEnd-upto a h p [] l = (refl, le-refl 0)
+unlessEnd-upto a h p (w ∷ ws) l = h p (w ∷ ws) l
+
+readCtx-none : (d p : ℕ) → readCtx d p [] ≡ got [] p []
+unfolding readCtx unlessEnd
+readCtx-none zero p = refl
+readCtx-none (suc d) p = refl
+
+readCtx-upto : (n d d′ : ℕ) → n ≤ d → n ≤ d′ → Upto n (readCtx d) (readCtx d′)
+unfolding readCtx more
+readCtx-upto zero d d′ h h′ = none-upto (readCtx d) (readCtx d′) (λ p. got [] p []) (λ p. le-refl 0) (readCtx-none d) (readCtx-none d′)
+readCtx-upto (suc n) zero d′ h h′ = absurd (not-suc-le-zero h)
+readCtx-upto (suc n) (suc d) zero h h′ = absurd (not-suc-le-zero h′)
+readCtx-upto (suc n) (suc d) (suc d′) h h′ =
+    unlessEnd-upto [] (more-upto (readCtx-upto n d d′ (le-of-suc-le-suc h) (le-of-suc-le-suc h′)))
+
+context-upto : (n d : ℕ) → n ≤ d → Upto n (readCtx d) context
+unfolding context
+context-upto n d h p ws l = readCtx-upto (length ws) d (length ws) (omega arith) (le-refl (length ws)) p ws (le-refl (length ws))
+
+-- the equation of `context`
+pub context-eq : (p : ℕ) (ws : List ℕ) → context p ws ≡ unlessEnd [] (more context) p ws
+unfolding context readCtx unlessEnd more
+context-eq p [] = refl
+context-eq p (w ∷ ws) = more-upto (context-upto (length ws) (length ws) (le-refl (length ws))) p (w ∷ ws) (le-refl (length (w ∷ ws))) .0
