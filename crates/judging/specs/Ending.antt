@@ -2,12 +2,13 @@
 use mathlib.Core.Path.{_≡_}
 use mathlib.Core.List.{List}
 use Prim.Native.Nat.{ℕ, _+_, _*_, _≤_, _<_}
+use lib.ListN.{length}
 use Rattle.definition.specs.Syntax.{TmVar, TyVar, Ty, Ctx, Judgement, Rule, ruleNumber, Tree, Trees, leaf, _&_, children, TypeError, unboundVariable, applicationTypeError, typeApplicationError, occursCheck, subtypingError, instantiationError, parameterMismatch}
 use Rattle.definition.specs.Run.{Out, done, fail, stop}
 use Rattle.definition.specs.Rules.{Fired, Result, rule, judge}
 use Rattle.definition.specs.Reply.{errorCode, errorAt}
 use Rattle.layout.specs.Words.{Keep}
-use Rattle.layout.specs.Denotes.{Den, Run}
+use Rattle.layout.specs.Denotes.{Den, Run, Base}
 use Rattle.layout.specs.Room.{Room}
 use Rattle.layout.specs.declared.Span.{Span}
 use Rattle.layout.specs.declared.State.{State}
@@ -43,6 +44,8 @@ pub data ErrorTypes (q w : List ℕ) (t l r : ℕ) : TypeError → Type 0 where
   e-parameter : {A B : Ty} → Den q w t l A → Den q w t r B → ErrorTypes q w t l r (parameterMismatch A B)
 
 pub record Failed (q w′ : List ℕ) (b : Bad) (e : TypeError) (l : ℕ) : Type 0 where
+  pub base : Base q w′ (b .st .top)
+  pub within : b .st .top ≤ length w′
   pub code : b .code ≡ errorCode e
   pub name : b .name ≡ errorAt e
   pub types : ErrorTypes q w′ (b .st .top) (b .left) (b .right) e
