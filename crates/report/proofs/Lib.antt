@@ -1,0 +1,4 @@
+-- Laws of nodes and of the report.
+pub mod Nodes
+pub mod Reports
+pub mod Replies

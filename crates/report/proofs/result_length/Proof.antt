@@ -1,0 +1,34 @@
+-- `result_length` meets its contract.
+use Rattle.writing.proofs.Spelling.{long-then}
+use borrow.Author.Needs.{needs}
+use Rattle.report.proofs.result_length.Statement.{statement}
+use Rattle.report.proofs.result_length.Tie as tie
+
+section-length-requires : tie.Need-section-length-requires
+section-length-requires c κs = search needs
+
+context-length-requires : tie.Need-context-length-requires
+context-length-requires c κs = search needs
+
+tree-length-requires : tie.Need-tree-length-requires
+tree-length-requires c κs = search needs
+
+sum-requires : tie.Need-sum-requires
+sum-requires c κs = search needs
+
+sum-requires-2 : tie.Need-sum-requires-2
+sum-requires-2 c κs = search needs
+
+returns : tie.Need-returns
+returns c = long-then (c .before .before .before .before .section-length .ensures) (long-then (c .before .before .before .context-length .ensures) (c .before .before .tree-length .ensures) (c .before .sum .ensures)) (c .sum2 .ensures)
+
+pub result-length-spec : {M : Type 1} → statement M
+result-length-spec =
+    tie.close
+    (tie.spec
+    section-length-requires
+    context-length-requires
+    tree-length-requires
+    sum-requires
+    sum-requires-2
+    returns)

@@ -1,0 +1,30 @@
+-- `write_result` meets its contract.
+use Rattle.writing.proofs.Spelling.{writable-first, writable-next, writes-then}
+use borrow.Author.Needs.{needs}
+use Rattle.report.proofs.write_result.Statement.{statement}
+use Rattle.report.proofs.write_result.Tie as tie
+
+write-section-requires : tie.Need-write-section-requires
+write-section-requires c κs = writable-first (c .before .before .before .before .before .pre)
+
+write-context-requires : tie.Need-write-context-requires
+write-context-requires c κs = writable-first (writable-next (c .before .before .before .before .before .before .before .before .before .pre) (c .before .before .before .write-section .ensures))
+
+write-tree-requires : tie.Need-write-tree-requires
+write-tree-requires c κs = writable-next (writable-next (c .before .before .before .before .before .before .before .before .before .before .before .before .before .pre) (c .before .before .before .before .before .before .before .write-section .ensures)) (c .before .before .before .write-context .ensures)
+
+same-length : tie.Need-same-length
+same-length c = search needs
+
+returns : tie.Need-returns
+returns c = writes-then (c .before .before .before .before .before .before .before .before .before .before .write-section .ensures) (writes-then (c .before .before .before .before .before .before .write-context .ensures) (c .before .before .write-tree .ensures))
+
+pub write-result-spec : {M : Type 1} → statement M
+write-result-spec =
+    tie.close
+    (tie.spec
+    write-section-requires
+    write-context-requires
+    write-tree-requires
+    same-length
+    returns)

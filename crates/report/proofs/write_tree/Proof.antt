@@ -1,0 +1,63 @@
+-- `write_tree` meets its contract.
+use mathlib.Core.Path.{_∙_, ap}
+use native.Mathlib.Omega.{arith}
+use lib.ListN.{length, length-set}
+use Rattle.writing.proofs.Spelling.{writable-as, writable-first, writable-inner, counted, writes-section}
+use Rattle.writing.proofs.Loops.{Putting, put-first, put-next, put-end}
+use Rattle.report.specs.Nodes.{OfNodes}
+use Rattle.report.proofs.Nodes.{nodes-room, nodes-first, nodes-none}
+use Rattle.report.proofs.write_tree.Statement.{statement}
+use Rattle.report.proofs.write_tree.Tie as tie
+
+abbrev Inv-loop : tie.InvT-loop
+Inv-loop q work top low high report₀ at first next₀ m₀ report next m = Putting q work top (OfNodes q work top low high) report₀ next₀ (OfNodes q work top low m) report next
+
+abbrev μ-loop : tie.MeasureT-loop
+μ-loop q work top low high report₀ at first next₀ m₀ report next m = m
+
+add-first : tie.Need-add-first Inv-loop μ-loop
+add-first c = omega (arith, writable-inner (c .before .before .before .pre) .room .small)
+
+loop-holds : tie.Need-loop-holds Inv-loop μ-loop
+loop-holds c = put-first (writable-inner (c .before .before .before .pre))
+
+sub-m : tie.Need-sub-m Inv-loop μ-loop
+sub-m c = nodes-room (c .loop-test .taken) (c .before .loop .inv .rest .spelled .says)
+
+write-node-requires : tie.Need-write-node-requires Inv-loop μ-loop
+write-node-requires c κs = writable-first (writable-as (nodes-first (c .before .loop-test .taken)) (c .before .before .loop .inv .rest))
+
+loop-less : tie.Need-loop-less Inv-loop μ-loop
+loop-less c = omega (arith, nodes-room (c .before .before .before .before .loop-test .taken) (c .before .before .before .before .before .loop .inv .rest .spelled .says))
+
+loop-again : tie.Need-loop-again Inv-loop μ-loop
+loop-again c = put-next (nodes-first (c .before .before .before .before .loop-test .taken)) (c .before .before .before .before .before .loop .inv) (c .before .before .write-node .ensures)
+
+sub-count : tie.Need-sub-count Inv-loop μ-loop
+sub-count c = omega (arith, counted (c .before .before .before .before .before .pre) (put-end (nodes-none (c .loop-test .left)) (c .before .loop .inv)) .first)
+
+put-requires : tie.Need-put-requires Inv-loop μ-loop
+put-requires c κs = let k = counted (c .before .before .before .before .before .before .pre) (put-end (nodes-none (c .before .loop-test .left)) (c .before .before .loop .inv)) in (k .place, omega (arith, k .small))
+
+same-length : tie.Need-same-length Inv-loop μ-loop
+same-length c = ap length (c .before .before .put .ensures) ∙ simp length-set (counted (c .before .before .before .before .before .before .before .before .before .pre) (put-end (nodes-none (c .before .before .before .before .loop-test .left)) (c .before .before .before .before .before .loop .inv)) .long)
+
+returns : tie.Need-returns Inv-loop μ-loop
+returns c = writes-section (put-end (nodes-none (c .before .before .before .before .loop-test .left)) (c .before .before .before .before .before .loop .inv)) (c .before .before .put .ensures)
+
+pub write-tree-spec : {M : Type 1} → statement M
+write-tree-spec =
+    tie.close
+    (tie.spec
+    Inv-loop
+    μ-loop
+    add-first
+    loop-holds
+    sub-m
+    write-node-requires
+    loop-less
+    loop-again
+    sub-count
+    put-requires
+    same-length
+    returns)

@@ -1,0 +1,321 @@
+// The report: how long it is, from the records' own lengths; then its words, or that there is no room for them.
+use judging::Answer;
+use judging::Bad;
+use layout::MOST;
+use layout::Span;
+use layout::put;
+use layout::word;
+use writing::context_length;
+use writing::section_length;
+use writing::sum;
+use writing::write_context;
+use writing::write_section;
+ghost use mathlib.Core.Path.{_≡_};
+ghost use Prim.Native.Nat.{_+_, _≤_, _^_};
+ghost use lib.ListN.{length};
+ghost use Rattle.definition.specs.Reply.{givesType};
+ghost use Rattle.writing.specs.Spelling.{Section, Long, Spelled, Writable, Writes};
+ghost use Rattle.report.specs.Nodes.{fills, NodeRead, WordsFit, Three, OfNode, OfNodes};
+ghost use Rattle.report.specs.Reports.{OfResult, ResultParts, namesTwo, OfError, ErrorParts, Told, Reports};
+
+// What became of a report: its length; or the slice is too short for it, and the length that is needed (at most MOST).
+pub enum Report {
+    Written(usize),
+    NoRoom(usize),
+}
+
+// Which of a node's type sections are filled.
+struct Filled {
+    left: bool,
+    right: bool,
+    result: bool,
+}
+
+// A node as its words in work give it.
+struct Node {
+    rule: usize,
+    kids: usize,
+    place: usize,
+    input: Span,
+    left: usize,
+    right: usize,
+    output: Span,
+    result: usize,
+    filled: Filled,
+}
+
+// As in the question of the judgement: 1 infer, 2 check, 3 infer_app, 4 subtype, 5 inst_l, 6 inst_r; the result only for 1 and 3.
+fn fills(kind: usize) -> Filled
+    ensures { λ f. ⌜ f ≡ fills kind ⌝ }
+{
+    match kind {
+        1 => Filled {
+            left: false,
+            right: false,
+            result: true,
+        },
+        2 => Filled {
+            left: false,
+            right: true,
+            result: false,
+        },
+        3 => Filled {
+            left: true,
+            right: false,
+            result: true,
+        },
+        _ => Filled {
+            left: true,
+            right: true,
+            result: false,
+        },
+    }
+}
+
+// Reads the node at m.
+fn node_at(work: &[u32], m: usize) -> Node
+    requires { ⌜ m + 12 ≤ length (now work) ⌝ }
+    ensures { λ n. ⌜ NodeRead (now (work .entry)) m n ⌝ }
+{
+    let rule = word(work, m);
+    let kids = word(work, m + 1);
+    let place = word(work, m + 2);
+    let in_at = word(work, m + 3);
+    let in_n = word(work, m + 4);
+    let left = word(work, m + 5);
+    let right = word(work, m + 6);
+    let out_at = word(work, m + 7);
+    let out_n = word(work, m + 8);
+    let result = word(work, m + 9);
+    let kind = word(work, m + 10);
+    let f = fills(kind);
+    Node {
+        rule: rule,
+        kids: kids,
+        place: place,
+        input: Span { at: in_at, n: in_n },
+        left: left,
+        right: right,
+        output: Span {
+            at: out_at,
+            n: out_n,
+        },
+        result: result,
+        filled: f,
+    }
+}
+
+// How long the node at m is.
+fn node_length(q: &[u32], work: &[u32], top: usize, m: usize) -> usize
+    requires { ⌜ Spelled (now q) (now work) top (OfNode (now q) (now work) top m) ⌝ }
+    ensures { λ n. ⌜ Long (2 ^ 32) (OfNode (now (q .entry)) (now (work .entry)) top m) n ⌝ }
+{
+    let n = node_at(work, m);
+    let f = n.filled;
+    let input = context_length(q, work, top, n.input);
+    let left = section_length(q, work, top, f.left, n.left);
+    let right = section_length(q, work, top, f.right, n.right);
+    let output = context_length(q, work, top, n.output);
+    let result = section_length(q, work, top, f.result, n.result);
+    let last = sum(output, result);
+    let types = sum(right, last);
+    let rest = sum(left, types);
+    let sections = sum(input, rest);
+    sum(3, sections)
+}
+
+// Writes three words.
+fn write_three(report: &mut [u32], at: usize, a: usize, b: usize, c: usize) -> usize
+    requires { ⌜ WordsFit (now report) at a b c ⌝ }
+    ensures { λ z. ⌜ Writes (Three a b c) (now (report .entry)) (now (report .exit)) at z ⌝ }
+{
+    let second = at + 1;
+    let third = at + 2;
+    let next = at + 3;
+    put(report, at, a);
+    put(report, second, b);
+    put(report, third, c);
+    next
+}
+
+// Writes the node at m: rule, number of children, place, five sections.
+fn write_node(q: &[u32], work: &[u32], top: usize, m: usize, report: &mut [u32], at: usize) -> usize
+    requires { ⌜ Writable (now q) (now work) top (OfNode (now q) (now work) top m) (now report) at ⌝ }
+    ensures { λ z. ⌜ Writes (OfNode (now (q .entry)) (now (work .entry)) top m) (now (report .entry)) (now (report .exit)) at z ⌝ }
+{
+    let n = node_at(work, m);
+    let f = n.filled;
+    let input = write_three(report, at, n.rule, n.kids, n.place);
+    let left = write_context(q, work, top, n.input, report, input);
+    let right = write_section(q, work, top, f.left, n.left, report, left);
+    let output = write_section(q, work, top, f.right, n.right, report, right);
+    let result = write_context(q, work, top, n.output, report, output);
+    write_section(q, work, top, f.result, n.result, report, result)
+}
+
+// How long the tree's section is, whose nodes stand from high down to low.
+fn tree_length(q: &[u32], work: &[u32], top: usize, low: usize, high: usize) -> usize
+    requires { ⌜ Spelled (now q) (now work) top (Section (OfNodes (now q) (now work) top low high)) ⌝ }
+    ensures { λ n. ⌜ Long (2 ^ 32) (Section (OfNodes (now (q .entry)) (now (work .entry)) top low high)) n ⌝ }
+{
+    let mut total: usize = 0;
+    let mut m = high;
+    while low < m {
+        m -= 12;
+        let n = node_length(q, work, top, m);
+        total = sum(total, n);
+    }
+    sum(1, total)
+}
+
+// Writes the tree's section: its nodes, parent first, and before them the count of their words.
+fn write_tree(
+    q: &[u32],
+    work: &[u32],
+    top: usize,
+    low: usize,
+    high: usize,
+    report: &mut [u32],
+    at: usize,
+) -> usize
+    requires { ⌜ Writable (now q) (now work) top (Section (OfNodes (now q) (now work) top low high)) (now report) at ⌝ }
+    ensures { λ z. ⌜ Writes (Section (OfNodes (now (q .entry)) (now (work .entry)) top low high)) (now (report .entry)) (now (report .exit)) at z ⌝ }
+{
+    let first = at + 1;
+    let mut next = first;
+    let mut m = high;
+    while low < m {
+        m -= 12;
+        next = write_node(q, work, top, m, report, next);
+    }
+    let count = next - first;
+    put(report, at, count);
+    next
+}
+
+// Whether a question of this kind is answered by a type: infer, infer_app, and infer with its type resolved.
+fn gives_type(kind: usize) -> bool
+    ensures { λ b. ⌜ b ≡ givesType kind ⌝ }
+{
+    match kind {
+        1 => true,
+        3 => true,
+        7 => true,
+        _ => false,
+    }
+}
+
+// Whether a type error of this code names two types: a subtyping error and a parameter mismatch do.
+fn names_two(code: usize) -> bool
+    ensures { λ b. ⌜ b ≡ namesTwo code ⌝ }
+{
+    match code {
+        15 => true,
+        17 => true,
+        _ => false,
+    }
+}
+
+// How long a result is: type, context, tree.
+fn result_length(q: &[u32], work: &[u32], gives: bool, a: Answer, high: usize) -> usize
+    requires { ⌜ Spelled (now q) (now work) (a .st .top) (ResultParts (now q) (now work) gives a high) ⌝ }
+    ensures { λ n. ⌜ Long (2 ^ 32) (ResultParts (now (q .entry)) (now (work .entry)) gives a high) n ⌝ }
+{
+    let st = a.st;
+    let ty = section_length(q, work, st.top, gives, a.ty);
+    let context = context_length(q, work, st.top, a.g);
+    let tree = tree_length(q, work, st.top, st.low, high);
+    let rest = sum(context, tree);
+    sum(ty, rest)
+}
+
+// Writes a result.
+fn write_result(
+    q: &[u32],
+    work: &[u32],
+    gives: bool,
+    a: Answer,
+    high: usize,
+    report: &mut [u32],
+) -> usize
+    requires { ⌜ Writable (now q) (now work) (a .st .top) (ResultParts (now q) (now work) gives a high) (now report) 0 ⌝ }
+    ensures { λ z. ⌜ Writes (ResultParts (now (q .entry)) (now (work .entry)) gives a high) (now (report .entry)) (now (report .exit)) 0 z ⌝ }
+{
+    let st = a.st;
+    let context = write_section(q, work, st.top, gives, a.ty, report, 0);
+    let tree = write_context(q, work, st.top, a.g, report, context);
+    write_tree(q, work, st.top, st.low, high, report, tree)
+}
+
+// How long a type error's report is: two types, of which none, the first or both are used.
+fn error_length(q: &[u32], work: &[u32], one: bool, two: bool, b: Bad) -> usize
+    requires { ⌜ Spelled (now q) (now work) (b .st .top) (ErrorParts (now q) (now work) one two b) ⌝ }
+    ensures { λ n. ⌜ Long (2 ^ 32) (ErrorParts (now (q .entry)) (now (work .entry)) one two b) n ⌝ }
+{
+    let st = b.st;
+    let left = section_length(q, work, st.top, one, b.left);
+    let right = section_length(q, work, st.top, two, b.right);
+    sum(left, right)
+}
+
+// Writes a type error's report.
+fn write_error(q: &[u32], work: &[u32], one: bool, two: bool, b: Bad, report: &mut [u32]) -> usize
+    requires { ⌜ Writable (now q) (now work) (b .st .top) (ErrorParts (now q) (now work) one two b) (now report) 0 ⌝ }
+    ensures { λ z. ⌜ Writes (ErrorParts (now (q .entry)) (now (work .entry)) one two b) (now (report .entry)) (now (report .exit)) 0 z ⌝ }
+{
+    let st = b.st;
+    let right = write_section(q, work, st.top, one, b.left, report, 0);
+    write_section(q, work, st.top, two, b.right, report, right)
+}
+
+// What becomes of a report of length n in a slice of so many words.
+fn outcome(n: usize, room: usize) -> Report
+    ensures { λ z. ⌜ Told n room z ⌝ }
+{
+    if MOST < n {
+        return Report::NoRoom(MOST);
+    }
+    if room < n {
+        return Report::NoRoom(n);
+    }
+    Report::Written(n)
+}
+
+// Reports an answer whose nodes stand from high down: three sections, or that there is no room for them.
+pub fn report_result(
+    q: &[u32],
+    work: &[u32],
+    kind: usize,
+    a: Answer,
+    high: usize,
+    report: &mut [u32],
+) -> Report
+    requires { ⌜ Spelled (now q) (now work) (a .st .top) (OfResult (now q) (now work) kind a high) ⌝ }
+    ensures { λ z. ⌜ Reports (OfResult (now (q .entry)) (now (work .entry)) kind a high) (now (report .entry)) (now (report .exit)) z ⌝ }
+{
+    let gives = gives_type(kind);
+    let n = result_length(q, work, gives, a, high);
+    let z = outcome(n, report.len());
+    let Report::Written(_) = z else {
+        return z;
+    };
+    write_result(q, work, gives, a, high, report);
+    z
+}
+
+// Reports a type error: two sections, or that there is no room for them.
+pub fn report_error(q: &[u32], work: &[u32], b: Bad, report: &mut [u32]) -> Report
+    requires { ⌜ Spelled (now q) (now work) (b .st .top) (OfError (now q) (now work) b) ⌝ }
+    ensures { λ z. ⌜ Reports (OfError (now (q .entry)) (now (work .entry)) b) (now (report .entry)) (now (report .exit)) z ⌝ }
+{
+    let code = b.code;
+    let one = 11 < code;
+    let two = names_two(code);
+    let n = error_length(q, work, one, two, b);
+    let z = outcome(n, report.len());
+    let Report::Written(_) = z else {
+        return z;
+    };
+    write_error(q, work, one, two, b, report);
+    z
+}

@@ -1,0 +1,7 @@
+-- Laws of writing.
+pub mod Placing
+pub mod Spelling
+pub mod Steps
+pub mod Types
+pub mod Loops
+pub mod Contexts

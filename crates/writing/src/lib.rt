@@ -1,0 +1,253 @@
+// Words into the report: types with no recursion, sections, contexts; each function writes at a place and returns the next.
+use layout::Span;
+use layout::put;
+use layout::word;
+use types::body_of;
+use types::left_of;
+use types::name_of;
+use types::right_of;
+use types::tag;
+use types::type_length;
+ghost use mathlib.Core.Path.{_≡_};
+ghost use Prim.Native.Nat.{_+_, _^_, min};
+ghost use Rattle.writing.specs.Spelling.{Section, Long, Spelled, Writable, Writes};
+ghost use Rattle.writing.specs.Types.{OfType, OfPart, Waiting, Steps};
+ghost use Rattle.writing.specs.Contexts.{holdsType, OfEntry, OfContext};
+
+// A length stops at this, one more than the longest report.
+const OVER: usize = 4_294_967_296;
+
+// Where the next word is written, and where the next waiting reference stands.
+struct Pen {
+    at: usize,
+    low: usize,
+}
+
+// Takes the reference that waits at low: writes its first words, and leaves its parts to wait.
+fn write_head(q: &[u32], work: &[u32], top: usize, report: &mut [u32], at: usize, low: usize) -> Pen
+    requires { ⌜ Waiting (now q) (now work) top (now report) at low ⌝ }
+    ensures { λ z. ⌜ Steps (now (q .entry)) (now (work .entry)) top (now (report .entry)) (now (report .exit)) at low z ⌝ }
+{
+    let r = report[low] as usize;
+    let k = tag(q, work, top, r);
+    put(report, at, k);
+    if k < 3 {
+        return Pen {
+            at: at + 1,
+            low: low + 1,
+        };
+    }
+    if k == 5 {
+        let left = left_of(q, work, top, r);
+        let right = right_of(q, work, top, r);
+        let next = low - 1;
+        put(report, low, right);
+        put(report, next, left);
+        return Pen {
+            at: at + 1,
+            low: next,
+        };
+    }
+    let a = name_of(q, work, top, r);
+    let name = a.0 as usize;
+    put(report, at + 1, name);
+    if k < 5 {
+        return Pen {
+            at: at + 2,
+            low: low + 1,
+        };
+    }
+    let body = body_of(q, work, top, r);
+    put(report, low, body);
+    Pen {
+        at: at + 2,
+        low: low,
+    }
+}
+
+// Writes a type. What waits is kept in the part of its words that is not written yet, from its far end.
+pub fn write_type(
+    q: &[u32],
+    work: &[u32],
+    top: usize,
+    r: usize,
+    report: &mut [u32],
+    at: usize,
+) -> usize
+    requires { ⌜ Writable (now q) (now work) top (OfType (now q) (now work) top r) (now report) at ⌝ }
+    ensures { λ z. ⌜ Writes (OfType (now (q .entry)) (now (work .entry)) top r) (now (report .entry)) (now (report .exit)) at z ⌝ }
+{
+    let n = type_length(q, work, top, r);
+    let end = at + n;
+    let mut pen = at;
+    let mut low = end - 1;
+    put(report, low, r);
+    while low < end {
+        let z = write_head(q, work, top, report, pen, low);
+        pen = z.at;
+        low = z.low;
+    }
+    end
+}
+
+// The sum of two lengths.
+pub fn sum(a: usize, b: usize) -> usize
+    ensures { λ n. ⌜ n ≡ min (a + b) (2 ^ 32) ⌝ }
+{
+    if OVER <= a {
+        return OVER;
+    }
+    let room = OVER - a;
+    if room <= b {
+        return OVER;
+    }
+    a + b
+}
+
+// How long a type is, or an unused part (0). It stops one earlier than a sum: something always goes before it.
+fn part_length(q: &[u32], work: &[u32], top: usize, filled: bool, r: usize) -> usize
+    requires { ⌜ Spelled (now q) (now work) top (OfPart (now q) (now work) top filled r) ⌝ }
+    ensures { λ n. ⌜ Long 4294967295 (OfPart (now (q .entry)) (now (work .entry)) top filled r) n ⌝ }
+{
+    if filled {
+        return type_length(q, work, top, r);
+    }
+    0
+}
+
+// Writes a type, or an unused part: nothing.
+fn write_part(
+    q: &[u32],
+    work: &[u32],
+    top: usize,
+    filled: bool,
+    r: usize,
+    report: &mut [u32],
+    at: usize,
+) -> usize
+    requires { ⌜ Writable (now q) (now work) top (OfPart (now q) (now work) top filled r) (now report) at ⌝ }
+    ensures { λ z. ⌜ Writes (OfPart (now (q .entry)) (now (work .entry)) top filled r) (now (report .entry)) (now (report .exit)) at z ⌝ }
+{
+    if filled {
+        return write_type(q, work, top, r, report, at);
+    }
+    at
+}
+
+// How long a type's section is.
+pub fn section_length(q: &[u32], work: &[u32], top: usize, filled: bool, r: usize) -> usize
+    requires { ⌜ Spelled (now q) (now work) top (Section (OfPart (now q) (now work) top filled r)) ⌝ }
+    ensures { λ n. ⌜ Long (2 ^ 32) (Section (OfPart (now (q .entry)) (now (work .entry)) top filled r)) n ⌝ }
+{
+    let n = part_length(q, work, top, filled, r);
+    sum(1, n)
+}
+
+// Writes a type's section: its words, and before them their count.
+pub fn write_section(
+    q: &[u32],
+    work: &[u32],
+    top: usize,
+    filled: bool,
+    r: usize,
+    report: &mut [u32],
+    at: usize,
+) -> usize
+    requires { ⌜ Writable (now q) (now work) top (Section (OfPart (now q) (now work) top filled r)) (now report) at ⌝ }
+    ensures { λ z. ⌜ Writes (Section (OfPart (now (q .entry)) (now (work .entry)) top filled r)) (now (report .entry)) (now (report .exit)) at z ⌝ }
+{
+    let first = at + 1;
+    let next = write_part(q, work, top, filled, r, report, first);
+    let count = next - first;
+    put(report, at, count);
+    next
+}
+
+// Whether entries of this kind hold a type: VarBnd and SETVarBnd do.
+fn holds_type(kind: usize) -> bool
+    ensures { λ b. ⌜ b ≡ holdsType kind ⌝ }
+{
+    match kind {
+        32 => true,
+        35 => true,
+        _ => false,
+    }
+}
+
+// How long the entry at i is.
+fn entry_length(q: &[u32], work: &[u32], top: usize, i: usize) -> usize
+    requires { ⌜ Spelled (now q) (now work) top (OfEntry (now q) (now work) top i) ⌝ }
+    ensures { λ n. ⌜ Long (2 ^ 32) (OfEntry (now (q .entry)) (now (work .entry)) top i) n ⌝ }
+{
+    let kind = word(work, i);
+    let r = word(work, i + 2);
+    let typed = holds_type(kind);
+    let n = part_length(q, work, top, typed, r);
+    sum(2, n)
+}
+
+// Writes the entry at i: its kind, its name, and its type if it holds one.
+fn write_entry(
+    q: &[u32],
+    work: &[u32],
+    top: usize,
+    i: usize,
+    report: &mut [u32],
+    at: usize,
+) -> usize
+    requires { ⌜ Writable (now q) (now work) top (OfEntry (now q) (now work) top i) (now report) at ⌝ }
+    ensures { λ z. ⌜ Writes (OfEntry (now (q .entry)) (now (work .entry)) top i) (now (report .entry)) (now (report .exit)) at z ⌝ }
+{
+    let kind = word(work, i);
+    let name = word(work, i + 1);
+    let r = word(work, i + 2);
+    let typed = holds_type(kind);
+    let second = at + 1;
+    let third = at + 2;
+    put(report, at, kind);
+    put(report, second, name);
+    write_part(q, work, top, typed, r, report, third)
+}
+
+// How long a context's section is.
+pub fn context_length(q: &[u32], work: &[u32], top: usize, g: Span) -> usize
+    requires { ⌜ Spelled (now q) (now work) top (Section (OfContext (now q) (now work) top g)) ⌝ }
+    ensures { λ n. ⌜ Long (2 ^ 32) (Section (OfContext (now (q .entry)) (now (work .entry)) top g)) n ⌝ }
+{
+    let mut total: usize = 0;
+    let mut i = g.at;
+    let mut left = g.n;
+    while 0 < left {
+        let n = entry_length(q, work, top, i);
+        total = sum(total, n);
+        i += 4;
+        left -= 1;
+    }
+    sum(1, total)
+}
+
+// Writes a context's section: its entries, oldest first, and before them the count of their words.
+pub fn write_context(
+    q: &[u32],
+    work: &[u32],
+    top: usize,
+    g: Span,
+    report: &mut [u32],
+    at: usize,
+) -> usize
+    requires { ⌜ Writable (now q) (now work) top (Section (OfContext (now q) (now work) top g)) (now report) at ⌝ }
+    ensures { λ z. ⌜ Writes (Section (OfContext (now (q .entry)) (now (work .entry)) top g)) (now (report .entry)) (now (report .exit)) at z ⌝ }
+{
+    let first = at + 1;
+    let mut next = first;
+    let mut i = g.at;
+    let mut left = g.n;
+    while 0 < left {
+        next = write_entry(q, work, top, i, report, next);
+        i += 4;
+        left -= 1;
+    }
+    let count = next - first;
+    put(report, at, count);
+    next
+}
