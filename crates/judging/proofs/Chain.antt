@@ -40,6 +40,9 @@ room-on s′ k′ r kp up down ft nm = record {
   names = nm;
 }
 
+pub room-within : {q w : List ℕ} {s : State} {k : ℕ} → Room q w s k → s .top ≤ length w
+room-within r = omega (arith, r .fits, r .low)
+
 -- whoever has room may enter
 pub room-ready : {q w : List ℕ} {s : State} {k : ℕ} (g : Span) → Room q w s k → Ready q w s g
 room-ready g r = record { base = r .base; fits = omega (arith, r .fits); over = omega (arith, r .fits); low = r .low; cap = r .cap; names = r .names }

@@ -1,7 +1,7 @@
 -- What a judgement and a rule promise: what comes back is what the definition says, at the same budget and fresh names.
 use mathlib.Core.Path.{_≡_}
 use mathlib.Core.List.{List}
-use Prim.Native.Nat.{ℕ, _+_, _*_, _≤_, _<_, _^_}
+use Prim.Native.Nat.{ℕ, _+_, _*_, _≤_, _<_}
 use lib.ListN.{length}
 use Rattle.definition.specs.Syntax.{TmVar, TyVar, Ty, Ctx, Judgement, Rule, ruleNumber, Tree, Trees, leaf, _&_, children, TypeError, unboundVariable, applicationTypeError, typeApplicationError, occursCheck, subtypingError, instantiationError, parameterMismatch}
 use Rattle.definition.specs.Run.{Out, done, fail, stop}
@@ -48,7 +48,6 @@ pub record Failed (q w′ : List ℕ) (b : Bad) (e : TypeError) (l : ℕ) : Type
   pub within : b .st .top ≤ length w′
   pub code : b .code ≡ errorCode e
   pub name : b .name ≡ errorAt e
-  pub small : b .name < 2 ^ 32
   pub types : ErrorTypes q w′ (b .st .top) (b .left) (b .right) e
   pub left : b .st .left ≡ l
 

@@ -31,7 +31,7 @@ pub struct Answer {
 pub struct Bad {
     pub st: State,
     pub code: usize,
-    pub name: usize,
+    pub name: u32,
     pub left: usize,
     pub right: usize,
 }

@@ -1,0 +1,583 @@
+-- What falls from call to call: four times the budget left, and one more for each step from a judgement to its rule (3), its operator's rule
+-- (2) and the rule's own function (1); and what each member claims of its callees.
+use Prim.Native.Nat.{ℕ, _<_, _+_, _*_}
+use borrow.Fn.Kinds.{In}
+use borrow.Fn.PlainCycle.{Measures, is, falls, and}
+use Rattle.inference.proofs.app_arr.Reads as app-arr
+use Rattle.inference.proofs.app_arr.Kinds as app-arr-kinds
+use Rattle.inference.proofs.+app_arr+app_etvar+app_rule+check+check_all+check_lam+check_rule+check_sub+infer+infer_abs+infer_ann+infer_app+infer_application+infer_binop+infer_both+infer_eq+infer_if+infer_let+infer_rule+infer_tabs+infer_tapp.Lts-app_arr as app-arr-lts
+use Rattle.inference.proofs.app_etvar.Reads as app-etvar
+use Rattle.inference.proofs.app_etvar.Kinds as app-etvar-kinds
+use Rattle.inference.proofs.+app_arr+app_etvar+app_rule+check+check_all+check_lam+check_rule+check_sub+infer+infer_abs+infer_ann+infer_app+infer_application+infer_binop+infer_both+infer_eq+infer_if+infer_let+infer_rule+infer_tabs+infer_tapp.Lts-app_etvar as app-etvar-lts
+use Rattle.inference.proofs.app_rule.Reads as app-rule
+use Rattle.inference.proofs.app_rule.Kinds as app-rule-kinds
+use Rattle.inference.proofs.+app_arr+app_etvar+app_rule+check+check_all+check_lam+check_rule+check_sub+infer+infer_abs+infer_ann+infer_app+infer_application+infer_binop+infer_both+infer_eq+infer_if+infer_let+infer_rule+infer_tabs+infer_tapp.Lts-app_rule as app-rule-lts
+use Rattle.inference.proofs.check.Reads as check
+use Rattle.inference.proofs.check.Kinds as check-kinds
+use Rattle.inference.proofs.+app_arr+app_etvar+app_rule+check+check_all+check_lam+check_rule+check_sub+infer+infer_abs+infer_ann+infer_app+infer_application+infer_binop+infer_both+infer_eq+infer_if+infer_let+infer_rule+infer_tabs+infer_tapp.Lts-check as check-lts
+use Rattle.inference.proofs.check_all.Reads as check-all
+use Rattle.inference.proofs.check_all.Kinds as check-all-kinds
+use Rattle.inference.proofs.+app_arr+app_etvar+app_rule+check+check_all+check_lam+check_rule+check_sub+infer+infer_abs+infer_ann+infer_app+infer_application+infer_binop+infer_both+infer_eq+infer_if+infer_let+infer_rule+infer_tabs+infer_tapp.Lts-check_all as check-all-lts
+use Rattle.inference.proofs.check_lam.Reads as check-lam
+use Rattle.inference.proofs.check_lam.Kinds as check-lam-kinds
+use Rattle.inference.proofs.+app_arr+app_etvar+app_rule+check+check_all+check_lam+check_rule+check_sub+infer+infer_abs+infer_ann+infer_app+infer_application+infer_binop+infer_both+infer_eq+infer_if+infer_let+infer_rule+infer_tabs+infer_tapp.Lts-check_lam as check-lam-lts
+use Rattle.inference.proofs.check_rule.Reads as check-rule
+use Rattle.inference.proofs.check_rule.Kinds as check-rule-kinds
+use Rattle.inference.proofs.+app_arr+app_etvar+app_rule+check+check_all+check_lam+check_rule+check_sub+infer+infer_abs+infer_ann+infer_app+infer_application+infer_binop+infer_both+infer_eq+infer_if+infer_let+infer_rule+infer_tabs+infer_tapp.Lts-check_rule as check-rule-lts
+use Rattle.inference.proofs.check_sub.Reads as check-sub
+use Rattle.inference.proofs.check_sub.Kinds as check-sub-kinds
+use Rattle.inference.proofs.+app_arr+app_etvar+app_rule+check+check_all+check_lam+check_rule+check_sub+infer+infer_abs+infer_ann+infer_app+infer_application+infer_binop+infer_both+infer_eq+infer_if+infer_let+infer_rule+infer_tabs+infer_tapp.Lts-check_sub as check-sub-lts
+use Rattle.inference.proofs.infer.Reads as infer
+use Rattle.inference.proofs.infer.Kinds as infer-kinds
+use Rattle.inference.proofs.+app_arr+app_etvar+app_rule+check+check_all+check_lam+check_rule+check_sub+infer+infer_abs+infer_ann+infer_app+infer_application+infer_binop+infer_both+infer_eq+infer_if+infer_let+infer_rule+infer_tabs+infer_tapp.Lts-infer as infer-lts
+use Rattle.inference.proofs.infer_abs.Reads as infer-abs
+use Rattle.inference.proofs.infer_abs.Kinds as infer-abs-kinds
+use Rattle.inference.proofs.+app_arr+app_etvar+app_rule+check+check_all+check_lam+check_rule+check_sub+infer+infer_abs+infer_ann+infer_app+infer_application+infer_binop+infer_both+infer_eq+infer_if+infer_let+infer_rule+infer_tabs+infer_tapp.Lts-infer_abs as infer-abs-lts
+use Rattle.inference.proofs.infer_ann.Reads as infer-ann
+use Rattle.inference.proofs.infer_ann.Kinds as infer-ann-kinds
+use Rattle.inference.proofs.+app_arr+app_etvar+app_rule+check+check_all+check_lam+check_rule+check_sub+infer+infer_abs+infer_ann+infer_app+infer_application+infer_binop+infer_both+infer_eq+infer_if+infer_let+infer_rule+infer_tabs+infer_tapp.Lts-infer_ann as infer-ann-lts
+use Rattle.inference.proofs.infer_app.Reads as infer-app
+use Rattle.inference.proofs.infer_app.Kinds as infer-app-kinds
+use Rattle.inference.proofs.+app_arr+app_etvar+app_rule+check+check_all+check_lam+check_rule+check_sub+infer+infer_abs+infer_ann+infer_app+infer_application+infer_binop+infer_both+infer_eq+infer_if+infer_let+infer_rule+infer_tabs+infer_tapp.Lts-infer_app as infer-app-lts
+use Rattle.inference.proofs.infer_application.Reads as infer-application
+use Rattle.inference.proofs.infer_application.Kinds as infer-application-kinds
+use Rattle.inference.proofs.+app_arr+app_etvar+app_rule+check+check_all+check_lam+check_rule+check_sub+infer+infer_abs+infer_ann+infer_app+infer_application+infer_binop+infer_both+infer_eq+infer_if+infer_let+infer_rule+infer_tabs+infer_tapp.Lts-infer_application as infer-application-lts
+use Rattle.inference.proofs.infer_binop.Reads as infer-binop
+use Rattle.inference.proofs.infer_binop.Kinds as infer-binop-kinds
+use Rattle.inference.proofs.+app_arr+app_etvar+app_rule+check+check_all+check_lam+check_rule+check_sub+infer+infer_abs+infer_ann+infer_app+infer_application+infer_binop+infer_both+infer_eq+infer_if+infer_let+infer_rule+infer_tabs+infer_tapp.Lts-infer_binop as infer-binop-lts
+use Rattle.inference.proofs.infer_both.Reads as infer-both
+use Rattle.inference.proofs.infer_both.Kinds as infer-both-kinds
+use Rattle.inference.proofs.+app_arr+app_etvar+app_rule+check+check_all+check_lam+check_rule+check_sub+infer+infer_abs+infer_ann+infer_app+infer_application+infer_binop+infer_both+infer_eq+infer_if+infer_let+infer_rule+infer_tabs+infer_tapp.Lts-infer_both as infer-both-lts
+use Rattle.inference.proofs.infer_eq.Reads as infer-eq
+use Rattle.inference.proofs.infer_eq.Kinds as infer-eq-kinds
+use Rattle.inference.proofs.+app_arr+app_etvar+app_rule+check+check_all+check_lam+check_rule+check_sub+infer+infer_abs+infer_ann+infer_app+infer_application+infer_binop+infer_both+infer_eq+infer_if+infer_let+infer_rule+infer_tabs+infer_tapp.Lts-infer_eq as infer-eq-lts
+use Rattle.inference.proofs.infer_if.Reads as infer-if
+use Rattle.inference.proofs.infer_if.Kinds as infer-if-kinds
+use Rattle.inference.proofs.+app_arr+app_etvar+app_rule+check+check_all+check_lam+check_rule+check_sub+infer+infer_abs+infer_ann+infer_app+infer_application+infer_binop+infer_both+infer_eq+infer_if+infer_let+infer_rule+infer_tabs+infer_tapp.Lts-infer_if as infer-if-lts
+use Rattle.inference.proofs.infer_let.Reads as infer-let
+use Rattle.inference.proofs.infer_let.Kinds as infer-let-kinds
+use Rattle.inference.proofs.+app_arr+app_etvar+app_rule+check+check_all+check_lam+check_rule+check_sub+infer+infer_abs+infer_ann+infer_app+infer_application+infer_binop+infer_both+infer_eq+infer_if+infer_let+infer_rule+infer_tabs+infer_tapp.Lts-infer_let as infer-let-lts
+use Rattle.inference.proofs.infer_rule.Reads as infer-rule
+use Rattle.inference.proofs.infer_rule.Kinds as infer-rule-kinds
+use Rattle.inference.proofs.+app_arr+app_etvar+app_rule+check+check_all+check_lam+check_rule+check_sub+infer+infer_abs+infer_ann+infer_app+infer_application+infer_binop+infer_both+infer_eq+infer_if+infer_let+infer_rule+infer_tabs+infer_tapp.Lts-infer_rule as infer-rule-lts
+use Rattle.inference.proofs.infer_tabs.Reads as infer-tabs
+use Rattle.inference.proofs.infer_tabs.Kinds as infer-tabs-kinds
+use Rattle.inference.proofs.+app_arr+app_etvar+app_rule+check+check_all+check_lam+check_rule+check_sub+infer+infer_abs+infer_ann+infer_app+infer_application+infer_binop+infer_both+infer_eq+infer_if+infer_let+infer_rule+infer_tabs+infer_tapp.Lts-infer_tabs as infer-tabs-lts
+use Rattle.inference.proofs.infer_tapp.Reads as infer-tapp
+use Rattle.inference.proofs.infer_tapp.Kinds as infer-tapp-kinds
+use Rattle.inference.proofs.+app_arr+app_etvar+app_rule+check+check_all+check_lam+check_rule+check_sub+infer+infer_abs+infer_ann+infer_app+infer_application+infer_binop+infer_both+infer_eq+infer_if+infer_let+infer_rule+infer_tabs+infer_tapp.Lts-infer_tapp as infer-tapp-lts
+use Rattle.contexts.proofs.push.Reads as push-reads
+use Rattle.inference.proofs.subtype_applied.Reads as subtype-applied-reads
+use Rattle.judging.proofs.enter.Reads as enter-reads
+use Rattle.judging.proofs.leave.Reads as leave-reads
+use Rattle.layout.proofs.word.Reads as word-reads
+use Rattle.rules.proofs.check_choice.Reads as check-choice-reads
+use Rattle.rules.proofs.check_lit.Reads as check-lit-reads
+use Rattle.rules.proofs.infer_lit_bool.Reads as infer-lit-bool-reads
+use Rattle.rules.proofs.infer_lit_int.Reads as infer-lit-int-reads
+use Rattle.rules.proofs.infer_var.Reads as infer-var-reads
+use Rattle.rules.proofs.instantiate.Reads as instantiate-reads
+use Rattle.rules.proofs.keep_out.Reads as keep-out-reads
+use Rattle.rules.proofs.lam_in.Reads as lam-in-reads
+use Rattle.rules.proofs.parameter.Reads as parameter-reads
+use Rattle.rules.proofs.plain_out.Reads as plain-out-reads
+use Rattle.rules.proofs.refuse_app.Reads as refuse-app-reads
+use Rattle.rules.proofs.tabs_out.Reads as tabs-out-reads
+use Rattle.steps.proofs.open_right.Reads as open-right-reads
+use Rattle.steps.proofs.part.Reads as part-reads
+use Rattle.steps.proofs.right_alone.Reads as right-alone-reads
+use Rattle.substitution.proofs.apply_ctx_type.Reads as apply-ctx-type-reads
+use Rattle.types.proofs.left_of.Reads as left-of-reads
+use Rattle.types.proofs.name_of.Reads as name-of-reads
+use Rattle.types.proofs.right_of.Reads as right-of-reads
+use Rattle.types.proofs.tag.Reads as tag-reads
+
+abbrev pub μ-app-arr : Measures 2 app-arr-kinds.ps ℕ
+μ-app-arr κs a = 4 * a .1 .1 .1 .0 .left + 1
+
+abbrev pub μ-app-etvar : Measures 2 app-etvar-kinds.ps ℕ
+μ-app-etvar κs a = 4 * a .1 .1 .1 .0 .left + 1
+
+abbrev pub μ-app-rule : Measures 2 app-rule-kinds.ps ℕ
+μ-app-rule κs a = 4 * a .1 .1 .1 .0 .left + 3
+
+abbrev pub μ-check : Measures 2 check-kinds.ps ℕ
+μ-check κs a = 4 * a .1 .1 .1 .0 .left
+
+abbrev pub μ-check-all : Measures 2 check-all-kinds.ps ℕ
+μ-check-all κs a = 4 * a .1 .1 .1 .0 .left + 1
+
+abbrev pub μ-check-lam : Measures 2 check-lam-kinds.ps ℕ
+μ-check-lam κs a = 4 * a .1 .1 .1 .0 .left + 1
+
+abbrev pub μ-check-rule : Measures 2 check-rule-kinds.ps ℕ
+μ-check-rule κs a = 4 * a .1 .1 .1 .0 .left + 3
+
+abbrev pub μ-check-sub : Measures 2 check-sub-kinds.ps ℕ
+μ-check-sub κs a = 4 * a .1 .1 .1 .0 .left + 1
+
+abbrev pub μ-infer : Measures 2 infer-kinds.ps ℕ
+μ-infer κs a = 4 * a .1 .1 .1 .0 .left
+
+abbrev pub μ-infer-abs : Measures 2 infer-abs-kinds.ps ℕ
+μ-infer-abs κs a = 4 * a .1 .1 .1 .0 .left + 1
+
+abbrev pub μ-infer-ann : Measures 2 infer-ann-kinds.ps ℕ
+μ-infer-ann κs a = 4 * a .1 .1 .1 .0 .left + 1
+
+abbrev pub μ-infer-app : Measures 2 infer-app-kinds.ps ℕ
+μ-infer-app κs a = 4 * a .1 .1 .1 .0 .left
+
+abbrev pub μ-infer-application : Measures 2 infer-application-kinds.ps ℕ
+μ-infer-application κs a = 4 * a .1 .1 .1 .0 .left + 1
+
+abbrev pub μ-infer-binop : Measures 2 infer-binop-kinds.ps ℕ
+μ-infer-binop κs a = 4 * a .1 .1 .1 .0 .left + 2
+
+abbrev pub μ-infer-both : Measures 2 infer-both-kinds.ps ℕ
+μ-infer-both κs a = 4 * a .1 .1 .1 .0 .left + 1
+
+abbrev pub μ-infer-eq : Measures 2 infer-eq-kinds.ps ℕ
+μ-infer-eq κs a = 4 * a .1 .1 .1 .0 .left + 1
+
+abbrev pub μ-infer-if : Measures 2 infer-if-kinds.ps ℕ
+μ-infer-if κs a = 4 * a .1 .1 .1 .0 .left + 1
+
+abbrev pub μ-infer-let : Measures 2 infer-let-kinds.ps ℕ
+μ-infer-let κs a = 4 * a .1 .1 .1 .0 .left + 1
+
+abbrev pub μ-infer-rule : Measures 2 infer-rule-kinds.ps ℕ
+μ-infer-rule κs a = 4 * a .1 .1 .1 .0 .left + 3
+
+abbrev pub μ-infer-tabs : Measures 2 infer-tabs-kinds.ps ℕ
+μ-infer-tabs κs a = 4 * a .1 .1 .1 .0 .left + 1
+
+abbrev pub μ-infer-tapp : Measures 2 infer-tapp-kinds.ps ℕ
+μ-infer-tapp κs a = 4 * a .1 .1 .1 .0 .left + 1
+
+abbrev pub app-arr-at : ℕ → In 2 app-arr-kinds.ps
+app-arr-at t = and 2 app-arr-kinds.ps (is 2 app-arr-kinds.ps μ-app-arr t) app-arr.Pre
+
+abbrev pub app-arr-below : ℕ → In 2 app-arr-kinds.ps
+app-arr-below t = and 2 app-arr-kinds.ps (falls 2 app-arr-kinds.ps _<_ μ-app-arr t) app-arr.Pre
+
+abbrev pub app-etvar-at : ℕ → In 2 app-etvar-kinds.ps
+app-etvar-at t = and 2 app-etvar-kinds.ps (is 2 app-etvar-kinds.ps μ-app-etvar t) app-etvar.Pre
+
+abbrev pub app-etvar-below : ℕ → In 2 app-etvar-kinds.ps
+app-etvar-below t =
+    and 2 app-etvar-kinds.ps (falls 2 app-etvar-kinds.ps _<_ μ-app-etvar t) app-etvar.Pre
+
+abbrev pub app-rule-at : ℕ → In 2 app-rule-kinds.ps
+app-rule-at t = and 2 app-rule-kinds.ps (is 2 app-rule-kinds.ps μ-app-rule t) app-rule.Pre
+
+abbrev pub app-rule-below : ℕ → In 2 app-rule-kinds.ps
+app-rule-below t =
+    and 2 app-rule-kinds.ps (falls 2 app-rule-kinds.ps _<_ μ-app-rule t) app-rule.Pre
+
+abbrev pub check-at : ℕ → In 2 check-kinds.ps
+check-at t = and 2 check-kinds.ps (is 2 check-kinds.ps μ-check t) check.Pre
+
+abbrev pub check-below : ℕ → In 2 check-kinds.ps
+check-below t = and 2 check-kinds.ps (falls 2 check-kinds.ps _<_ μ-check t) check.Pre
+
+abbrev pub check-all-at : ℕ → In 2 check-all-kinds.ps
+check-all-at t = and 2 check-all-kinds.ps (is 2 check-all-kinds.ps μ-check-all t) check-all.Pre
+
+abbrev pub check-all-below : ℕ → In 2 check-all-kinds.ps
+check-all-below t =
+    and 2 check-all-kinds.ps (falls 2 check-all-kinds.ps _<_ μ-check-all t) check-all.Pre
+
+abbrev pub check-lam-at : ℕ → In 2 check-lam-kinds.ps
+check-lam-at t = and 2 check-lam-kinds.ps (is 2 check-lam-kinds.ps μ-check-lam t) check-lam.Pre
+
+abbrev pub check-lam-below : ℕ → In 2 check-lam-kinds.ps
+check-lam-below t =
+    and 2 check-lam-kinds.ps (falls 2 check-lam-kinds.ps _<_ μ-check-lam t) check-lam.Pre
+
+abbrev pub check-rule-at : ℕ → In 2 check-rule-kinds.ps
+check-rule-at t =
+    and 2 check-rule-kinds.ps (is 2 check-rule-kinds.ps μ-check-rule t) check-rule.Pre
+
+abbrev pub check-rule-below : ℕ → In 2 check-rule-kinds.ps
+check-rule-below t =
+    and 2 check-rule-kinds.ps (falls 2 check-rule-kinds.ps _<_ μ-check-rule t) check-rule.Pre
+
+abbrev pub check-sub-at : ℕ → In 2 check-sub-kinds.ps
+check-sub-at t = and 2 check-sub-kinds.ps (is 2 check-sub-kinds.ps μ-check-sub t) check-sub.Pre
+
+abbrev pub check-sub-below : ℕ → In 2 check-sub-kinds.ps
+check-sub-below t =
+    and 2 check-sub-kinds.ps (falls 2 check-sub-kinds.ps _<_ μ-check-sub t) check-sub.Pre
+
+abbrev pub infer-at : ℕ → In 2 infer-kinds.ps
+infer-at t = and 2 infer-kinds.ps (is 2 infer-kinds.ps μ-infer t) infer.Pre
+
+abbrev pub infer-below : ℕ → In 2 infer-kinds.ps
+infer-below t = and 2 infer-kinds.ps (falls 2 infer-kinds.ps _<_ μ-infer t) infer.Pre
+
+abbrev pub infer-abs-at : ℕ → In 2 infer-abs-kinds.ps
+infer-abs-at t = and 2 infer-abs-kinds.ps (is 2 infer-abs-kinds.ps μ-infer-abs t) infer-abs.Pre
+
+abbrev pub infer-abs-below : ℕ → In 2 infer-abs-kinds.ps
+infer-abs-below t =
+    and 2 infer-abs-kinds.ps (falls 2 infer-abs-kinds.ps _<_ μ-infer-abs t) infer-abs.Pre
+
+abbrev pub infer-ann-at : ℕ → In 2 infer-ann-kinds.ps
+infer-ann-at t = and 2 infer-ann-kinds.ps (is 2 infer-ann-kinds.ps μ-infer-ann t) infer-ann.Pre
+
+abbrev pub infer-ann-below : ℕ → In 2 infer-ann-kinds.ps
+infer-ann-below t =
+    and 2 infer-ann-kinds.ps (falls 2 infer-ann-kinds.ps _<_ μ-infer-ann t) infer-ann.Pre
+
+abbrev pub infer-app-at : ℕ → In 2 infer-app-kinds.ps
+infer-app-at t = and 2 infer-app-kinds.ps (is 2 infer-app-kinds.ps μ-infer-app t) infer-app.Pre
+
+abbrev pub infer-app-below : ℕ → In 2 infer-app-kinds.ps
+infer-app-below t =
+    and 2 infer-app-kinds.ps (falls 2 infer-app-kinds.ps _<_ μ-infer-app t) infer-app.Pre
+
+abbrev pub infer-application-at : ℕ → In 2 infer-application-kinds.ps
+infer-application-at t =
+    and
+    2
+    infer-application-kinds.ps
+    (is 2 infer-application-kinds.ps μ-infer-application t)
+    infer-application.Pre
+
+abbrev pub infer-application-below : ℕ → In 2 infer-application-kinds.ps
+infer-application-below t =
+    and
+    2
+    infer-application-kinds.ps
+    (falls 2 infer-application-kinds.ps _<_ μ-infer-application t)
+    infer-application.Pre
+
+abbrev pub infer-binop-at : ℕ → In 2 infer-binop-kinds.ps
+infer-binop-at t =
+    and 2 infer-binop-kinds.ps (is 2 infer-binop-kinds.ps μ-infer-binop t) infer-binop.Pre
+
+abbrev pub infer-binop-below : ℕ → In 2 infer-binop-kinds.ps
+infer-binop-below t =
+    and 2 infer-binop-kinds.ps (falls 2 infer-binop-kinds.ps _<_ μ-infer-binop t) infer-binop.Pre
+
+abbrev pub infer-both-at : ℕ → In 2 infer-both-kinds.ps
+infer-both-at t =
+    and 2 infer-both-kinds.ps (is 2 infer-both-kinds.ps μ-infer-both t) infer-both.Pre
+
+abbrev pub infer-both-below : ℕ → In 2 infer-both-kinds.ps
+infer-both-below t =
+    and 2 infer-both-kinds.ps (falls 2 infer-both-kinds.ps _<_ μ-infer-both t) infer-both.Pre
+
+abbrev pub infer-eq-at : ℕ → In 2 infer-eq-kinds.ps
+infer-eq-at t = and 2 infer-eq-kinds.ps (is 2 infer-eq-kinds.ps μ-infer-eq t) infer-eq.Pre
+
+abbrev pub infer-eq-below : ℕ → In 2 infer-eq-kinds.ps
+infer-eq-below t =
+    and 2 infer-eq-kinds.ps (falls 2 infer-eq-kinds.ps _<_ μ-infer-eq t) infer-eq.Pre
+
+abbrev pub infer-if-at : ℕ → In 2 infer-if-kinds.ps
+infer-if-at t = and 2 infer-if-kinds.ps (is 2 infer-if-kinds.ps μ-infer-if t) infer-if.Pre
+
+abbrev pub infer-if-below : ℕ → In 2 infer-if-kinds.ps
+infer-if-below t =
+    and 2 infer-if-kinds.ps (falls 2 infer-if-kinds.ps _<_ μ-infer-if t) infer-if.Pre
+
+abbrev pub infer-let-at : ℕ → In 2 infer-let-kinds.ps
+infer-let-at t = and 2 infer-let-kinds.ps (is 2 infer-let-kinds.ps μ-infer-let t) infer-let.Pre
+
+abbrev pub infer-let-below : ℕ → In 2 infer-let-kinds.ps
+infer-let-below t =
+    and 2 infer-let-kinds.ps (falls 2 infer-let-kinds.ps _<_ μ-infer-let t) infer-let.Pre
+
+abbrev pub infer-rule-at : ℕ → In 2 infer-rule-kinds.ps
+infer-rule-at t =
+    and 2 infer-rule-kinds.ps (is 2 infer-rule-kinds.ps μ-infer-rule t) infer-rule.Pre
+
+abbrev pub infer-rule-below : ℕ → In 2 infer-rule-kinds.ps
+infer-rule-below t =
+    and 2 infer-rule-kinds.ps (falls 2 infer-rule-kinds.ps _<_ μ-infer-rule t) infer-rule.Pre
+
+abbrev pub infer-tabs-at : ℕ → In 2 infer-tabs-kinds.ps
+infer-tabs-at t =
+    and 2 infer-tabs-kinds.ps (is 2 infer-tabs-kinds.ps μ-infer-tabs t) infer-tabs.Pre
+
+abbrev pub infer-tabs-below : ℕ → In 2 infer-tabs-kinds.ps
+infer-tabs-below t =
+    and 2 infer-tabs-kinds.ps (falls 2 infer-tabs-kinds.ps _<_ μ-infer-tabs t) infer-tabs.Pre
+
+abbrev pub infer-tapp-at : ℕ → In 2 infer-tapp-kinds.ps
+infer-tapp-at t =
+    and 2 infer-tapp-kinds.ps (is 2 infer-tapp-kinds.ps μ-infer-tapp t) infer-tapp.Pre
+
+abbrev pub infer-tapp-below : ℕ → In 2 infer-tapp-kinds.ps
+infer-tapp-below t =
+    and 2 infer-tapp-kinds.ps (falls 2 infer-tapp-kinds.ps _<_ μ-infer-tapp t) infer-tapp.Pre
+
+abbrev pub app-arr-claims : ℕ → app-arr-lts.Claims
+app-arr-claims t = (
+  left-of-reads.Asked,
+  left-of-reads.Learnt,
+  right-of-reads.Asked,
+  right-of-reads.Learnt,
+  check-below t,
+  check.Post,
+  plain-out-reads.Asked,
+  plain-out-reads.Learnt,
+)
+
+abbrev pub app-etvar-claims : ℕ → app-etvar-lts.Claims
+app-etvar-claims t = (
+  name-of-reads.Asked,
+  name-of-reads.Learnt,
+  part-reads.Asked,
+  part-reads.Learnt,
+  check-below t,
+  check.Post,
+  plain-out-reads.Asked,
+  plain-out-reads.Learnt,
+)
+
+abbrev pub app-rule-claims : ℕ → app-rule-lts.Claims
+app-rule-claims t = (
+  tag-reads.Asked,
+  tag-reads.Learnt,
+  app-arr-below t,
+  app-arr.Post,
+  app-etvar-below t,
+  app-etvar.Post,
+  refuse-app-reads.Asked,
+  refuse-app-reads.Learnt,
+)
+
+abbrev pub check-claims : ℕ → check-lts.Claims
+check-claims t = (
+  enter-reads.Asked,
+  enter-reads.Learnt,
+  check-rule-below t,
+  check-rule.Post,
+  leave-reads.Asked,
+  leave-reads.Learnt,
+)
+
+abbrev pub check-all-claims : ℕ → check-all-lts.Claims
+check-all-claims t = (
+  open-right-reads.Asked,
+  open-right-reads.Learnt,
+  check-below t,
+  check.Post,
+  right-alone-reads.Asked,
+  right-alone-reads.Learnt,
+)
+
+abbrev pub check-lam-claims : ℕ → check-lam-lts.Claims
+check-lam-claims t = (
+  word-reads.Asked,
+  word-reads.Learnt,
+  left-of-reads.Asked,
+  left-of-reads.Learnt,
+  right-of-reads.Asked,
+  right-of-reads.Learnt,
+  parameter-reads.Asked,
+  parameter-reads.Learnt,
+  push-reads.Asked,
+  push-reads.Learnt,
+  check-below t,
+  check.Post,
+  right-alone-reads.Asked,
+  right-alone-reads.Learnt,
+)
+
+abbrev pub check-rule-claims : ℕ → check-rule-lts.Claims
+check-rule-claims t = (
+  word-reads.Asked,
+  word-reads.Learnt,
+  tag-reads.Asked,
+  tag-reads.Learnt,
+  check-choice-reads.Asked,
+  check-choice-reads.Learnt,
+  check-lam-below t,
+  check-lam.Post,
+  check-all-below t,
+  check-all.Post,
+  check-lit-reads.Asked,
+  check-lit-reads.Learnt,
+  check-sub-below t,
+  check-sub.Post,
+)
+
+abbrev pub check-sub-claims : ℕ → check-sub-lts.Claims
+check-sub-claims t = (
+  infer-below t,
+  infer.Post,
+  subtype-applied-reads.Asked,
+  subtype-applied-reads.Learnt,
+  plain-out-reads.Asked,
+  plain-out-reads.Learnt,
+)
+
+abbrev pub infer-claims : ℕ → infer-lts.Claims
+infer-claims t = (
+  enter-reads.Asked,
+  enter-reads.Learnt,
+  infer-rule-below t,
+  infer-rule.Post,
+  leave-reads.Asked,
+  leave-reads.Learnt,
+)
+
+abbrev pub infer-abs-claims : ℕ → infer-abs-lts.Claims
+infer-abs-claims t = (
+  word-reads.Asked,
+  word-reads.Learnt,
+  lam-in-reads.Asked,
+  lam-in-reads.Learnt,
+  check-below t,
+  check.Post,
+  keep-out-reads.Asked,
+  keep-out-reads.Learnt,
+)
+
+abbrev pub infer-ann-claims : ℕ → infer-ann-lts.Claims
+infer-ann-claims t = (
+  word-reads.Asked,
+  word-reads.Learnt,
+  check-below t,
+  check.Post,
+  plain-out-reads.Asked,
+  plain-out-reads.Learnt,
+)
+
+abbrev pub infer-app-claims : ℕ → infer-app-lts.Claims
+infer-app-claims t = (
+  enter-reads.Asked,
+  enter-reads.Learnt,
+  app-rule-below t,
+  app-rule.Post,
+  leave-reads.Asked,
+  leave-reads.Learnt,
+)
+
+abbrev pub infer-application-claims : ℕ → infer-application-lts.Claims
+infer-application-claims t = (
+  word-reads.Asked,
+  word-reads.Learnt,
+  infer-below t,
+  infer.Post,
+  apply-ctx-type-reads.Asked,
+  apply-ctx-type-reads.Learnt,
+  infer-app-below t,
+  infer-app.Post,
+  plain-out-reads.Asked,
+  plain-out-reads.Learnt,
+)
+
+abbrev pub infer-binop-claims : ℕ → infer-binop-lts.Claims
+infer-binop-claims t = (
+  word-reads.Asked,
+  word-reads.Learnt,
+  infer-both-below t,
+  infer-both.Post,
+  infer-eq-below t,
+  infer-eq.Post,
+)
+
+abbrev pub infer-both-claims : ℕ → infer-both-lts.Claims
+infer-both-claims t = (
+  word-reads.Asked,
+  word-reads.Learnt,
+  check-below t,
+  check.Post,
+  plain-out-reads.Asked,
+  plain-out-reads.Learnt,
+)
+
+abbrev pub infer-eq-claims : ℕ → infer-eq-lts.Claims
+infer-eq-claims t = (
+  word-reads.Asked,
+  word-reads.Learnt,
+  infer-below t,
+  infer.Post,
+  check-below t,
+  check.Post,
+  plain-out-reads.Asked,
+  plain-out-reads.Learnt,
+)
+
+abbrev pub infer-if-claims : ℕ → infer-if-lts.Claims
+infer-if-claims t = (
+  word-reads.Asked,
+  word-reads.Learnt,
+  check-below t,
+  check.Post,
+  infer-below t,
+  infer.Post,
+  subtype-applied-reads.Asked,
+  subtype-applied-reads.Learnt,
+  plain-out-reads.Asked,
+  plain-out-reads.Learnt,
+)
+
+abbrev pub infer-let-claims : ℕ → infer-let-lts.Claims
+infer-let-claims t = (
+  word-reads.Asked,
+  word-reads.Learnt,
+  infer-below t,
+  infer.Post,
+  push-reads.Asked,
+  push-reads.Learnt,
+  keep-out-reads.Asked,
+  keep-out-reads.Learnt,
+)
+
+abbrev pub infer-rule-claims : ℕ → infer-rule-lts.Claims
+infer-rule-claims t = (
+  word-reads.Asked,
+  word-reads.Learnt,
+  infer-var-reads.Asked,
+  infer-var-reads.Learnt,
+  infer-ann-below t,
+  infer-ann.Post,
+  infer-lit-int-reads.Asked,
+  infer-lit-int-reads.Learnt,
+  infer-lit-bool-reads.Asked,
+  infer-lit-bool-reads.Learnt,
+  infer-abs-below t,
+  infer-abs.Post,
+  infer-application-below t,
+  infer-application.Post,
+  infer-tabs-below t,
+  infer-tabs.Post,
+  infer-tapp-below t,
+  infer-tapp.Post,
+  infer-let-below t,
+  infer-let.Post,
+  infer-if-below t,
+  infer-if.Post,
+  infer-binop-below t,
+  infer-binop.Post,
+)
+
+abbrev pub infer-tabs-claims : ℕ → infer-tabs-lts.Claims
+infer-tabs-claims t = (
+  push-reads.Asked,
+  push-reads.Learnt,
+  infer-below t,
+  infer.Post,
+  apply-ctx-type-reads.Asked,
+  apply-ctx-type-reads.Learnt,
+  tabs-out-reads.Asked,
+  tabs-out-reads.Learnt,
+)
+
+abbrev pub infer-tapp-claims : ℕ → infer-tapp-lts.Claims
+infer-tapp-claims t = (
+  word-reads.Asked,
+  word-reads.Learnt,
+  infer-below t,
+  infer.Post,
+  instantiate-reads.Asked,
+  instantiate-reads.Learnt,
+  plain-out-reads.Asked,
+  plain-out-reads.Learnt,
+)

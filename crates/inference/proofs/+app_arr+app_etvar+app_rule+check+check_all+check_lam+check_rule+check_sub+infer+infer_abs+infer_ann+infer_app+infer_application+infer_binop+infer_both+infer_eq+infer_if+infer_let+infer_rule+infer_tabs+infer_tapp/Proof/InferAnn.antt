@@ -1,0 +1,39 @@
+-- `infer_ann`: InfAnn.
+use borrow.Author.Needs.{needs}
+use Prim.Native.Nat.{ℕ}
+use Rattle.inference.proofs.InferOne.{ann-table, ann-ask, ann-else, ann-done}
+use Rattle.inference.proofs.Starting.{place}
+use native.Mathlib.Omega.{arith}
+use Rattle.inference.proofs.infer_ann.Reads as infer-ann
+use Rattle.inference.proofs.+app_arr+app_etvar+app_rule+check+check_all+check_lam+check_rule+check_sub+infer+infer_abs+infer_ann+infer_app+infer_application+infer_binop+infer_both+infer_eq+infer_if+infer_let+infer_rule+infer_tabs+infer_tapp.Lts-infer_ann as infer-ann-lts
+use Rattle.inference.proofs.+app_arr+app_etvar+app_rule+check+check_all+check_lam+check_rule+check_sub+infer+infer_abs+infer_ann+infer_app+infer_application+infer_binop+infer_both+infer_eq+infer_if+infer_let+infer_rule+infer_tabs+infer_tapp.Proof.Base.{infer-ann-at, infer-ann-claims}
+
+pub infer-ann-add-e : (t : ℕ) → infer-ann-lts.Need-add-e (infer-ann-claims t) (infer-ann-at t) infer-ann.Post
+infer-ann-add-e t c = omega (arith, place (c .before .before .pre .1))
+
+pub infer-ann-add-word : (t : ℕ) → infer-ann-lts.Need-add-word (infer-ann-claims t) (infer-ann-at t) infer-ann.Post
+infer-ann-add-word t c = omega (arith, place (c .before .before .before .pre .1))
+
+pub infer-ann-word-requires : (t : ℕ) → infer-ann-lts.Need-word-requires (infer-ann-claims t) (infer-ann-at t) infer-ann.Post
+infer-ann-word-requires t c κs = ann-table (c .before .before .before .args .m) (c .before .before .before .pre .1)
+
+pub infer-ann-check-requires : (t : ℕ) → infer-ann-lts.Need-check-requires (infer-ann-claims t) (infer-ann-at t) infer-ann.Post
+infer-ann-check-requires t c κs = (omega (arith, c .before .before .before .before .before .pre .0), ann-ask (c .before .before .before .before .before .args .m) (c .before .before .before .before .before .pre .1) (c .before .word .ensures .0))
+
+pub infer-ann-enum-known-z : (t : ℕ) → infer-ann-lts.Need-enum-known-z (infer-ann-claims t) (infer-ann-at t) infer-ann.Post
+infer-ann-enum-known-z t c = search needs
+
+pub infer-ann-same-length : (t : ℕ) → infer-ann-lts.Need-same-length (infer-ann-claims t) (infer-ann-at t) infer-ann.Post
+infer-ann-same-length t c = search needs
+
+pub infer-ann-returns : (t : ℕ) → infer-ann-lts.Need-returns (infer-ann-claims t) (infer-ann-at t) infer-ann.Post
+infer-ann-returns t c = ann-else (c .before .before .before .before .before .before .before .before .before .args .m) (c .before .before .before .before .before .before .before .before .before .pre .1) (c .before .before .before .before .before .word .ensures .0) (c .before .before .before .check .ensures) (c .match .keys2)
+
+pub infer-ann-plain-out-requires : (t : ℕ) → infer-ann-lts.Need-plain-out-requires (infer-ann-claims t) (infer-ann-at t) infer-ann.Post
+infer-ann-plain-out-requires t c κs = tt
+
+pub infer-ann-same-length-2 : (t : ℕ) → infer-ann-lts.Need-same-length-2 (infer-ann-claims t) (infer-ann-at t) infer-ann.Post
+infer-ann-same-length-2 t c = search needs
+
+pub infer-ann-returns-2 : (t : ℕ) → infer-ann-lts.Need-returns-2 (infer-ann-claims t) (infer-ann-at t) infer-ann.Post
+infer-ann-returns-2 t c = ann-done (c .before .before .before .before .before .before .before .before .before .before .before .before .before .before .args .m) (c .before .before .before .before .before .before .before .before .before .before .before .before .before .before .pre .1) (c .before .before .before .before .before .before .before .before .before .before .word .ensures .0) (c .before .before .before .before .before .before .before .before .check .ensures) (c .before .before .before .before .z .given .1) (c .plain-out .ensures)

@@ -1,0 +1,68 @@
+-- `infer_application`: InfApp.
+use borrow.Author.Needs.{needs}
+use Prim.Native.Nat.{ℕ}
+use mathlib.Core.Path.{_∙_}
+use Rattle.inference.proofs.InferTwo.{app-table, app-ask, app-else, app-apply, app-spent, app-ask₂, app-falls, app-else₂, app-done}
+use Rattle.inference.proofs.Starting.{place}
+use native.Mathlib.Omega.{arith}
+use Rattle.inference.proofs.infer_application.Reads as infer-application
+use Rattle.inference.proofs.+app_arr+app_etvar+app_rule+check+check_all+check_lam+check_rule+check_sub+infer+infer_abs+infer_ann+infer_app+infer_application+infer_binop+infer_both+infer_eq+infer_if+infer_let+infer_rule+infer_tabs+infer_tapp.Lts-infer_application as infer-application-lts
+use Rattle.inference.proofs.+app_arr+app_etvar+app_rule+check+check_all+check_lam+check_rule+check_sub+infer+infer_abs+infer_ann+infer_app+infer_application+infer_binop+infer_both+infer_eq+infer_if+infer_let+infer_rule+infer_tabs+infer_tapp.Proof.Base.{infer-application-at, infer-application-claims}
+
+pub infer-application-add-e : (t : ℕ) → infer-application-lts.Need-add-e (infer-application-claims t) (infer-application-at t) infer-application.Post
+infer-application-add-e t c = omega (arith, place (c .before .before .pre .1))
+
+pub infer-application-add-word : (t : ℕ) → infer-application-lts.Need-add-word (infer-application-claims t) (infer-application-at t) infer-application.Post
+infer-application-add-word t c = omega (arith, place (c .before .before .before .pre .1))
+
+pub infer-application-word-requires : (t : ℕ) → infer-application-lts.Need-word-requires (infer-application-claims t) (infer-application-at t) infer-application.Post
+infer-application-word-requires t c κs = app-table (c .before .before .before .args .m) (c .before .before .before .pre .1)
+
+pub infer-application-infer-requires : (t : ℕ) → infer-application-lts.Need-infer-requires (infer-application-claims t) (infer-application-at t) infer-application.Post
+infer-application-infer-requires t c κs = (omega (arith, c .before .before .before .before .before .pre .0), app-ask (c .before .before .before .before .before .args .m) (c .before .before .before .before .before .pre .1))
+
+pub infer-application-enum-known-z : (t : ℕ) → infer-application-lts.Need-enum-known-z (infer-application-claims t) (infer-application-at t) infer-application.Post
+infer-application-enum-known-z t c = search needs
+
+pub infer-application-same-length : (t : ℕ) → infer-application-lts.Need-same-length (infer-application-claims t) (infer-application-at t) infer-application.Post
+infer-application-same-length t c = search needs
+
+pub infer-application-returns : (t : ℕ) → infer-application-lts.Need-returns (infer-application-claims t) (infer-application-at t) infer-application.Post
+infer-application-returns t c = app-else (c .before .before .before .before .before .before .before .before .before .args .m) (c .before .before .before .before .before .before .before .before .before .pre .1) (c .before .before .before .infer .ensures) (c .match .keys2)
+
+pub infer-application-apply-ctx-type-requires :
+    (t : ℕ) → infer-application-lts.Need-apply-ctx-type-requires (infer-application-claims t) (infer-application-at t) infer-application.Post
+infer-application-apply-ctx-type-requires t c κs = app-apply (c .before .before .before .before .before .before .before .before .before .before .before .before .before .before .args .m) (c .before .before .before .before .before .before .before .before .before .before .before .before .before .before .pre .1) (c .before .before .before .before .before .before .before .before .infer .ensures) (c .before .before .before .before .z .given .1)
+
+pub infer-application-enum-known-st2 : (t : ℕ) → infer-application-lts.Need-enum-known-st2 (infer-application-claims t) (infer-application-at t) infer-application.Post
+infer-application-enum-known-st2 t c = search needs
+
+pub infer-application-enum-told : (t : ℕ) → infer-application-lts.Need-enum-told (infer-application-claims t) (infer-application-at t) infer-application.Post
+infer-application-enum-told t c = search needs
+
+pub infer-application-same-length-2 : (t : ℕ) → infer-application-lts.Need-same-length-2 (infer-application-claims t) (infer-application-at t) infer-application.Post
+infer-application-same-length-2 t c = search needs
+
+pub infer-application-returns-2 : (t : ℕ) → infer-application-lts.Need-returns-2 (infer-application-claims t) (infer-application-at t) infer-application.Post
+infer-application-returns-2 t c = app-spent (c .before .before .before .before .before .before .before .before .before .before .before .before .before .before .before .before .before .before .before .args .m) (c .before .before .before .before .before .before .before .before .before .before .before .before .before .before .before .before .before .before .before .pre .1) (c .before .before .before .before .before .before .before .before .before .before .before .before .before .infer .ensures) (c .before .before .before .before .before .before .before .before .before .z .given .1) (c .before .before .before .before .apply-ctx-type .ensures) (c .enum-told .given .1)
+
+pub infer-application-infer-app-requires : (t : ℕ) → infer-application-lts.Need-infer-app-requires (infer-application-claims t) (infer-application-at t) infer-application.Post
+infer-application-infer-app-requires t c κs = (omega (arith, c .before .before .before .before .before .before .before .before .before .before .before .before .before .before .before .before .before .before .before .before .before .pre .0, app-falls (c .before .before .before .before .before .before .before .before .before .before .before .before .before .before .before .before .before .before .before .before .before .args .m) (c .before .before .before .before .before .before .before .before .before .before .before .before .before .before .before .before .before .before .before .before .before .pre .1) (c .before .before .before .before .before .before .before .before .before .before .before .before .before .before .before .infer .ensures) (c .before .before .before .before .before .before .before .before .before .before .before .z .given .1) (c .before .before .before .before .before .before .apply-ctx-type .ensures) (c .before .before .before .before .before .before .before .before .before .before .before .before .before .before .before .before .before .word .ensures .0) (c .before .before .st2 .given .1)), app-ask₂ (c .before .before .before .before .before .before .before .before .before .before .before .before .before .before .before .before .before .before .before .before .before .args .m) (c .before .before .before .before .before .before .before .before .before .before .before .before .before .before .before .before .before .before .before .before .before .pre .1) (c .before .before .before .before .before .before .before .before .before .before .before .before .before .before .before .infer .ensures) (c .before .before .before .before .before .before .before .before .before .before .before .z .given .1) (c .before .before .before .before .before .before .apply-ctx-type .ensures) (c .before .before .before .before .before .before .before .before .before .before .before .before .before .before .before .before .before .word .ensures .0) (c .before .before .st2 .given .1))
+
+pub infer-application-enum-known-y : (t : ℕ) → infer-application-lts.Need-enum-known-y (infer-application-claims t) (infer-application-at t) infer-application.Post
+infer-application-enum-known-y t c = search needs
+
+pub infer-application-same-length-3 : (t : ℕ) → infer-application-lts.Need-same-length-3 (infer-application-claims t) (infer-application-at t) infer-application.Post
+infer-application-same-length-3 t c = search needs
+
+pub infer-application-returns-3 : (t : ℕ) → infer-application-lts.Need-returns-3 (infer-application-claims t) (infer-application-at t) infer-application.Post
+infer-application-returns-3 t c = app-else₂ (c .before .before .before .before .before .before .before .before .before .before .before .before .before .before .before .before .before .before .before .before .before .before .before .before .before .args .m) (c .before .before .before .before .before .before .before .before .before .before .before .before .before .before .before .before .before .before .before .before .before .before .before .before .before .pre .1) (c .before .before .before .before .before .before .before .before .before .before .before .before .before .before .before .before .before .before .before .infer .ensures) (c .before .before .before .before .before .before .before .before .before .before .before .before .before .before .before .z .given .1) (c .before .before .before .before .before .before .before .before .before .before .apply-ctx-type .ensures) (c .before .before .before .before .before .before .before .before .before .before .before .before .before .before .before .before .before .before .before .before .before .word .ensures .0) (c .before .before .before .before .before .before .st2 .given .1) (c .before .before .before .infer-app .ensures) (c .match3 .keys2)
+
+pub infer-application-plain-out-requires : (t : ℕ) → infer-application-lts.Need-plain-out-requires (infer-application-claims t) (infer-application-at t) infer-application.Post
+infer-application-plain-out-requires t c κs = tt
+
+pub infer-application-same-length-4 : (t : ℕ) → infer-application-lts.Need-same-length-4 (infer-application-claims t) (infer-application-at t) infer-application.Post
+infer-application-same-length-4 t c = c .before .before .before .before .before .before .before .before .infer-app .kept .1 .0 ∙ c .before .before .before .before .before .before .before .before .before .before .before .before .before .before .before .apply-ctx-type .kept .1 .0 ∙ c .before .before .before .before .before .before .before .before .before .before .before .before .before .before .before .before .before .before .before .before .before .before .before .before .infer .kept .1 .0
+
+pub infer-application-returns-4 : (t : ℕ) → infer-application-lts.Need-returns-4 (infer-application-claims t) (infer-application-at t) infer-application.Post
+infer-application-returns-4 t c = app-done (c .before .before .before .before .before .before .before .before .before .before .before .before .before .before .before .before .before .before .before .before .before .before .before .before .before .before .before .before .before .before .args .m) (c .before .before .before .before .before .before .before .before .before .before .before .before .before .before .before .before .before .before .before .before .before .before .before .before .before .before .before .before .before .before .pre .1) (c .before .before .before .before .before .before .before .before .before .before .before .before .before .before .before .before .before .before .before .before .before .before .before .before .infer .ensures) (c .before .before .before .before .before .before .before .before .before .before .before .before .before .before .before .before .before .before .before .before .z .given .1) (c .before .before .before .before .before .before .before .before .before .before .before .before .before .before .before .apply-ctx-type .ensures) (c .before .before .before .before .before .before .before .before .before .before .before .before .before .before .before .before .before .before .before .before .before .before .before .before .before .before .word .ensures .0) (c .before .before .before .before .before .before .before .before .before .before .before .st2 .given .1) (c .before .before .before .before .before .before .before .before .infer-app .ensures) (c .before .before .before .before .y .given .1) (c .plain-out .ensures)

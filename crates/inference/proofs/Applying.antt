@@ -1,0 +1,136 @@
+-- The rules of infer_app that ask a judgement: InfAppArr, InfAppETVar.
+use mathlib.Core.Path.{_≡_, refl, sym}
+use mathlib.Core.List.{List}
+use Prim.Native.Nat.{ℕ, suc, _+_, _*_}
+use native.Mathlib.Omega.{arith}
+use Rattle.definition.specs.Syntax
+use Rattle.definition.specs.Syntax.{TyVar, etvar, arrow, Judgement, check, ruleNumber, leaf, _&_, children}
+use Rattle.definition.specs.Run.{_>>=_, andThen, give, fresh}
+use Rattle.definition.specs.Rules.{rule, judge, on, asArrow, asETVar, split, infAppArr, infAppETVar, inferAppRule, _orElse_}
+use Rattle.layout.specs.Names.{ty}
+use Rattle.layout.specs.Denotes.{Den}
+use Rattle.layout.specs.declared.Span.{Span}
+use Rattle.layout.specs.declared.State.{State}
+use Rattle.layout.specs.declared.TyVar as tyvar
+use Rattle.types.specs.Reading.{HeldAs, HeldNamed, Named, LeftOf, RightOf}
+use Rattle.types.proofs.Held.{room-held, held-as}
+use Rattle.judging.specs.declared.Answer.{Answer}
+use Rattle.judging.specs.declared.Mode.{Mode}
+use Rattle.judging.specs.declared.Step.{Step}
+use Rattle.judging.specs.declared.Step.the-variants.{Done}
+use Rattle.judging.specs.Asking.{mode, Asks, as-check, checkAsk, appAsk, JudgePre}
+use Rattle.judging.specs.Ending.{Judged, Fires}
+use Rattle.judging.proofs.Asking.{app-asked}
+use Rattle.judging.proofs.Steps.{NotDone}
+use Rattle.steps.specs.declared.Parted.{Parted}
+use Rattle.steps.specs.Parting.{freshName, PartPre, Parts}
+use Rattle.steps.proofs.Forms.{IsArrow, is-arrow, IsETVar, is-etvar}
+use Rattle.steps.proofs.Going.{unknown-named}
+use Rattle.rules.specs.Taking.{AppPre}
+use Rattle.rules.specs.Going.{PlainOut}
+use Rattle.rules.proofs.Ways.{Way, asks-check, otherwise, back, went, finish}
+use Rattle.inference.proofs.Starting.{outcome, begin-app}
+
+-- ## InfAppArr
+
+module _ (m : Mode) {q w : List ℕ} {s : State} {g : Span} {r ex : ℕ} (pre : AppPre q w s g r ex 5) where
+  abbrev AsksArr : Judgement → Type 0
+  AsksArr j = Asks q w (s .top) g (appAsk r ex) j
+
+  arr : {j : Judgement} (k : AsksArr j) → IsArrow (app-asked r ex k .A)
+  arr k = let v = app-asked r ex k in is-arrow (v .A) (sym (pre .tag .is (v .A) (v .den)))
+
+  arr-den : {j : Judgement} (k : AsksArr j) → Den q w (s .top) r (arrow (arr k .A) (arr k .B))
+  arr-den k = rw (arr k .is) at (app-asked r ex k .den)
+
+  pub arr-held : HeldAs q w (s .top) r 5
+  arr-held = held-as (room-held (pre .rule .room) (app-asked r ex (pre .rule .asks) .den)) (pre .tag) 5 refl
+
+  arr-way : {j : Judgement} (k : AsksArr j)
+      → Way q w w s s leaf (20 + 28 * g .n) (outcome m s j)
+      (judge (mode m) (check (app-asked r ex k .Γ) (app-asked r ex k .e) (arr k .A)) >>= λ u. give (Syntax.InfAppArr, arr k .B, u .1, u .2 & leaf))
+  unfolding inferAppRule on asArrow _orElse_ infAppArr
+  arr-way k = begin-app m (pre .rule) (app-asked r ex k .is) (arr k .is) refl
+
+  module _ {a c : ℕ} (lf : LeftOf q w (s .top) r a) (rt : RightOf q w (s .top) r c) where
+    arr-asks : {j : Judgement} (k : AsksArr j) → Asks q w (s .top) g (checkAsk ex a) (check (app-asked r ex k .Γ) (app-asked r ex k .e) (arr k .A))
+    arr-asks k = let v = app-asked r ex k in as-check refl (v .run) (v .at) (lf .is _ _ (arr-den k) .den)
+
+    pub arr-ask : JudgePre q w s g (checkAsk ex a)
+    arr-ask = asks-check (pre .rule .room) (arr-asks (pre .rule .asks))
+
+    module _ {w₁ : List ℕ} {z : Step} (call : Judged m q w w₁ s g (checkAsk ex a) z) where
+      pub arr-else : NotDone z → Fires m q w w₁ s g (appAsk r ex) z
+      arr-else nd = record { run = λ j k. otherwise _ _ (arr-way k) (call .run _ (arr-asks k)) nd }
+
+      pub arr-done : {t : Answer} {y : Step} → z ≡ Done t
+          → PlainOut (t .st) (t .g) c 15 1 y → Fires m q w w₁ s g (appAsk r ex) y
+      unfolding ruleNumber children
+      arr-done d fin = record {
+        run = λ j k.
+            let b = back _ _ (arr-way k) (call .run _ (arr-asks k)) d in
+            finish Syntax.InfAppArr (fin .finished q w₁) (b .run) (b .stays (rt .is _ _ (arr-den k) .den)) (b .way) (omega arith) refl refl (omega arith);
+      }
+
+-- ## InfAppETVar
+
+module _ (m : Mode) {q w : List ℕ} {s : State} {g : Span} {r ex : ℕ} (pre : AppPre q w s g r ex 4) where
+  abbrev AsksUnknown : Judgement → Type 0
+  AsksUnknown j = Asks q w (s .top) g (appAsk r ex) j
+
+  unknown : {j : Judgement} (k : AsksUnknown j) → IsETVar (app-asked r ex k .A)
+  unknown k = let v = app-asked r ex k in is-etvar (v .A) (sym (pre .tag .is (v .A) (v .den)))
+
+  unknown-den : {j : Judgement} (k : AsksUnknown j) → Den q w (s .top) r (etvar (unknown k .a))
+  unknown-den k = rw (unknown k .is) at (app-asked r ex k .den)
+
+  pub etvar-held : HeldNamed q w (s .top) r
+  etvar-held = unknown-named (pre .rule .room) (unknown-den (pre .rule .asks))
+
+  pub etvar-part : PartPre q w s g
+  etvar-part =
+      let x = pre .rule .room in
+      record {
+        base = x .base;
+        below = app-asked r ex (pre .rule .asks) .run .below;
+        room = omega (arith, x .fits);
+        low = x .low;
+        cap = x .cap;
+        names = omega (arith, pre .rule .names);
+      }
+
+  module _ {a : tyvar.TyVar} (n : Named q w (s .top) r a) {w₁ : List ℕ} {o : Parted} (i : Parts q w w₁ s g a o) where
+    etvar-name : {j : Judgement} (k : AsksUnknown j) → ty a ≡ unknown k .a
+    etvar-name k = n .of-etvar (unknown k .a) (unknown-den k)
+
+    etvar-way : {j : Judgement} (k : AsksUnknown j)
+        → Way q w w₁ s (o .st) leaf 0 (outcome m s j)
+        (judge (mode m) (check (split (unknown k .a) (freshName (s .fresh)) (freshName (suc (s .fresh))) (app-asked r ex k .Γ)) (app-asked r ex k .e) (etvar (freshName (s .fresh))))
+        >>= λ u. give (Syntax.InfAppETVar, etvar (freshName (suc (s .fresh))), u .1, u .2 & leaf))
+    unfolding inferAppRule on asArrow asETVar _orElse_ infAppETVar fresh _>>=_ andThen
+    etvar-way k =
+        let l = i .left in
+        let f = i .fresh in
+        let w : s .fresh + 2 ≡ suc (suc (s .fresh)) = omega arith in
+        went (begin-app m (pre .rule) (app-asked r ex k .is) (unknown k .is) refl) (o .st) 0 (i .keep) (i .up) (i .low) (i .left) (omega (arith, i .built))
+        (omega (arith, pre .rule .names)) (rw (l, f) refl)
+
+    etvar-asks : {j : Judgement} (k : AsksUnknown j) → Asks q w₁ (o .st .top) (o .g) (checkAsk ex (o .b))
+        (check (split (unknown k .a) (freshName (s .fresh)) (freshName (suc (s .fresh))) (app-asked r ex k .Γ)) (app-asked r ex k .e) (etvar (freshName (s .fresh))))
+    etvar-asks k = let v = app-asked r ex k in as-check refl (rw (etvar-name k) at (i .run (v .Γ) (v .run))) (v .at) (i .first)
+
+    pub etvar-ask : JudgePre q w₁ (o .st) (o .g) (checkAsk ex (o .b))
+    etvar-ask = let k = pre .rule .asks in asks-check (etvar-way k .room) (etvar-asks k)
+
+    module _ {w₂ : List ℕ} {z : Step} (call : Judged m q w₁ w₂ (o .st) (o .g) (checkAsk ex (o .b)) z) where
+      pub etvar-else : NotDone z → Fires m q w w₂ s g (appAsk r ex) z
+      etvar-else nd = record { run = λ j k. otherwise _ _ (etvar-way k) (call .run _ (etvar-asks k)) nd }
+
+      pub etvar-done : {t : Answer} {y : Step} → z ≡ Done t
+          → PlainOut (t .st) (t .g) (o .c) 16 1 y → Fires m q w w₂ s g (appAsk r ex) y
+      unfolding ruleNumber children
+      etvar-done d fin = record {
+        run = λ j k.
+            let b = back _ _ (etvar-way k) (call .run _ (etvar-asks k)) d in
+            finish Syntax.InfAppETVar (fin .finished q w₂) (b .run) (b .stays (i .second)) (b .way) (omega arith) refl refl (omega arith);
+      }

@@ -1,0 +1,308 @@
+-- The rules of check that ask judgements: ChkLam, ChkAll, ChkSub.
+use mathlib.Core.Path.{_≡_, refl, sym, _∙_}
+use mathlib.Core.Bool.{true}
+use mathlib.Core.List.{List}
+use Prim.Native.Nat.{ℕ, _+_, _*_, _≤_, _<_, _^_}
+use native.Mathlib.Omega.{arith}
+use lib.ListN.{length, getD}
+use Rattle.definition.specs.Syntax
+use Rattle.definition.specs.Syntax.{TmVar, TyVar, Ty, int, arrow, Expr, Ctx, Judgement, infer, check, subtype, ruleNumber, leaf, _&_, children, varBnd, tvarBnd}
+use Rattle.definition.specs.Run.{Out, done, _>>=_, give}
+use Rattle.definition.specs.Contexts.{kVar, kTVar, _▹_, rightOf}
+use Rattle.definition.specs.Types.{apply}
+use Rattle.definition.specs.Question as question
+use Rattle.definition.specs.Rules.{Judge, rule, judge, tyCode, exprCode, parameter, chkLam, chkAll, chkSub, checkRule, branch}
+use Rattle.layout.specs.Names.{tm, ty}
+use Rattle.layout.specs.Places.{ExprAt}
+use Rattle.layout.specs.Denotes.{Den, written, Run}
+use Rattle.layout.specs.declared.Span.{Span}
+use Rattle.layout.specs.declared.State.{State}
+use Rattle.layout.specs.declared.TmVar as tmvar
+use Rattle.layout.proofs.Places.{ty-code, expr-code}
+use Rattle.layout.proofs.Denotes.{run-frame, int-den}
+use Rattle.types.specs.Reading.{HeldAs, LeftOf, RightOf}
+use Rattle.types.proofs.Held.{room-held, held-as}
+use Rattle.contexts.specs.Build.{Space, Pushed}
+use Rattle.contexts.specs.declared.Opened.{Opened}
+use Rattle.judging.specs.declared.Answer.{Answer}
+use Rattle.judging.specs.declared.Mode.{Mode}
+use Rattle.judging.specs.declared.Step.{Step}
+use Rattle.judging.specs.declared.Step.the-variants.{Done}
+use Rattle.judging.specs.Asking.{mode, Asks, as-infer, as-check, inferAsk, checkAsk, JudgePre}
+use Rattle.judging.specs.Ending.{Judged, RunsJ, Fires}
+use Rattle.judging.proofs.Asking.{check-asked}
+use Rattle.judging.proofs.Steps.{NotDone}
+use Rattle.steps.specs.declared.Body.{Body}
+use Rattle.steps.specs.declared.Instance.the-variants.{Of}
+use Rattle.steps.specs.Built.{Built}
+use Rattle.steps.specs.Opening.{ForallPre, Opens, Instances, opened, OpensRight}
+use Rattle.steps.specs.Ending.{RightAlone}
+use Rattle.steps.proofs.Forms.{IsArrow, is-arrow, IsForall, is-forall}
+use Rattle.steps.proofs.Going.{room-space, ref-small}
+use Rattle.rules.specs.declared.Mid.{Mid}
+use Rattle.rules.specs.declared.Mid.the-variants.{On, End}
+use Rattle.rules.specs.Taking.{Choice, lit-int, lit-bool, lam, all, sub, CheckPre}
+use Rattle.rules.specs.Going.{TwoIn, Passes, Nothing, Compared, PlainOut}
+use Rattle.rules.proofs.Forms.{Abs, form}
+use Rattle.rules.proofs.Choices.{chk-lam, chk-all, chk-sub}
+use Rattle.rules.proofs.Ends.{right-alone}
+use Rattle.rules.proofs.Before.{var-entry}
+use Rattle.rules.proofs.Ways.{Way, asks-infer, asks-check, den-on, otherwise, Back, back, went, grown, Onward, onward, there, turn, finish}
+use Rattle.inference.specs.Rules.{relate, Related}
+use Rattle.inference.proofs.Starting.{outcome, begin-check, after-type, in-table}
+use Rattle.inference.proofs.Related.{regroup}
+
+-- ## The rule that was chosen
+
+chosen-lam : {k c : ℕ} → Choice k c 19 → (k ≡ 18) × (c ≡ 5)
+chosen-lam (lit-int r a b) = absurd (omega arith)
+chosen-lam (lit-bool r a b) = absurd (omega arith)
+chosen-lam (lam r a b) = (a, b)
+chosen-lam (all r a) = absurd (omega arith)
+chosen-lam (sub r a b c d) = absurd (omega arith)
+
+chosen-all : {k c : ℕ} → Choice k c 20 → c ≡ 6
+chosen-all (lit-int r a b) = absurd (omega arith)
+chosen-all (lit-bool r a b) = absurd (omega arith)
+chosen-all (lam r a b) = absurd (omega arith)
+chosen-all (all r a) = a
+chosen-all (sub r a b c d) = absurd (omega arith)
+
+-- no other arm fits: the definition subsumes
+chosen-sub : {k c : ℕ} (μ : question.Mode) (judge : Judge) (Γ : Ctx) (e : Expr) (B : Ty) → k ≡ exprCode e → c ≡ tyCode B → Choice k c 21
+    → checkRule μ judge Γ e B ≡ chkSub judge Γ e B
+chosen-sub μ judge Γ e B i h (lit-int r a b) = absurd (omega arith)
+chosen-sub μ judge Γ e B i h (lit-bool r a b) = absurd (omega arith)
+chosen-sub μ judge Γ e B i h (lam r a b) = absurd (omega arith)
+chosen-sub μ judge Γ e B i h (all r a) = absurd (omega arith)
+chosen-sub μ judge Γ e B i h (sub r a b c d) =
+    chk-sub μ judge Γ e B (λ x y. a (i ∙ x) (h ∙ y)) (λ x y. b (i ∙ x) (h ∙ y)) (λ x y. c (i ∙ x) (h ∙ y)) (λ y. d (h ∙ y))
+
+-- ## ChkLam
+
+module _ (m : Mode) {q w : List ℕ} {s : State} {g : Span} {ex r : ℕ} (pre : CheckPre q w s g ex r 19) where
+  abbrev AsksLam : Judgement → Type 0
+  AsksLam j = Asks q w (s .top) g (checkAsk ex r) j
+
+  lam-parts : {j : Judgement} (k : AsksLam j) → Abs q ex (check-asked ex r k .e)
+  lam-parts k = form 18 (pre .code ∙ chosen-lam (pre .choice) .0) (check-asked ex r k .at)
+
+  lam-arrow : {j : Judgement} (k : AsksLam j) → IsArrow (check-asked ex r k .B)
+  lam-arrow k = let v = check-asked ex r k in is-arrow (v .B) (sym (pre .tag .is (v .B) (v .den)) ∙ chosen-lam (pre .choice) .1)
+
+  lam-den : {j : Judgement} (k : AsksLam j) → Den q w (s .top) r (arrow (lam-arrow k .A) (lam-arrow k .B))
+  lam-den k = rw (lam-arrow k .is) at (check-asked ex r k .den)
+
+  pub lam-name : ex + 1 < length q
+  lam-name = lam-parts (pre .rule .asks) .name .within
+
+  pub lam-table : 16 + (ex + 2) < length w
+  lam-table = in-table (pre .rule .room) (ty-code (lam-parts (pre .rule .asks) .type) .inside)
+
+  pub lam-held : HeldAs q w (s .top) r 5
+  lam-held = held-as (room-held (pre .rule .room) (check-asked ex r (pre .rule .asks) .den)) (pre .tag) 5 (chosen-lam (pre .choice) .1)
+
+  module _ {p c : ℕ} (lf : LeftOf q w (s .top) r p) (rt : RightOf q w (s .top) r c) where
+    lam-left : {j : Judgement} (k : AsksLam j) → Den q w (s .top) p (lam-arrow k .A)
+    lam-left k = lf .is _ _ (lam-den k) .den
+
+    pub lam-two : TwoIn q w s g (ex + 2) p
+    lam-two = let k = pre .rule .asks in
+        record { two = record { spare = _; room = pre .rule .room; A = _; B = _; left = written (lam-parts k .type); right = lam-left k }; Γ = _; run = check-asked ex r k .run }
+
+    lam-way : {j : Judgement} (k : AsksLam j)
+        → Way q w w s s leaf (20 + 28 * g .n) (outcome m s j)
+        (parameter (m .«compares_parameter») (check-asked ex r k .Γ) (lam-parts k .A) (lam-arrow k .A)
+        >>= λ u. judge (mode m) (check (check-asked ex r k .Γ ▹ varBnd (lam-parts k .x) (lam-arrow k .A)) (lam-parts k .d) (lam-arrow k .B))
+        >>= λ r. give (Syntax.ChkLam, int, rightOf (kVar (lam-parts k .x)) (r .1), r .2 & leaf))
+    unfolding chkLam
+    lam-way k = begin-check m (pre .rule) (check-asked ex r k .is) (lam-parts k .is) (lam-arrow k .is)
+        (chk-lam (mode m) (judge (mode m)) (check-asked ex r k .Γ) ex (lam-parts k .x) (lam-parts k .A) (lam-arrow k .A) (lam-arrow k .B) (lam-parts k .d))
+
+    module _ {w₁ : List ℕ} {y : Mid} (o : Compared m q w w₁ s g (ex + 2) p y) where
+      lam-passes : {j : Judgement} (k : AsksLam j)
+          → Passes q w w₁ s Nothing y (parameter (m .«compares_parameter») (check-asked ex r k .Γ) (lam-parts k .A) (lam-arrow k .A) (s .left) (s .fresh))
+      lam-passes k = o .passes _ _ _ (check-asked ex r k .run) (written (lam-parts k .type)) (lam-left k)
+
+      pub lam-end : {z : Step} → y ≡ End z → Fires m q w w₁ s g (checkAsk ex r) z
+      lam-end e = record { run = λ j k. there Nothing _ _ (lam-way k) (lam-passes k) e }
+
+      module _ {s₁ : State} {a b : ℕ} (e : y ≡ On s₁ a b) where
+        lam-onward : {j : Judgement} (k : AsksLam j) → Onward Nothing _ _ (lam-way k) w₁ s₁ a b
+        lam-onward k = onward Nothing _ _ (lam-way k) (lam-passes k) e
+
+        pub lam-space : Space w₁ s₁ g 1 × (p < 2 ^ 32)
+        lam-space = let k = pre .rule .asks in let u = lam-onward k in
+            (room-space (u .way .room) g 1 (run-frame (u .keep) (u .up) (check-asked ex r k .run)) (omega arith), ref-small (u .way .room) (den-on (u .way) (lam-left k)))
+
+        module _ {x : tmvar.TmVar} {body : ℕ} (n : x .0 ≡ getD q (ex + 1) 0) (h : body ≡ getD w (16 + (ex + 2)) 0) {w₂ : List ℕ} {v : Opened}
+            (i : Pushed w₁ w₂ s₁ g (kVar (tm x)) p v) where
+          lam-var : {j : Judgement} (k : AsksLam j) → tm x ≡ lam-parts k .x
+          lam-var k = rw (n ∙ lam-parts k .name .is) refl
+
+          lam-way₂ : {j : Judgement} (k : AsksLam j)
+              → Way q w w₂ s (v .st) leaf 0 (outcome m s j)
+              (judge (mode m) (check (check-asked ex r k .Γ ▹ varBnd (lam-parts k .x) (lam-arrow k .A)) (lam-parts k .d) (lam-arrow k .B))
+              >>= λ r. give (Syntax.ChkLam, int, rightOf (kVar (lam-parts k .x)) (r .1), r .2 & leaf))
+          lam-way₂ k = grown (lam-onward k .way) 0 (i .grown) (omega arith)
+
+          lam-asks : {j : Judgement} (k : AsksLam j) → Asks q w₂ (v .st .top) (v .g) (checkAsk body c)
+              (check (check-asked ex r k .Γ ▹ varBnd (lam-parts k .x) (lam-arrow k .A)) (lam-parts k .d) (lam-arrow k .B))
+          lam-asks k =
+              let u = lam-onward k in
+              let d : ExprAt q body (lam-parts k .d) = rw (after-type (pre .rule .room .base) h (lam-parts k .type)) (lam-parts k .body) in
+              let run₁ : Run q w₁ (s₁ .top) (g .at) (g .n) (check-asked ex r k .Γ) = run-frame (u .keep) (u .up) (check-asked ex r k .run) in
+              as-check refl (rw (lam-var k) at (i .run run₁ (var-entry (tm x) (den-on (u .way) (lam-left k))))) d (den-on (lam-way₂ k) (rt .is _ _ (lam-den k) .den))
+
+          pub lam-ask : JudgePre q w₂ (v .st) (v .g) (checkAsk body c)
+          lam-ask = let k = pre .rule .asks in asks-check (lam-way₂ k .room) (lam-asks k)
+
+          pub lam-falls : v .st .left ≤ s .left
+          lam-falls = lam-way₂ (pre .rule .asks) .so .less
+
+          module _ {w₃ : List ℕ} {z : Step} (call : Judged m q w₂ w₃ (v .st) (v .g) (checkAsk body c) z) where
+            pub lam-else : NotDone z → Fires m q w w₃ s g (checkAsk ex r) z
+            lam-else nd = record { run = λ j k. otherwise _ _ (lam-way₂ k) (call .run _ (lam-asks k)) nd }
+
+            module _ {t : Answer} (d : z ≡ Done t) where
+              lam-back : {j : Judgement} (k : AsksLam j) → Back _ _ (lam-way₂ k) (call .run _ (lam-asks k)) t
+              lam-back k = back _ _ (lam-way₂ k) (call .run _ (lam-asks k)) d
+
+              pub lam-within : t .g .at + 4 * t .g .n ≤ length w₃
+              lam-within = let b = lam-back (pre .rule .asks) in omega (arith, b .run .below, b .way .room .fits, b .way .room .low)
+
+              pub lam-done : {v : Step} → RightAlone w₃ t (kVar (tm x)) 19 v → Fires m q w w₃ s g (checkAsk ex r) v
+              unfolding ruleNumber children
+              lam-done f = record {
+                run = λ j k.
+                    let b = lam-back k in
+                    finish Syntax.ChkLam (right-alone (rw (lam-var k) at f) q) (b .run) (int-den (b .way .room .base)) (b .way) (omega arith) refl refl (omega arith);
+              }
+
+-- ## ChkAll
+
+-- the body of a Forall, with its name pushed: nothing was paid
+record Opened-body (q w w₁ : List ℕ) (s : State) (g : Span) (o : Body) (b : TyVar) (Δ : Ctx) (T : Ty) : Type 0 where
+  built : Built w w₁ s (o .st) (4 * g .n + 10)
+  opens : Opens q w₁ s o b Δ T
+  left : o .st .left ≡ s .left
+
+opened-body : {q w w₁ : List ℕ} {s : State} {g : Span} {o : Body} {b : TyVar} {Δ : Ctx} {T : Ty} {O : Out Ty} → O ≡ done T (s .left) (s .fresh)
+    → Instances q w w₁ s g b Δ (Of o) O → Opened-body q w w₁ s g o b Δ T
+opened-body {T = T} e (opened {T = U} b p) = let i : U ≡ T = cc in record { built = b; opens = rw i at p; left = cc }
+
+module _ (m : Mode) {q w : List ℕ} {s : State} {g : Span} {ex r : ℕ} (pre : CheckPre q w s g ex r 20) where
+  abbrev AsksAll : Judgement → Type 0
+  AsksAll j = Asks q w (s .top) g (checkAsk ex r) j
+
+  all-parts : {j : Judgement} (k : AsksAll j) → IsForall (check-asked ex r k .B)
+  all-parts k = let v = check-asked ex r k in is-forall (v .B) (sym (pre .tag .is (v .B) (v .den)) ∙ chosen-all (pre .choice))
+
+  pub all-pre : ForallPre q w s g r
+  all-pre = let v = check-asked ex r (pre .rule .asks) in
+      record { room = pre .rule .room; Γ = _; run = v .run; held = held-as (room-held (pre .rule .room) (v .den)) (pre .tag) 6 (chosen-all (pre .choice)) }
+
+  module _ {w₁ : List ℕ} {o : Body} (i : OpensRight q w w₁ s g r o) where
+    all-opened : {j : Judgement} (k : AsksAll j) → Opened-body q w w₁ s g o (all-parts k .a) (check-asked ex r k .Γ ▹ tvarBnd (all-parts k .a)) (all-parts k .A)
+    all-opened k = let v = check-asked ex r k in opened-body refl (i .opens (v .Γ) (all-parts k .a) (all-parts k .A) (v .run) (rw (all-parts k .is) at (v .den)))
+
+    all-way : {j : Judgement} (k : AsksAll j)
+        → Way q w w₁ s (o .st) leaf 0 (outcome m s j)
+        (judge (mode m) (check (check-asked ex r k .Γ ▹ tvarBnd (all-parts k .a)) (check-asked ex r k .e) (all-parts k .A))
+        >>= λ r. give (Syntax.ChkAll, int, rightOf (kTVar (all-parts k .a)) (r .1), r .2 & leaf))
+    unfolding chkAll
+    all-way k =
+        let v = check-asked ex r k in
+        let p = all-parts k in
+        let u = all-opened k in
+        let b = u .built in
+        let l = u .left in
+        let f = u .opens .fresh in
+        went (begin-check m (pre .rule) (v .is) refl (p .is) (chk-all (mode m) (judge (mode m)) (v .Γ) (v .e) (p .a) (p .A))) (o .st) 0 (b .keep) (b .up) (b .low) l
+        (omega (arith, b .built)) (omega (arith, pre .rule .names)) (rw (l, f) refl)
+
+    all-asks : {j : Judgement} (k : AsksAll j) → Asks q w₁ (o .st .top) (o .g) (checkAsk ex (o .ty))
+        (check (check-asked ex r k .Γ ▹ tvarBnd (all-parts k .a)) (check-asked ex r k .e) (all-parts k .A))
+    all-asks k = as-check refl (all-opened k .opens .run) (check-asked ex r k .at) (all-opened k .opens .den)
+
+    pub all-ask : JudgePre q w₁ (o .st) (o .g) (checkAsk ex (o .ty))
+    all-ask = let k = pre .rule .asks in asks-check (all-way k .room) (all-asks k)
+
+    pub all-falls : o .st .left ≤ s .left
+    all-falls = all-way (pre .rule .asks) .so .less
+
+    module _ {w₂ : List ℕ} {z : Step} (call : Judged m q w₁ w₂ (o .st) (o .g) (checkAsk ex (o .ty)) z) where
+      pub all-else : NotDone z → Fires m q w w₂ s g (checkAsk ex r) z
+      all-else nd = record { run = λ j k. otherwise _ _ (all-way k) (call .run _ (all-asks k)) nd }
+
+      module _ {t : Answer} (d : z ≡ Done t) where
+        all-back : {j : Judgement} (k : AsksAll j) → Back _ _ (all-way k) (call .run _ (all-asks k)) t
+        all-back k = back _ _ (all-way k) (call .run _ (all-asks k)) d
+
+        pub all-within : t .g .at + 4 * t .g .n ≤ length w₂
+        all-within = let b = all-back (pre .rule .asks) in omega (arith, b .run .below, b .way .room .fits, b .way .room .low)
+
+        pub all-done : {v : Step} → RightAlone w₂ t (kTVar (ty (o .b))) 20 v → Fires m q w w₂ s g (checkAsk ex r) v
+        unfolding ruleNumber children
+        all-done f = record {
+          run = λ j k.
+              let b = all-back k in
+              finish Syntax.ChkAll (right-alone (rw (all-opened k .opens .name) at f) q) (b .run) (int-den (b .way .room .base)) (b .way) (omega arith) refl refl (omega arith);
+        }
+
+-- ## ChkSub
+
+module _ (m : Mode) {q w : List ℕ} {s : State} {g : Span} {ex r : ℕ} (pre : CheckPre q w s g ex r 21) where
+  abbrev AsksSub : Judgement → Type 0
+  AsksSub j = Asks q w (s .top) g (checkAsk ex r) j
+
+  sub-way : {j : Judgement} (k : AsksSub j)
+      → Way q w w s s leaf (20 + 28 * g .n) (outcome m s j)
+      (judge (mode m) (infer (check-asked ex r k .Γ) (check-asked ex r k .e))
+      >>= λ r₁. apply (r₁ .1) (r₁ .0) >>= λ A. apply (r₁ .1) (check-asked ex r k .B)
+      >>= λ B. judge (mode m) (subtype (r₁ .1) A B) >>= λ r₂. give (Syntax.ChkSub, int, r₂ .1, r₁ .2 & r₂ .2 & leaf))
+  unfolding chkSub
+  sub-way k =
+      let v = check-asked ex r k in
+      begin-check m (pre .rule) (v .is) refl refl (chosen-sub (mode m) (judge (mode m)) (v .Γ) (v .e) (v .B) (sym (pre .code) ∙ expr-code (v .at) .is) (pre .tag .is (v .B) (v .den)) (pre .choice))
+
+  sub-asks : {j : Judgement} (k : AsksSub j) → Asks q w (s .top) g (inferAsk ex) (infer (check-asked ex r k .Γ) (check-asked ex r k .e))
+  sub-asks k = as-infer refl (check-asked ex r k .run) (check-asked ex r k .at)
+
+  pub sub-ask : JudgePre q w s g (inferAsk ex)
+  sub-ask = asks-infer (pre .rule .room) (sub-asks (pre .rule .asks))
+
+  module _ {w₁ : List ℕ} {z : Step} (call : Judged m q w w₁ s g (inferAsk ex) z) where
+    pub sub-else : NotDone z → Fires m q w w₁ s g (checkAsk ex r) z
+    sub-else nd = record { run = λ j k. otherwise _ _ (sub-way k) (call .run _ (sub-asks k)) nd }
+
+    module _ {t : Answer} (d : z ≡ Done t) where
+      sub-back : {j : Judgement} (k : AsksSub j) → Back _ _ (sub-way k) (call .run _ (sub-asks k)) t
+      sub-back k = back _ _ (sub-way k) (call .run _ (sub-asks k)) d
+
+      pub sub-two : TwoIn q w₁ (t .st) (t .g) (t .ty) r
+      sub-two = let k = pre .rule .asks in let b = sub-back k in
+          record { two = record { spare = _; room = b .way .room; A = _; B = _; left = b .den; right = b .stays (check-asked ex r k .den) }; Γ = _; run = b .run }
+
+      module _ {w₂ : List ℕ} {y : Step} (call₂ : Related true q w₁ w₂ (t .st) (t .g) (t .ty) r y) where
+        sub-way₂ : {j : Judgement} (k : AsksSub j)
+            → Way q w w₁ s (t .st) (sub-back k .t & leaf) (4 * t .g .n + 4) (outcome m s j)
+            (relate m true (sub-back k .Δ) (sub-back k .C) (check-asked ex r k .B) >>= λ r₂. give (Syntax.ChkSub, int, r₂ .1, sub-back k .t & r₂ .2 & leaf))
+        unfolding branch
+        sub-way₂ k = turn (sub-back k .way) (regroup _ _ _ _)
+
+        sub-runs : {j : Judgement} (k : AsksSub j)
+            → RunsJ q w₁ w₂ (t .st) y (relate m true (sub-back k .Δ) (sub-back k .C) (check-asked ex r k .B) (t .st .left) (t .st .fresh))
+        sub-runs k = let b = sub-back k in call₂ .run m _ _ _ (b .run) (b .den) (b .stays (check-asked ex r k .den))
+
+        pub sub-else₂ : NotDone y → Fires m q w w₂ s g (checkAsk ex r) y
+        sub-else₂ nd = record { run = λ j k. otherwise _ _ (sub-way₂ k) (sub-runs k) nd }
+
+        pub sub-done : {u : Answer} {o : Step} → y ≡ Done u
+            → PlainOut (u .st) (u .g) 2048 21 2 o → Fires m q w w₂ s g (checkAsk ex r) o
+        unfolding ruleNumber children
+        sub-done d₂ fin = record {
+          run = λ j k.
+              let b = back _ _ (sub-way₂ k) (sub-runs k) d₂ in
+              finish Syntax.ChkSub (fin .finished q w₂) (b .run) (int-den (b .way .room .base)) (b .way) (omega arith) refl refl (omega arith);
+        }

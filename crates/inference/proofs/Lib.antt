@@ -1,0 +1,10 @@
+-- Laws of the cycle infer, check, infer_app: a whole judgement, how its rules start, and for each rule the laws by which its needs are met.
+pub mod Whole
+pub mod Starting
+pub mod Related
+pub mod InferOne
+pub mod InferTwo
+pub mod InferIf
+pub mod Checking
+pub mod Applying
+pub mod Choosing

@@ -1,0 +1,86 @@
+-- InstLAllR and InstRAllL: rules that open a Forall.
+use mathlib.Core.Path.{_≡_, _∙_, ap}
+use mathlib.Core.List.{List}
+use Prim.Native.Nat.{ℕ}
+use Rattle.definition.specs.Syntax
+use Rattle.definition.specs.Syntax.{Ty, forall, Side, onL, onR, Judgement, inst}
+use Rattle.definition.specs.Run.{andThen}
+use Rattle.definition.specs.Contexts.{kTVar, kMark}
+use Rattle.definition.specs.Rules.{rule, judge}
+use Rattle.layout.specs.Denotes.{Den}
+use Rattle.layout.specs.Room.{Room}
+use Rattle.layout.specs.declared.Span.{Span}
+use Rattle.layout.specs.declared.State.{State}
+use Rattle.layout.proofs.Denotes.{den-frame}
+use Rattle.judging.specs.Asking.{mode, Asks, instAsk, Small}
+use Rattle.judging.specs.declared.Mode.{Mode}
+use Rattle.judging.proofs.Asking.{InstAsked, inst-asked, asks-inst}
+use Rattle.steps.specs.Opening.{ForallPre, OpensRight, OpensLeft}
+use Rattle.steps.specs.declared.Body.{Body}
+use Rattle.steps.specs.declared.Instance.{Instance}
+use Rattle.steps.specs.declared.Instance.the-variants.{Of}
+use Rattle.steps.proofs.Forms.{IsForall, is-forall}
+use Rattle.steps.proofs.Going.{forall-pre, ref-small, small-inst}
+use Rattle.steps.proofs.Under.{Under}
+use Rattle.instantiation.specs.Sides.{FormPre}
+use Rattle.instantiation.proofs.Equations.{all-l-is, all-r-is}
+
+module _ {q w : List ℕ} {s : State} {g : Span} {sd : Side} {a t : ℕ} (pre : FormPre sd q w s g a t 6) where
+  askd : {j : Judgement} → Asks q w (s .top) g (instAsk sd a t) j → InstAsked q w (s .top) g sd a t j
+  askd k = inst-asked sd a t k
+
+  inside : {j : Judgement} (k : Asks q w (s .top) g (instAsk sd a t) j) → IsForall (askd k .T)
+  inside k = is-forall (askd k .T) (pre .code (askd k .T) (askd k .den))
+
+  whole : {j : Judgement} (k : Asks q w (s .top) g (instAsk sd a t) j) → Den q w (s .top) t (forall (inside k .a) (inside k .A))
+  whole k = rw (inside k .is) at (askd k .den)
+
+  says : (m : Mode) {j : Judgement} (k : Asks q w (s .top) g (instAsk sd a t) j) → rule (mode m) (judge (mode m)) j (s .left) (s .fresh)
+      ≡ rule (mode m) (judge (mode m)) (inst sd (askd k .Γ) (askd k .x) (forall (inside k .a) (inside k .A))) (s .left) (s .fresh)
+  says m k =
+      ap (λ (i : Judgement). rule (mode m) (judge (mode m)) i (s .left) (s .fresh))
+      (askd k .is ∙ ap (λ (T : Ty). inst sd (askd k .Γ) (askd k .x) T) (inside k .is))
+
+  pub all-open : ForallPre q w s g t
+  all-open =
+      let v = askd (pre .pre .asks) in
+      forall-pre (pre .pre .room) (v .run) (v .den) (pre .code (v .T) (v .den))
+
+  -- the unknown stays a word
+  pub all-small : {w₁ : List ℕ} {s₁ : State} {k r : ℕ} → Room q w₁ s₁ k → (T : Ty) → Den q w₁ (s₁ .top) r T → Small (instAsk sd a r)
+  all-small room T d = small-inst sd (ref-small (pre .pre .room) (askd (pre .pre .asks) .unknown)) (ref-small room d)
+
+-- on the left
+pub under-l : {q w w₁ : List ℕ} {s : State} {g : Span} {a t : ℕ} {o : Body} → FormPre onL q w s g a t 6 → OpensRight q w w₁ s g t o
+    → (m : Mode) (j : Judgement) → Asks q w (s .top) g (instAsk onL a t) j
+    → Under m q w w₁ s g (λ p. instAsk onL a (p .ty)) kTVar Syntax.InstLAllR (Of o) j
+unfolding andThen
+under-l {s = s} pre in₁ m j k =
+    let v = askd pre k in
+    let f = inside pre k in
+    record {
+      b = f .a;
+      Δ = _;
+      O = _;
+      opens = in₁ .opens (v .Γ) (f .a) (f .A) (v .run) (whole pre k);
+      i = _;
+      asks = λ p T bt op. asks-inst onL (op .run) (den-frame (bt .keep) (bt .up) (v .unknown)) (op .den);
+      says = says pre m k ∙ all-l-is (mode m) (judge (mode m)) (v .Γ) (v .x) (s .left) (s .fresh) (f .a) (f .A);
+    }
+
+-- on the right
+pub under-r : {q w w₁ : List ℕ} {s : State} {g : Span} {a t : ℕ} {x : Instance} → FormPre onR q w s g a t 6 → OpensLeft q w w₁ s g t x
+    → (m : Mode) (j : Judgement) → Asks q w (s .top) g (instAsk onR a t) j
+    → Under m q w w₁ s g (λ p. instAsk onR a (p .ty)) kMark Syntax.InstRAllL x j
+under-r {s = s} pre in₁ m j k =
+    let v = askd pre k in
+    let f = inside pre k in
+    record {
+      b = f .a;
+      Δ = _;
+      O = _;
+      opens = in₁ .opens (v .Γ) (f .a) (f .A) (v .run) (whole pre k);
+      i = _;
+      asks = λ p T bt op. asks-inst onR (op .run) (den-frame (bt .keep) (bt .up) (v .unknown)) (op .den);
+      says = says pre m k ∙ all-r-is (mode m) (judge (mode m)) (v .Γ) (v .x) (s .left) (s .fresh) (f .a) (f .A);
+    }

@@ -1,0 +1,63 @@
+-- The rules of instantiation in the definition, each as what it comes to.
+use mathlib.Core.Path.{_≡_, refl}
+use mathlib.Core.Bool.{true, false}
+use mathlib.Core.List.{_∷_, []}
+use Prim.Native.Nat.{ℕ, suc, _<_}
+use native.Mathlib.Omega.{arith}
+use Rattle.definition.specs.Syntax
+use Rattle.definition.specs.Syntax.{pick, TyVar, Ty, int, bool, var, etvar, arrow, forall, tvarBnd, etvarBnd, setvarBnd, mark, Ctx, Side, onL, onR, inst, leaf, _&_, occursCheck}
+use Rattle.definition.specs.Question.{Mode}
+use Rattle.definition.specs.Run.{done, fail, andThen, give, refuse, fresh, _>>=_}
+use Rattle.definition.specs.Contexts.{kTVar, kMark, rightOf, _▹_, replace, before}
+use Rattle.definition.specs.Types.{isMono, occurs, subst, apply}
+use Rattle.definition.specs.Rules.{Judge, closes, tyCode, other, instSolve, instReach, instArr, solve, reach, split, instArrow, instForall, instRule, rule}
+use Rattle.steps.specs.Parting.{freshName}
+
+module _ (μ : Mode) (judge : Judge) (Γ : Ctx) (a : TyVar) (l n : ℕ) where
+  module _ (s : Side) where
+    -- a type without parts, unless it is an unknown that can be reached
+    solve-is : (T : Ty) → tyCode T < 5 → ((b : TyVar) → T ≡ etvar b → before Γ a b ≡ false)
+        → rule μ judge (inst s Γ a T) l n
+        ≡ (pick (occurs a T) (refuse (occursCheck a T)) (closes (instSolve s) (replace a (setvarBnd a T ∷ []) Γ))) l n
+    unfolding rule instRule solve isMono pick tyCode
+    solve-is int h f = refl
+    solve-is bool h f = refl
+    solve-is (var b) h f = refl
+    solve-is (etvar b) h f = rw (f b refl)
+    solve-is (arrow A B) h f = absurd (omega arith)
+    solve-is (forall b T) h f = absurd (omega arith)
+
+    module _ (T : Ty) (h : tyCode T < 5) (f : (b : TyVar) → T ≡ etvar b → before Γ a b ≡ false) where
+      pub occurs-is : occurs a T ≡ true → rule μ judge (inst s Γ a T) l n ≡ fail (occursCheck a T) l
+      unfolding pick refuse
+      occurs-is e = rw (solve-is T h f, e)
+
+      pub solved-is : occurs a T ≡ false
+          → rule μ judge (inst s Γ a T) l n ≡ done (instSolve s, int, replace a (setvarBnd a T ∷ []) Γ, leaf) l n
+      unfolding pick closes give
+      solved-is e = rw (solve-is T h f, e)
+
+    pub reach-is : (b : TyVar) → before Γ a b ≡ true
+        → rule μ judge (inst s Γ a (etvar b)) l n ≡ done (instReach s, int, replace b (setvarBnd b (etvar a) ∷ []) Γ, leaf) l n
+    unfolding rule instRule reach pick closes give
+    reach-is b e = rw e
+
+    pub arr-is : (A B : Ty) → rule μ judge (inst s Γ a (arrow A B)) l n
+        ≡ andThen (judge (inst (other s) (split a (freshName n) (freshName (suc n)) Γ) (freshName n) A) l (suc (suc n)))
+        (λ r l n′. andThen (apply (r .1) B l n′)
+        (λ B′ l n′. andThen (judge (inst s (r .1) (freshName (suc n)) B′) l n′)
+        (λ u. give (instArr s, int, u .1, r .2 & u .2 & leaf))))
+    unfolding rule instRule instArrow _>>=_ andThen fresh
+    arr-is A B = refl
+
+  pub all-l-is : (b : TyVar) (T : Ty) → rule μ judge (inst onL Γ a (forall b T)) l n
+      ≡ andThen (judge (inst onL (Γ ▹ tvarBnd b) a T) l n) (λ r. give (Syntax.InstLAllR, int, rightOf (kTVar b) (r .1), r .2 & leaf))
+  unfolding rule instRule instForall _>>=_
+  all-l-is b T = refl
+
+  pub all-r-is : (b : TyVar) (T : Ty) → rule μ judge (inst onR Γ a (forall b T)) l n
+      ≡ andThen (subst b (etvar b) T l n)
+      (λ T′ l n. andThen (judge (inst onR (Γ ▹ etvarBnd b ▹ mark b) a T′) l n)
+      (λ r. give (Syntax.InstRAllL, int, rightOf (kMark b) (r .1), r .2 & leaf)))
+  unfolding rule instRule instForall _>>=_
+  all-r-is b T = refl

@@ -1,0 +1,6 @@
+-- Laws of instantiation.
+pub mod Equations
+pub mod Solving
+pub mod Arrow
+pub mod Binder
+pub mod Choosing

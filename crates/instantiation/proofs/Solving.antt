@@ -1,0 +1,185 @@
+-- The rules without premises.
+use mathlib.Core.Path.{_≡_, refl, sym, _∙_, ap}
+use mathlib.Core.Bool.{Bool, true, false}
+use mathlib.Core.List.{List, _∷_, []}
+use Prim.Native.Nat.{ℕ, _+_, _*_, _≤_, _<_, _^_}
+use native.Mathlib.Nat.{le-refl}
+use native.Mathlib.Omega.{arith}
+use lib.ListN.{length}
+use Rattle.definition.specs.Syntax as syntax
+use Rattle.definition.specs.Syntax.{Ty, int, etvar, setvarBnd, Ctx, Side, onL, onR, Judgement, inst, Rule, ruleNumber, leaf, children, occursCheck}
+use Rattle.definition.specs.Run.{Out, done}
+use Rattle.definition.specs.Contexts.{before, replace}
+use Rattle.definition.specs.Types.{occurs}
+use Rattle.definition.specs.Rules.{Fired, tyCode, instSolve, instReach, rule, judge}
+use Rattle.definition.specs.Reply.{errorCode, errorAt}
+use Rattle.layout.specs.Names.{ty}
+use Rattle.layout.specs.Words.{Keep}
+use Rattle.layout.specs.Denotes.{Den, Run}
+use Rattle.layout.specs.Room.{Room}
+use Rattle.layout.specs.declared.Span.{Span}
+use Rattle.layout.specs.declared.State.{State}
+use Rattle.layout.specs.declared.TyVar.{TyVar}
+use Rattle.layout.proofs.Words.{keep-less}
+use Rattle.types.specs.Reading.{Held, HeldNamed, Named}
+use Rattle.steps.proofs.Forms.{is-etvar}
+use Rattle.walks.specs.Walks.{Occurs}
+use Rattle.types.proofs.Held.{room-held}
+use Rattle.contexts.specs.Build.{Space}
+use Rattle.contexts.specs.Search.{Before}
+use Rattle.judging.specs.Asking.{mode}
+use Rattle.judging.specs.Ending.{e-occurs, Failed, RunsR}
+use Rattle.judging.specs.declared.Step.{Step}
+use Rattle.judging.specs.declared.Step.the-variants.{Fail}
+use Rattle.judging.proofs.Asking.{InstAsked, inst-asked}
+use Rattle.judging.proofs.Chain.{begin, built, refuses, room-on, room-within}
+use Rattle.instantiation.specs.Sides.{SidePre, SideFires, Meets, SolvePre, ReachPre, MeetPre, Closed}
+use Rattle.instantiation.proofs.Equations.{occurs-is, solved-is, reach-is}
+use Rattle.steps.proofs.Going.{unknown-named, room-space, ref-small, ends}
+
+-- ## A context that was built by solving an unknown is a rule's output
+
+pub closed : {q w w₁ : List ℕ} {s : State} {g : Span} {x : syntax.TyVar} {r n : ℕ} {z : Step} {T : Ty} {Γ : Ctx} (R : Rule) → n ≡ ruleNumber R
+    → Room q w s (20 + 28 * g .n) → Run q w (s .top) (g .at) (g .n) Γ → Den q w (s .top) r T → Closed w w₁ s g x r n z
+    → (O : Out Fired) → O ≡ done (R, int, replace x (setvarBnd x T ∷ []) Γ, leaf) (s .left) (s .fresh) → RunsR q w w₁ s z O
+unfolding children
+closed {q} {w} {w₁} {s} {g} R e room run d c O eq =
+    let p = c .replaced .grown .past in
+    let t = p .top in
+    let few = c .replaced .few in
+    let lf = p .left in
+    let ff = p .fresh in
+    let lo = p .low in
+    let kp : Keep (s .top) (s .low) w w₁ = keep-less (le-refl _) (omega (arith, room .fits)) (c .replaced .grown .keep) in
+    rw (c .is)
+    (ends (c .o .st) (c .o .g) R e refl (omega arith) (built (c .o .st) begin kp (omega arith) lo (omega arith))
+    (room-on (c .o .st) 4 room kp (omega arith) (omega arith) (omega (arith, room .fits)) (omega (arith, room .names)))
+    (c .replaced .run run d) O (rw (lf, ff) eq))
+
+-- ## What the code may read and build
+
+module _ {q w : List ℕ} {s : State} {g : Span} {a t n : ℕ} {R : Side → Rule} (sided : SidePre R q w s g a t n) where
+  asked : InstAsked q w (s .top) g (sided .side) a t (sided .pre .j)
+  asked = inst-asked (sided .side) a t (sided .pre .asks)
+
+  pub side-unknown : HeldNamed q w (s .top) a
+  side-unknown = unknown-named (sided .pre .room) (asked .unknown)
+
+  pub side-held : Held q w (s .top) t
+  side-held = room-held (sided .pre .room) (asked .den)
+
+  pub side-run : g .at + 4 * g .n ≤ length w
+  side-run = omega (arith, asked .run .below, sided .pre .room .fits, sided .pre .room .low)
+
+  space : Space w s g 1
+  space = room-space (sided .pre .room) g 1 (asked .run) (omega arith)
+
+  -- to be solved by the type, or by the unknown
+  pub space-type : (Space w s g 1) × (t < 2 ^ 32)
+  space-type = (space, ref-small (sided .pre .room) (asked .den))
+
+  pub space-unknown : (Space w s g 1) × (a < 2 ^ 32)
+  space-unknown = (space, ref-small (sided .pre .room) (asked .unknown))
+
+-- ## The unknown a against a type without parts
+
+module _ {q w : List ℕ} {s : State} {g : Span} {a t n : ℕ} (pre : SolvePre q w s g a t n) {x : TyVar} {b : Bool} (nm : Named q w (s .top) a x)
+    (oc : Occurs q w (s .top) x t b) where
+  occurs-so : (v : syntax.TyVar) (T : Ty) → Den q w (s .top) a (etvar v) → Den q w (s .top) t T → occurs v T ≡ b
+  occurs-so v T d e = ap (λ (y : syntax.TyVar). occurs y T) (sym (nm .of-etvar v d)) ∙ sym (oc .is T e)
+
+  late : (Γ : Ctx) (v : syntax.TyVar) (T : Ty) → Run q w (s .top) (g .at) (g .n) Γ → Den q w (s .top) a (etvar v) → Den q w (s .top) t T
+      → (y : syntax.TyVar) → T ≡ etvar y → before Γ v y ≡ false
+  late Γ v T r d e y eq = pre .late .is Γ v y r d (rw eq at e)
+
+  pub solve-occurs : b ≡ true
+      → SideFires instSolve q w w s g a t n (Fail (record { st = s; code = 14; name = x .0; left = t; right = 0 }))
+  unfolding errorCode errorAt
+  solve-occurs h = record {
+    on = λ sd e. record {
+      in-mode = λ m. record {
+        run = λ j k.
+            let v = inst-asked sd a t k in
+            let f : Failed q w (record { st = s; code = 14; name = x .0; left = t; right = 0 }) (occursCheck (v .x) (v .T)) (s .left) =
+            record { base = pre .sided .pre .room .base; within = room-within (pre .sided .pre .room); code = refl; name = ap (λ (y : syntax.TyVar). y .number) (nm .of-etvar (v .x) (v .unknown)); types = e-occurs (v .den); left = refl } in
+            refuses begin f _
+            (ap (λ (i : Judgement). rule (mode m) (judge (mode m)) i (s .left) (s .fresh)) (v .is)
+            ∙ occurs-is (mode m) (judge (mode m)) (v .Γ) (v .x) (s .left) (s .fresh) sd (v .T) (pre .plain (v .T) (v .den))
+            (late (v .Γ) (v .x) (v .T) (v .run) (v .unknown) (v .den)) (occurs-so (v .x) (v .T) (v .unknown) (v .den) ∙ h));
+      };
+    };
+  }
+
+  pub solve-done : {w₁ : List ℕ} {z : Step} → b ≡ false → Closed w w₁ s g (ty x) t n z → SideFires instSolve q w w₁ s g a t n z
+  solve-done h c = record {
+    on = λ sd e. record {
+      in-mode = λ m. record {
+        run = λ j k.
+            let v = inst-asked sd a t k in
+            let c′ : Closed _ _ s g (v .x) t n _ = rw (nm .of-etvar (v .x) (v .unknown)) at c in
+            closed (instSolve sd) e (pre .sided .pre .room) (v .run) (v .den) c′ _
+            (ap (λ (i : Judgement). rule (mode m) (judge (mode m)) i (s .left) (s .fresh)) (v .is)
+            ∙ solved-is (mode m) (judge (mode m)) (v .Γ) (v .x) (s .left) (s .fresh) sd (v .T) (pre .plain (v .T) (v .den))
+            (late (v .Γ) (v .x) (v .T) (v .run) (v .unknown) (v .den)) (occurs-so (v .x) (v .T) (v .unknown) (v .den) ∙ h));
+      };
+    };
+  }
+
+-- ## The unknown a against the unknown t
+
+pub etvar-named : {q w : List ℕ} {s : State} {g : Span} {a t n : ℕ} {R : Side → Rule} (sided : SidePre R q w s g a t n)
+    → ((T : Ty) → Den q w (s .top) t T → tyCode T ≡ 4) → HeldNamed q w (s .top) t
+etvar-named sided code =
+    let v = asked sided in
+    let u = is-etvar (v .T) (code (v .T) (v .den)) in
+    unknown-named (sided .pre .room) (rw (u .is) at (v .den))
+
+pub reach-done : {q w w₁ : List ℕ} {s : State} {g : Span} {a t n : ℕ} {y : TyVar} {z : Step} → ReachPre q w s g a t n → Named q w (s .top) t y
+    → Closed w w₁ s g (ty y) a n z → SideFires instReach q w w₁ s g a t n z
+reach-done {s = s} {g = g} {a = a} {t = t} {n = n} pre nm c = record {
+  on = λ sd e. record {
+    in-mode = λ m. record {
+      run = λ j k.
+          let v = inst-asked sd a t k in
+          let u = is-etvar (v .T) (pre .code (v .T) (v .den)) in
+          let d = rw (u .is) at (v .den) in
+          let c′ : Closed _ _ s g (u .a) a n _ = rw (nm .of-etvar (u .a) d) at c in
+          closed (instReach sd) e (pre .sided .pre .room) (v .run) (v .unknown) c′ _
+          (ap (λ (i : Judgement). rule (mode m) (judge (mode m)) i (s .left) (s .fresh)) (v .is ∙ ap (λ (T : Ty). inst sd (v .Γ) (v .x) T) (u .is))
+          ∙ reach-is (mode m) (judge (mode m)) (v .Γ) (v .x) (s .left) (s .fresh) sd (u .a) (pre .early .is (v .Γ) (v .x) (u .a) (v .run) (v .unknown) d));
+    };
+  };
+}
+
+-- the rule that reaches has the number after the one that solves
+next-number : {n : ℕ} (sd : Side) → n ≡ ruleNumber (instSolve sd) → n + 1 ≡ ruleNumber (instReach sd)
+unfolding ruleNumber instSolve instReach
+next-number onL e = omega arith
+next-number onR e = omega arith
+
+pub next-fits : {n : ℕ} (sd : Side) → n ≡ ruleNumber (instSolve sd) → n < 38
+unfolding ruleNumber instSolve
+next-fits onL e = omega arith
+next-fits onR e = omega arith
+
+module _ {q w : List ℕ} {s : State} {g : Span} {a t n : ℕ} (pre : MeetPre q w s g a t n) where
+  module _ {x y : TyVar} {r : Bool} (nx : Named q w (s .top) a x) (ny : Named q w (s .top) t y) (bf : Before w g (ty x) (ty y) r) where
+    meets : {r′ : Bool} → r ≡ r′ → Meets q w s g a t r′
+    meets e = record {
+      is = λ Γ u v run d f.
+          ap (λ (i : syntax.TyVar). before Γ i v) (sym (nx .of-etvar u d)) ∙ ap (λ (i : syntax.TyVar). before Γ (ty x) i) (sym (ny .of-etvar v f))
+          ∙ sym (bf .is run) ∙ e;
+    }
+
+    pub meet-reach : r ≡ true → ReachPre q w s g a t (n + 1)
+    meet-reach e = record {
+      sided = record { side = pre .sided .side; number = next-number (pre .sided .side) (pre .sided .number); pre = pre .sided .pre };
+      code = pre .code;
+      early = meets e;
+    }
+
+    pub meet-solve : r ≡ false → SolvePre q w s g a t n
+    meet-solve e = record { sided = pre .sided; plain = λ T d. let c = pre .code T d in omega arith; late = meets e }
+
+  pub meet-reached : {w₁ : List ℕ} {z : Step} → SideFires instReach q w w₁ s g a t (n + 1) z → SideFires instSolve q w w₁ s g a t n z
+  meet-reached f = record { on = λ sd e. f .on sd (next-number sd e) }

@@ -1,0 +1,2 @@
+-- What the functions of instantiation take and give.
+pub mod Sides

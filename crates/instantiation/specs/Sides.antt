@@ -1,0 +1,61 @@
+-- What the rules of instantiation require and ensure, on either side.
+use mathlib.Core.Path.{_≡_}
+use mathlib.Core.Bool.{Bool, true, false}
+use mathlib.Core.List.{List}
+use Prim.Native.Nat.{ℕ, _<_}
+use Rattle.definition.specs.Syntax.{TyVar, Ty, etvar, Ctx, Side, Rule, ruleNumber}
+use Rattle.definition.specs.Contexts.{before}
+use Rattle.definition.specs.Rules.{tyCode, instSolve, instReach}
+use Rattle.layout.specs.Denotes.{Den, Run}
+use Rattle.layout.specs.declared.Span.{Span}
+use Rattle.layout.specs.declared.State.{State}
+use Rattle.judging.specs.Asking.{instAsk, RulePre}
+use Rattle.judging.specs.declared.Step.{Step}
+use Rattle.judging.specs.declared.Step.the-variants.{Done}
+use Rattle.contexts.specs.Build.{Replaced}
+use Rattle.contexts.specs.declared.Opened.{Opened}
+use Rattle.steps.specs.Modes.{FiresBoth}
+
+-- a rule for types of one form: what t denotes has the code n
+pub record FormPre (side : Side) (q w : List ℕ) (s : State) (g : Span) (a t n : ℕ) : Type 0 where
+  pub pre : RulePre q w s g (instAsk side a t)
+  pub code : (T : Ty) → Den q w (s .top) t T → tyCode T ≡ n
+
+-- ## Rules without premises: the rule's number tells the side
+
+-- a rule of number n is asked, on the side that it has there
+pub record SidePre (R : Side → Rule) (q w : List ℕ) (s : State) (g : Span) (a ty n : ℕ) : Type 0 where
+  pub side : Side
+  pub number : n ≡ ruleNumber (R side)
+  pub pre : RulePre q w s g (instAsk side a ty)
+
+-- it fires on every side that has it
+pub record SideFires (R : Side → Rule) (q w w′ : List ℕ) (s : State) (g : Span) (a ty n : ℕ) (z : Step) : Type 0 where
+  pub on : (side : Side) → n ≡ ruleNumber (R side) → FiresBoth q w w′ s g (instAsk side a ty) z
+
+-- in every context and for all unknowns that are denoted, the first stands before the second or it does not
+pub record Meets (q w : List ℕ) (s : State) (g : Span) (a b : ℕ) (r : Bool) : Type 0 where
+  pub is : (Γ : Ctx) (x y : TyVar) → Run q w (s .top) (g .at) (g .n) Γ → Den q w (s .top) a (etvar x) → Den q w (s .top) b (etvar y) → before Γ x y ≡ r
+
+-- the type has no parts, and is no unknown that can be reached
+pub record SolvePre (q w : List ℕ) (s : State) (g : Span) (a ty n : ℕ) : Type 0 where
+  pub sided : SidePre instSolve q w s g a ty n
+  pub plain : (T : Ty) → Den q w (s .top) ty T → tyCode T < 5
+  pub late : Meets q w s g a ty false
+
+-- the type is an unknown that can be reached
+pub record ReachPre (q w : List ℕ) (s : State) (g : Span) (a ty n : ℕ) : Type 0 where
+  pub sided : SidePre instReach q w s g a ty n
+  pub code : (T : Ty) → Den q w (s .top) ty T → tyCode T ≡ 4
+  pub early : Meets q w s g a ty true
+
+-- the type is an unknown
+pub record MeetPre (q w : List ℕ) (s : State) (g : Span) (a ty n : ℕ) : Type 0 where
+  pub sided : SidePre instSolve q w s g a ty n
+  pub code : (T : Ty) → Den q w (s .top) ty T → tyCode T ≡ 4
+
+-- a context with a solved by the type r was built, and the rule of number n gives it
+pub record Closed (w w′ : List ℕ) (s : State) (g : Span) (a : TyVar) (r n : ℕ) (z : Step) : Type 0 where
+  pub o : Opened
+  pub replaced : Replaced w w′ s g a r o
+  pub is : z ≡ Done (record { st = o .st; g = o .g; ty = 2048; rule = n; kids = 0 })

@@ -1,0 +1,207 @@
+-- The steps between recursive calls: strict mode's parameter, types with the context applied, a Forall's instance.
+use mathlib.Core.Path.{_≡_, refl, sym, _∙_}
+use mathlib.Core.Bool.{Bool, true, false}
+use mathlib.Core.List.{List}
+use Prim.Native.Nat.{ℕ}
+use native.Mathlib.Omega.{arith}
+use Rattle.definition.specs.Syntax.{pick, TyVar, Ty, int, bool, var, etvar, arrow, forall, Ctx, typeApplicationError, parameterMismatch}
+use Rattle.definition.specs.Run.{Out, done, M, andThen, give, refuse, _>>=_}
+use Rattle.definition.specs.Types.{apply, sameTy, subst}
+use Rattle.definition.specs.Rules.{tyCode, on, asForall, parameter, branch, instantiate, _orElse_}
+use Rattle.definition.specs.Reply.{errorCode, errorAt}
+use Rattle.laws.proofs.Steps.{pick-true, pick-false, bind-done, bind-stop}
+use Rattle.layout.specs.Denotes.{Den}
+use Rattle.layout.specs.Room.{Room}
+use Rattle.layout.specs.declared.Span.{Span}
+use Rattle.layout.specs.declared.State.{State}
+use Rattle.layout.specs.declared.TyVar as declared
+use Rattle.layout.specs.declared.Made.{Made}
+use Rattle.layout.specs.declared.Made.the-variants as made
+use Rattle.layout.proofs.Denotes.{run-frame}
+use Rattle.types.specs.Reading.{Held, HeldAs, HeldNamed, Tagged, Named, BodyOf}
+use Rattle.types.proofs.Held.{room-held, held-as, held-named, body-held}
+use Rattle.steps.proofs.Forms.{IsForall, is-forall}
+use Rattle.walks.specs.Walks.{BothHeld, Same}
+use Rattle.substitution.specs.Passing.{Passed, Makes}
+use Rattle.substitution.specs.Calls.{SubstPre, Substed, ApplyPre, Applied}
+use Rattle.substitution.proofs.Passing as sub
+use Rattle.judging.specs.declared.Mode.{Mode}
+use Rattle.judging.specs.declared.Step.the-variants.{Fail, Spent}
+use Rattle.judging.specs.Ending.{Failed, e-parameter, e-type-application}
+use Rattle.judging.proofs.Chain.{room-within}
+use Rattle.rules.specs.declared.Mid.{Mid}
+use Rattle.rules.specs.declared.Mid.the-variants.{On, End}
+use Rattle.rules.specs.Going.{Two, TwoIn, Passes, goes, fails, stops, Compared, AppliedBoth, Instantiated}
+
+-- what the definition says in other words
+says : {X : Type 0} {q w w′ : List ℕ} {s : State} {D : X → ℕ → ℕ → ℕ → Type 0} {z : Mid} {O O′ : Out X} → O ≡ O′ → Passes q w w′ s D z O′ → Passes q w w′ s D z O
+says e p = rw e p
+
+-- ## The context applied to one of the two
+
+module _ {q w : List ℕ} {s : State} {g : Span} {a b : ℕ} (pre : TwoIn q w s g a b) where
+  pub apply-first : ApplyPre q w s g a
+  apply-first = record { spare = _; room = pre .two .room; ctx = pre .Γ; run = pre .run; type = _; den = pre .two .left }
+
+  pub apply-second : ApplyPre q w s g b
+  apply-second = record { spare = _; room = pre .two .room; ctx = pre .Γ; run = pre .run; type = _; den = pre .two .right }
+
+  module _ {w₁ : List ℕ} {z : Made} {s₁ : State} {r : ℕ} where
+    -- the second, after the first
+    pub apply-then : Applied q w w₁ s g a z → z ≡ made.Done s₁ r → ApplyPre q w₁ s₁ g b
+    apply-then ap e =
+        let o = sub.reached (ap .makes (pre .Γ) (pre .run) _ (pre .two .left)) e in
+        let p = o .passed in
+        record { spare = _; room = sub.room-on p (pre .two .room); ctx = pre .Γ; run = run-frame (p .keep) (p .up) (pre .run); type = _; den = sub.den-on p (pre .two .right) }
+
+    -- ## Strict mode's parameter
+
+    pub both-held : Applied q w w₁ s g b z → z ≡ made.Done s₁ r → BothHeld q w₁ (s₁ .top) a r
+    both-held ap e =
+        let o = sub.reached (ap .makes (pre .Γ) (pre .run) _ (pre .two .right)) e in
+        let p = o .passed in
+        let m = sub.room-on p (pre .two .room) in
+        record { one = room-held m (sub.den-on p (pre .two .left)); two = room-held m (o .den) }
+
+-- no fresh name was taken
+no-fresh : {X : Type 0} (f : M X) (l n : ℕ) {n′ l′ : ℕ} {x : X} → n ≡ n′ → f l n ≡ done x l′ n → f l n′ ≡ done x l′ n′
+no-fresh f l n e h = rw e at h
+
+-- paid or not, it went on
+went : {w w′ : List ℕ} {s s′ : State} {n : ℕ} → Passed w w′ s s′ n → Passed w w′ s s′ 0
+went p = record { keep = p .keep; up = p .up; low = p .low; fresh = p .fresh; paid = omega (arith, p .paid); built = p .built }
+
+-- the definition's parameter, once the context is applied
+compares : (Γ : Ctx) (A P : Ty) {T : Ty} (l n : ℕ) {l′ n′ : ℕ} → apply Γ P l n ≡ done T l′ n′
+    → parameter true Γ A P l n ≡ pick (sameTy A T) (give tt) (refuse (parameterMismatch A T)) l′ n′
+unfolding parameter
+compares Γ A P l n e = bind-done (apply Γ P) _ l n e
+
+module _ {m : Mode} {q w : List ℕ} {s : State} {g : Span} {a p : ℕ} where
+  pub not-compared : m .«compares_parameter» ≡ false → Compared m q w w s g a p (On s 0 0)
+  unfolding parameter give
+  not-compared e = record { passes = λ Γ A P n d f. rw e (goes (sub.here w s) tt) }
+
+  module _ (e : m .«compares_parameter» ≡ true) {w₁ : List ℕ} {z : Made} (ap : Applied q w w₁ s g p z) where
+    pub parameter-spent : z ≡ made.Spent → Compared m q w w₁ s g a p (End Spent)
+    unfolding parameter
+    parameter-spent h = record {
+      passes = λ Γ A P n d f.
+          let o = sub.ended (ap .makes Γ n P f) h in
+          says (rw e (bind-stop (apply Γ P) _ _ _ (o .is))) (stops (o .keep));
+    }
+
+    module _ {s₁ : State} {r : ℕ} {b : Bool} (h : z ≡ made.Done s₁ r) (same : Same q w₁ (s₁ .top) a r b) where
+      pub parameter-same : b ≡ true → Compared m q w w₁ s g a p (On s₁ 0 0)
+      unfolding give
+      parameter-same t = record {
+        passes = λ Γ A P n d f.
+            let o = sub.reached (ap .makes Γ n P f) h in
+            let x : sameTy A (o .type) ≡ true = sym (same .is A (o .type) (sub.den-on (o .passed) d) (o .den)) ∙ t in
+            says (rw e (compares Γ A P _ _ (o .is) ∙ rw (pick-true (give (tt {0})) (refuse (parameterMismatch A (o .type))) x) refl)) (goes (went (o .passed)) tt);
+      }
+
+      pub parameter-other : {k : ℕ} → b ≡ false → Room q w s k → Compared m q w w₁ s g a p (End (Fail (record { st = s₁; code = 17; name = 0; left = a; right = r })))
+      unfolding errorCode errorAt refuse
+      parameter-other t room = record {
+        passes = λ Γ A P n d f.
+            let o = sub.reached (ap .makes Γ n P f) h in
+            let d₁ = sub.den-on (o .passed) d in
+            let rm = sub.room-on (o .passed) room in
+            let x : sameTy A (o .type) ≡ false = sym (same .is A (o .type) d₁ (o .den)) ∙ t in
+            let y : Failed q w₁ (record { st = s₁; code = 17; name = 0; left = a; right = r }) (parameterMismatch A (o .type)) (s₁ .left) =
+            record { base = rm .base; within = room-within rm; code = refl; name = refl; types = e-parameter d₁ (o .den); left = refl } in
+            says (rw e (compares Γ A P _ _ (o .is) ∙ rw (pick-false (give (tt {0})) (refuse (parameterMismatch A (o .type))) x) refl)) (fails (o .passed .keep) y);
+      }
+
+-- ## Two types with the context applied, or as they are
+
+module _ {q w : List ℕ} {s : State} {g : Span} {a b : ℕ} where
+  pub as-they-are : AppliedBoth false q w w s g a b (On s a b)
+  unfolding branch _>>=_ andThen give
+  as-they-are = record { passes = λ Γ A B n d f. goes (sub.here w s) (d, f) }
+
+  module _ {w₁ : List ℕ} {z : Made} (ap : Applied q w w₁ s g a z) where
+    pub first-spent : z ≡ made.Spent → AppliedBoth true q w w₁ s g a b (End Spent)
+    unfolding branch
+    first-spent h = record {
+      passes = λ Γ A B n d f. let o = sub.ended (ap .makes Γ n A d) h in says (bind-stop (apply Γ A) _ _ _ (o .is)) (stops (o .keep));
+    }
+
+    module _ {s₁ : State} {r : ℕ} (h : z ≡ made.Done s₁ r) {w₂ : List ℕ} {z₂ : Made} (ap₂ : Applied q w₁ w₂ s₁ g b z₂) where
+      pub second-spent : z₂ ≡ made.Spent → AppliedBoth true q w w₂ s g a b (End Spent)
+      unfolding branch
+      second-spent h₂ = record {
+        passes = λ Γ A B n d f.
+            let o = sub.reached (ap .makes Γ n A d) h in
+            let p = o .passed in
+            let u = sub.ended (ap₂ .makes Γ (run-frame (p .keep) (p .up) n) B (sub.den-on p f)) h₂ in
+            says (bind-done (apply Γ A) _ _ _ (o .is) ∙ bind-stop (apply Γ B) _ _ _ (rw (p .fresh) at (u .is))) (stops (sub.keep-on p (u .keep)));
+      }
+
+      pub both-done : {s₂ : State} {r₂ : ℕ} → z₂ ≡ made.Done s₂ r₂ → AppliedBoth true q w w₂ s g a b (On s₂ r r₂)
+      unfolding branch give
+      both-done h₂ = record {
+        passes = λ Γ A B n d f.
+            let o = sub.reached (ap .makes Γ n A d) h in
+            let p = o .passed in
+            let u = sub.reached (ap₂ .makes Γ (run-frame (p .keep) (p .up) n) B (sub.den-on p f)) h₂ in
+            says (bind-done (apply Γ A) _ _ _ (o .is) ∙ bind-done (apply Γ B) _ _ _ (no-fresh (apply Γ B) _ _ (p .fresh) (u .is)))
+            (goes (went (sub.then p (u .passed))) (sub.den-on (u .passed) (o .den), u .den));
+      }
+
+-- ## The instance of a Forall
+
+instance-is : (B : Ty) (a : TyVar) (A : Ty) → instantiate B (forall a A) ≡ subst a B A
+unfolding instantiate on asForall _orElse_
+instance-is B a A = refl
+
+no-instance : (B A : Ty) → (tyCode A ≡ 6 → ⊥) → instantiate B A ≡ refuse (typeApplicationError A)
+unfolding instantiate tyCode on asForall _orElse_
+no-instance B int h = refl
+no-instance B bool h = refl
+no-instance B (var a) h = refl
+no-instance B (etvar a) h = refl
+no-instance B (arrow A C) h = refl
+no-instance B (forall a A) h = absurd (h refl)
+
+module _ {q w : List ℕ} {s : State} {r by : ℕ} (pre : Two q w s r by) where
+  pub type-held : Held q w (s .top) r
+  type-held = room-held (pre .room) (pre .left)
+
+  module _ {k : ℕ} (c : Tagged q w (s .top) r k) where
+    pub not-instantiated : (k ≡ 6 → ⊥) → Instantiated q w w s r by (End (Fail (record { st = s; code = 13; name = 0; left = r; right = 0 })))
+    unfolding errorCode errorAt refuse
+    not-instantiated h = record {
+      passes = λ A B d f.
+          let y : Failed q w (record { st = s; code = 13; name = 0; left = r; right = 0 }) (typeApplicationError A) (s .left) =
+          record { base = pre .room .base; within = room-within (pre .room); code = refl; name = refl; types = e-type-application d; left = refl } in
+          says (rw (no-instance B A (λ e. h (c .is A d ∙ e))) refl) (fails (sub.here w s .keep) y);
+    }
+
+    module _ (six : k ≡ 6) where
+      pub forall-as : HeldAs q w (s .top) r 6
+      forall-as = held-as type-held c 6 six
+
+      pub forall-named : HeldNamed q w (s .top) r
+      forall-named = held-named type-held c (omega arith) (λ e. omega arith)
+
+      module _ {n : declared.TyVar} {u : ℕ} (nm : Named q w (s .top) r n) (bd : BodyOf q w (s .top) r u) where
+        pub subst-pre : SubstPre q w s by u
+        subst-pre = record { spare = _; room = pre .room; new = pre .B; by = pre .right; type = _; den = body-held forall-as bd .den }
+
+        module _ {w₁ : List ℕ} {z : Made} (sb : Substed q w w₁ s n by u z) where
+          -- the substitution is the definition's
+          makes : (A B : Ty) → Den q w (s .top) r A → Den q w (s .top) by B → Makes q w w₁ s z (instantiate B A (s .left) (s .fresh))
+          makes A B d f = go (is-forall A (sym (c .is A d) ∙ six)) d
+            where
+              go : IsForall A → Den q w (s .top) r A → Makes q w w₁ s z (instantiate B A (s .left) (s .fresh))
+              go i d =
+                  let e : Den q w (s .top) r (forall (i .a) (i .A)) = rw (i .is) at d in
+                  rw (i .is, instance-is, ← nm .of-forall (i .a) (i .A) e) (sb .makes B f (i .A) (bd .is (i .a) (i .A) e .den))
+
+          pub instance-spent : z ≡ made.Spent → Instantiated q w w₁ s r by (End Spent)
+          instance-spent h = record { passes = λ A B d f. let o = sub.ended (makes A B d f) h in says (o .is) (stops (o .keep)) }
+
+          pub instance-done : {s₁ : State} {x : ℕ} → z ≡ made.Done s₁ x → Instantiated q w w₁ s r by (On s₁ x 0)
+          instance-done h = record { passes = λ A B d f. let o = sub.reached (makes A B d f) h in says (o .is) (goes (went (o .passed)) (o .den)) }

@@ -1,0 +1,82 @@
+-- How a rule ends: what is kept of the context that came back.
+use mathlib.Core.Path.{_≡_, refl, _∙_}
+use mathlib.Core.List.{List}
+use Prim.Native.Nat.{ℕ, _+_, _*_, _≤_}
+use native.Mathlib.Nat.{le-refl}
+use native.Mathlib.Omega.{arith}
+use Rattle.definition.specs.Syntax.{Ty, Ctx}
+use Rattle.definition.specs.Contexts.{Key, rightOf, solvedAndRight}
+use Rattle.layout.specs.Names.{ty}
+use Rattle.layout.specs.Words.{Keep}
+use Rattle.layout.specs.Denotes.{Den}
+use Rattle.layout.specs.declared.Span.{Span}
+use Rattle.layout.specs.declared.State.{State}
+use Rattle.layout.proofs.Words.{keep-refl, keep-less, keep-trans}
+use Rattle.layout.proofs.Denotes.{den-frame, run-frame}
+use Rattle.steps.specs.Ending.{RightAlone}
+use Rattle.contexts.specs.Build.{KeptBoth}
+use Rattle.contexts.specs.declared.Opened.{Opened}
+use Rattle.judging.specs.declared.Answer.{Answer}
+use Rattle.judging.specs.declared.Step.{Step}
+use Rattle.judging.specs.declared.Step.the-variants.{Done}
+use Rattle.rules.specs.Going.{Finished}
+
+module _ {s : State} {g : Span} {rule kids : ℕ} where
+  pub as-it-came : {r : ℕ} (q w : List ℕ) → Finished q w w s g r 0 (λ (Γ : Ctx). Γ) (λ (A : Ty). A) rule kids (Done (record { st = s; g = g; ty = r; rule = rule; kids = kids }))
+  as-it-came q w = record {
+    answer = _;
+    is = refl;
+    rule-is = refl;
+    kids-is = refl;
+    keep = keep-refl _ _ _;
+    up = le-refl _;
+    most = omega arith;
+    low = refl;
+    left = refl;
+    fresh = refl;
+    run = λ r. r;
+    den = λ d. d;
+  }
+
+pub right-alone : {w : List ℕ} {r : Answer} {k : Key} {n : ℕ} {z : Step} → RightAlone w r k n z → (q : List ℕ)
+    → Finished q w w (r .st) (r .g) 2048 0 (rightOf k) (λ (A : Ty). A) n 1 z
+right-alone o q = record {
+  answer = _;
+  is = o .is;
+  rule-is = refl;
+  kids-is = refl;
+  keep = keep-refl _ _ _;
+  up = le-refl _;
+  most = omega arith;
+  low = refl;
+  left = refl;
+  fresh = refl;
+  run = λ n. o .right .run n;
+  den = λ d. d;
+}
+
+-- the solved entries of left, then right: from a state that is the same but for a record of `more` words
+module _ {q w w₁ w₂ : List ℕ} (s s₁ : State) {g : Span} {k : Key} {o : Opened} (more : ℕ) (kp : Keep (s .top) (s .top + more) w w₁)
+    (up : s₁ .top ≡ s .top + more) (lo : s₁ .low ≡ s .low) (le : s₁ .left ≡ s .left) (fr : s₁ .fresh ≡ s .fresh)
+    (room : s .top + more + 4 * g .n ≤ s .low) (b : KeptBoth w₁ w₂ s₁ g k o) where
+  pub both-kept : {r r′ rule kids : ℕ} {G : Ty → Ty} → ((A : Ty) → Den q w (s .top) r A → Den q w₁ (s₁ .top) r′ (G A))
+      → Finished q w w₂ s g r more (solvedAndRight k) G rule kids (Done (record { st = o .st; g = o .g; ty = r′; rule = rule; kids = kids }))
+  both-kept d =
+      let p = b .grown .past in
+      let t = p .top in
+      let k₁ : Keep (s .top) (s .low) w w₁ = keep-less (le-refl _) (omega arith) kp in
+      let k₂ : Keep (s₁ .top) (s₁ .low) w₁ w₂ = keep-less (le-refl _) (omega (arith, b .few)) (b .grown .keep) in
+      record {
+        answer = _;
+        is = refl;
+        rule-is = refl;
+        kids-is = refl;
+        keep = keep-trans k₁ (keep-less (omega arith) (omega arith) k₂);
+        up = omega arith;
+        most = omega (arith, b .few);
+        low = p .low ∙ lo;
+        left = p .left ∙ le;
+        fresh = p .fresh ∙ fr;
+        run = λ n. b .run (run-frame k₁ (omega arith) n);
+        den = λ x. den-frame k₂ (omega arith) (d _ x);
+      }

@@ -1,0 +1,62 @@
+-- `apply_both` meets its contract.
+use borrow.Author.Needs.{needs}
+use Rattle.rules.proofs.Between.{apply-first, apply-then, as-they-are, first-spent, second-spent, both-done}
+use Rattle.rules.proofs.apply_both.Statement.{statement}
+use Rattle.rules.proofs.apply_both.Tie as tie
+
+apply-ctx-type-requires : tie.Need-apply-ctx-type-requires
+apply-ctx-type-requires c κs = apply-first (c .before .before .before .before .pre)
+
+enum-known-st1 : tie.Need-enum-known-st1
+enum-known-st1 c = search needs
+
+enum-told : tie.Need-enum-told
+enum-told c = search needs
+
+same-length : tie.Need-same-length
+same-length c = search needs
+
+returns : tie.Need-returns
+returns c = rw (c .before .before .before .before .before .before .if1 .taken) (first-spent (c .before .before .before .before .apply-ctx-type .ensures) (c .enum-told .given .1))
+
+apply-ctx-type-requires-2 : tie.Need-apply-ctx-type-requires-2
+apply-ctx-type-requires-2 c κs = apply-then (c .before .before .before .before .before .before .before .before .before .before .before .pre) (c .before .before .before .before .before .before .apply-ctx-type .ensures) (c .before .before .st1 .given .1)
+
+enum-known-st2 : tie.Need-enum-known-st2
+enum-known-st2 c = search needs
+
+enum-told-2 : tie.Need-enum-told-2
+enum-told-2 c = search needs
+
+same-length-2 : tie.Need-same-length-2
+same-length-2 c = search needs
+
+returns-2 : tie.Need-returns-2
+returns-2 c = rw (c .before .before .before .before .before .before .before .before .before .before .before .before .before .if1 .taken) (second-spent (c .before .before .before .before .before .before .before .before .before .before .before .apply-ctx-type .ensures) (c .before .before .before .before .before .before .before .st1 .given .1) (c .before .before .before .before .apply-ctx-type2 .ensures) (c .enum-told2 .given .1))
+
+same-length-3 : tie.Need-same-length-3
+same-length-3 c = search needs
+
+returns-3 : tie.Need-returns-3
+returns-3 c = rw (c .before .before .before .before .before .before .before .before .before .before .before .before .before .before .if1 .taken) (both-done (c .before .before .before .before .before .before .before .before .before .before .before .before .apply-ctx-type .ensures) (c .before .before .before .before .before .before .before .before .st1 .given .1) (c .before .before .before .before .before .apply-ctx-type2 .ensures) (c .before .st2 .given .1))
+
+returns-4 : tie.Need-returns-4
+returns-4 c = rw (c .if1 .left) as-they-are
+
+pub apply-both-spec : {M : Type 1} → statement M
+apply-both-spec =
+    tie.close
+    (tie.spec
+    apply-ctx-type-requires
+    enum-known-st1
+    enum-told
+    same-length
+    returns
+    apply-ctx-type-requires-2
+    enum-known-st2
+    enum-told-2
+    same-length-2
+    returns-2
+    same-length-3
+    returns-3
+    returns-4)

@@ -1,0 +1,10 @@
+-- `refuse_app` meets its contract.
+use Rattle.rules.proofs.Plain.{app-refused}
+use Rattle.rules.proofs.refuse_app.Statement.{statement}
+use Rattle.rules.proofs.refuse_app.Tie as tie
+
+returns : tie.Need-returns
+returns c = app-refused (c .pre)
+
+pub refuse-app-spec : {M : Type 1} → statement M
+refuse-app-spec = tie.close (tie.spec returns)

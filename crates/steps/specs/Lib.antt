@@ -1,0 +1,6 @@
+-- What the steps of the rules take and give.
+pub mod Modes
+pub mod Built
+pub mod Parting
+pub mod Opening
+pub mod Ending

@@ -1,0 +1,49 @@
+-- Opening a Forall: on the right its body under its name, on the left an instance of it.
+use mathlib.Core.Path.{_≡_}
+use mathlib.Core.List.{List}
+use Prim.Native.Nat.{ℕ, _+_, _*_}
+use Rattle.definition.specs.Syntax.{TyVar, Ty, etvar, forall, tvarBnd, etvarBnd, mark, Ctx}
+use Rattle.definition.specs.Run.{Out, done, stop}
+use Rattle.definition.specs.Contexts.{_▹_}
+use Rattle.definition.specs.Types.{subst}
+use Rattle.layout.specs.Names.{ty}
+use Rattle.layout.specs.Words.{Keep}
+use Rattle.layout.specs.Denotes.{Den, Run}
+use Rattle.layout.specs.Room.{Room}
+use Rattle.layout.specs.declared.Span.{Span}
+use Rattle.layout.specs.declared.State.{State}
+use Rattle.types.specs.Reading.{HeldAs}
+use Rattle.steps.specs.declared.Body.{Body}
+use Rattle.steps.specs.declared.Instance.{Instance}
+use Rattle.steps.specs.declared.Instance.the-variants.{Of, Spent}
+use Rattle.steps.specs.Built.{Built}
+
+-- a rule starts with a Forall r
+pub record ForallPre (q w : List ℕ) (s : State) (g : Span) (r : ℕ) : Type 0 where
+  pub room : Room q w s (20 + 28 * g .n)
+  pub Γ : Ctx
+  pub run : Run q w (s .top) (g .at) (g .n) Γ
+  pub held : HeldAs q w (s .top) r 6
+
+-- o has the name b, the context Δ and the type T
+pub record Opens (q w′ : List ℕ) (s : State) (o : Body) (b : TyVar) (Δ : Ctx) (T : Ty) : Type 0 where
+  pub name : ty (o .b) ≡ b
+  pub run : Run q w′ (o .st .top) (o .g .at) (o .g .n) Δ
+  pub den : Den q w′ (o .st .top) (o .ty) T
+  pub fresh : o .st .fresh ≡ s .fresh
+
+-- the body in the context Δ, as the type that O comes to; or O takes more than the budget
+pub data Instances (q w w′ : List ℕ) (s : State) (g : Span) (b : TyVar) (Δ : Ctx) : Instance → Out Ty → Type 0 where
+  opened : {o : Body} {T : Ty} → Built w w′ s (o .st) (4 * g .n + 10) → Opens q w′ s o b Δ T
+      → Instances q w w′ s g b Δ (Of o) (done T (o .st .left) (s .fresh))
+  spent : Keep (s .top) (s .low) w w′ → Instances q w w′ s g b Δ Spent stop
+
+-- on the right: the name is pushed
+pub record OpensRight (q w w′ : List ℕ) (s : State) (g : Span) (r : ℕ) (o : Body) : Type 0 where
+  pub opens : (Γ : Ctx) (b : TyVar) (T : Ty) → Run q w (s .top) (g .at) (g .n) Γ → Den q w (s .top) r (forall b T)
+      → Instances q w w′ s g b (Γ ▹ tvarBnd b) (Of o) (done T (s .left) (s .fresh))
+
+-- on the left: an unknown stands for the name, and the unknown and a mark are pushed
+pub record OpensLeft (q w w′ : List ℕ) (s : State) (g : Span) (r : ℕ) (z : Instance) : Type 0 where
+  pub opens : (Γ : Ctx) (b : TyVar) (T : Ty) → Run q w (s .top) (g .at) (g .n) Γ → Den q w (s .top) r (forall b T)
+      → Instances q w w′ s g b (Γ ▹ etvarBnd b ▹ mark b) z (subst b (etvar b) T (s .left) (s .fresh))

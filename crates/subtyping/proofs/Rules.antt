@@ -1,0 +1,173 @@
+-- The rule in an arm: what it is asked, what it comes to, and the arms without premises or with an instantiation.
+use mathlib.Core.Path.{_≡_, refl, _∙_, ap}
+use mathlib.Core.List.{List}
+use Prim.Native.Nat.{ℕ, _<_}
+use native.Mathlib.Omega.{arith}
+use Rattle.definition.specs.Syntax
+use Rattle.definition.specs.Syntax.{TyVar, Ty, int, etvar, Ctx, Side, onL, onR, Judgement, inst, Rule, ruleNumber, leaf, _&_, children, subtypingError}
+use Rattle.definition.specs.Run.{M, andThen, give, refuse, _>>=_}
+use Rattle.definition.specs.Rules.{Fired, Judge, closes, subInst, rule, judge}
+use Rattle.definition.specs.Reply.{errorCode, errorAt}
+use Rattle.layout.specs.Denotes.{Den, Run}
+use Rattle.layout.specs.Room.{Room}
+use Rattle.layout.specs.declared.Span.{Span}
+use Rattle.layout.specs.declared.State.{State}
+use Rattle.types.proofs.Held.{room-held}
+use Rattle.judging.specs.Asking.{mode, Asks, as-sub, subAsk, instAsk, Small, JudgePre, RulePre}
+use Rattle.judging.specs.Ending.{e-subtyping, Failed}
+use Rattle.judging.specs.declared.Answer.{Answer}
+use Rattle.judging.specs.declared.Mode.{Mode}
+use Rattle.judging.specs.declared.Step.{Step}
+use Rattle.judging.specs.declared.Step.the-variants.{Done, Fail}
+use Rattle.judging.proofs.Asking.{SubAsked, sub-asked, asks-inst}
+use Rattle.judging.proofs.Chain.{room-ready, begin, refuses, room-within}
+use Rattle.judging.proofs.Steps.{NotDone}
+use Rattle.steps.specs.Ending.{Through}
+use Rattle.steps.specs.Modes.{JudgedBoth, FiresBoth}
+use Rattle.steps.proofs.Going.{ref-small, room-less, either, inst-pre, else-fires, ends, through-ends}
+use Rattle.subtyping.specs.Arms.{BothHeld, Comes, Fits, fits-refl, fits-inst-l, fits-inst-r, fits-none, Chosen, ArmPre}
+use Rattle.subtyping.specs.declared.Arm.{Arm}
+use Rattle.subtyping.specs.declared.Arm.the-variants as arm
+
+-- ## What is asked
+
+pub both-held : {q w : List ℕ} {s : State} {g : Span} {a b : ℕ} → RulePre q w s g (subAsk a b) → BothHeld q w (s .top) a b
+both-held {a = a} {b = b} pre =
+    let v = sub-asked a b (pre .asks) in
+    record { left = room-held (pre .room) (v .left); right = room-held (pre .room) (v .right) }
+
+pub sub-small : {a b : ℕ} → a < 4294967296 → b < 4294967296 → Small (subAsk a b)
+sub-small h k = record { kind = omega arith; ex = omega arith; left = h; right = k }
+
+pub sub-pre : {q w : List ℕ} {s : State} {k : ℕ} {g : Span} {a b : ℕ} {Γ : Ctx} {A B : Ty} → Room q w s k → Run q w (s .top) (g .at) (g .n) Γ
+    → Den q w (s .top) a A → Den q w (s .top) b B → JudgePre q w s g (subAsk a b)
+sub-pre {g = g} room run d e = record {
+  ready = room-ready g room;
+  small = sub-small (ref-small room d) (ref-small room e);
+  j = _;
+  asks = as-sub refl refl run d e;
+}
+
+-- ## What the rule comes to
+
+pub arm-pre : {q w : List ℕ} {s : State} {g : Span} {a b : ℕ} {x z : Arm} → RulePre q w s g (subAsk a b) → Chosen q w (s .top) a b x → x ≡ z
+    → ArmPre q w s g a b z
+arm-pre pre c e = record { pre = pre; chosen = rw e at c }
+
+module _ {q w : List ℕ} {s : State} {g : Span} {a b : ℕ} {z : Arm} (pre : ArmPre q w s g a b z) where
+  pub askd : {j : Judgement} → Asks q w (s .top) g (subAsk a b) j → SubAsked q w (s .top) g a b j
+  askd k = sub-asked a b k
+
+  pub fits : {j : Judgement} (k : Asks q w (s .top) g (subAsk a b) j) → Fits (askd k .A) (askd k .B) z
+  fits k = pre .chosen .is (askd k .A) (askd k .B) (askd k .left) (askd k .right)
+
+  pub comes : (m : Mode) {j : Judgement} (k : Asks q w (s .top) g (subAsk a b) j) {K : Judge → Ctx → M Fired} → Comes (askd k .A) (askd k .B) K
+      → rule (mode m) (judge (mode m)) j (s .left) (s .fresh) ≡ K (judge (mode m)) (askd k .Γ) (s .left) (s .fresh)
+  unfolding rule
+  comes m k c =
+      ap (λ (i : Judgement). rule (mode m) (judge (mode m)) i (s .left) (s .fresh)) (askd k .is)
+      ∙ ap (λ (f : M Fired). f (s .left) (s .fresh)) (c (judge (mode m)) (askd k .Γ))
+
+-- ## The arms without premises
+
+record ReflFits (A B : Ty) (n : ℕ) : Type 0 where
+  R : Rule
+  number : n ≡ ruleNumber R
+  comes-to : Comes A B (λ judge Γ. closes R Γ)
+
+refl-fits : {A B : Ty} {n : ℕ} → Fits A B (arm.Refl n) → ReflFits A B n
+refl-fits (fits-refl R e c) = record { R = R; number = e; comes-to = c }
+
+pub refl-fires : {q w : List ℕ} {s : State} {g : Span} {a b n : ℕ} → ArmPre q w s g a b (arm.Refl n)
+    → FiresBoth q w w s g (subAsk a b) (Done (record { st = s; g = g; ty = 2048; rule = n; kids = 0 }))
+unfolding closes give children
+refl-fires {s = s} {g = g} pre = record {
+  in-mode = λ m. record {
+    run = λ j k.
+        let f = refl-fits (fits pre k) in
+        ends s g (f .R) (f .number) refl (omega arith) begin (room-less (pre .pre .room) 4 (omega arith)) (askd pre k .run) _ (comes pre m k (f .comes-to));
+  };
+}
+
+none-fits : {A B : Ty} → Fits A B arm.Neither → Comes A B (λ judge Γ. refuse (subtypingError A B))
+none-fits (fits-none c) = c
+
+pub none-fires : {q w : List ℕ} {s : State} {g : Span} {a b : ℕ} → ArmPre q w s g a b arm.Neither
+    → FiresBoth q w w s g (subAsk a b) (Fail (record { st = s; code = 15; name = 0; left = a; right = b }))
+unfolding refuse errorCode errorAt
+none-fires {q} {w} {s} {g} {a} {b} pre = record {
+  in-mode = λ m. record {
+    run = λ j k.
+        let v = askd pre k in
+        let f : Failed q w (record { st = s; code = 15; name = 0; left = a; right = b }) (subtypingError (v .A) (v .B)) (s .left) =
+        record { base = pre .pre .room .base; within = room-within (pre .pre .room); code = refl; name = refl; types = e-subtyping (v .left) (v .right); left = refl } in
+        refuses begin f _ (comes pre m k (none-fits (fits pre k)));
+  };
+}
+
+-- ## SubInstL and SubInstR: one instantiation, of the unknown u by the type t
+
+-- what the rule R for j comes to
+pub record InstWay (m : Mode) (q w : List ℕ) (s : State) (g : Span) (sd : Side) (R : Rule) (u t : ℕ) (j : Judgement) : Type 0 where
+  pub Γ : Ctx
+  pub x : TyVar
+  pub T : Ty
+  pub run : Run q w (s .top) (g .at) (g .n) Γ
+  pub unknown : Den q w (s .top) u (etvar x)
+  pub den : Den q w (s .top) t T
+  pub says : rule (mode m) (judge (mode m)) j (s .left) (s .fresh)
+      ≡ andThen (judge (mode m) (inst sd Γ x T) (s .left) (s .fresh)) (λ v. give (R, int, v .1, v .2 & leaf))
+
+record Unknown (A B : Ty) (R : Rule) (sd : Side) (U : Ty) (T : Ty) : Type 0 where
+  x : TyVar
+  is : U ≡ etvar x
+  comes-to : Comes A B (λ judge Γ. subInst judge R sd Γ T x)
+
+left-unknown : {A B : Ty} → Fits A B arm.InstL → Unknown A B Syntax.SubInstL onL A B
+left-unknown (fits-inst-l {x = x} e c) = record { x = x; is = e; comes-to = c }
+
+right-unknown : {A B : Ty} → Fits A B arm.InstR → Unknown A B Syntax.SubInstR onR B A
+right-unknown (fits-inst-r {y = y} e c) = record { x = y; is = e; comes-to = c }
+
+inst-way : {q w : List ℕ} {s : State} {g : Span} {a b : ℕ} {z : Arm} (pre : ArmPre q w s g a b z) (sd : Side) (R : Rule) {u t : ℕ} {U T : Ty} (m : Mode)
+    {j : Judgement} (k : Asks q w (s .top) g (subAsk a b) j) → Unknown (askd pre k .A) (askd pre k .B) R sd U T → Den q w (s .top) u U → Den q w (s .top) t T
+    → InstWay m q w s g sd R u t j
+unfolding subInst _>>=_
+inst-way pre sd R m k f d e = record {
+  Γ = askd pre k .Γ;
+  x = f .x;
+  T = _;
+  run = askd pre k .run;
+  unknown = rw (f .is) at d;
+  den = e;
+  says = comes pre m k (f .comes-to);
+}
+
+pub way-l : {q w : List ℕ} {s : State} {g : Span} {a b : ℕ} → ArmPre q w s g a b arm.InstL → (m : Mode) (j : Judgement)
+    → Asks q w (s .top) g (subAsk a b) j → InstWay m q w s g onL Syntax.SubInstL a b j
+way-l pre m j k = inst-way pre onL Syntax.SubInstL m k (left-unknown (fits pre k)) (askd pre k .left) (askd pre k .right)
+
+pub way-r : {q w : List ℕ} {s : State} {g : Span} {a b : ℕ} → ArmPre q w s g a b arm.InstR → (m : Mode) (j : Judgement)
+    → Asks q w (s .top) g (subAsk a b) j → InstWay m q w s g onR Syntax.SubInstR b a j
+way-r pre m j k = inst-way pre onR Syntax.SubInstR m k (right-unknown (fits pre k)) (askd pre k .right) (askd pre k .left)
+
+module _ {q w : List ℕ} {s : State} {g : Span} {sd : Side} {R : Rule} {u t a b : ℕ} (pre : RulePre q w s g (subAsk a b))
+    (way : (m : Mode) (j : Judgement) → Asks q w (s .top) g (subAsk a b) j → InstWay m q w s g sd R u t j) where
+  pub inst-first : JudgePre q w s g (instAsk sd u t)
+  inst-first = let v = way either (pre .j) (pre .asks) in inst-pre sd (pre .room) (v .run) (v .unknown) (v .den)
+
+  module _ {w₁ : List ℕ} {z : Step} (call : JudgedBoth q w w₁ s g (instAsk sd u t) z) where
+    asks₁ : (m : Mode) {j : Judgement} (k : Asks q w (s .top) g (subAsk a b) j)
+        → Asks q w (s .top) g (instAsk sd u t) (inst sd (way m j k .Γ) (way m j k .x) (way m j k .T))
+    asks₁ m k = let v = way m _ k in asks-inst sd (v .run) (v .unknown) (v .den)
+
+    pub inst-else : NotDone z → FiresBoth q w w₁ s g (subAsk a b) z
+    inst-else nd = else-fires (λ m j k. record { ts = leaf; so = begin; i = _; asks = asks₁ m k; next = _; says = way m j k .says }) call nd
+
+    pub inst-done : {r : Answer} {n : ℕ} {y : Step} → z ≡ Done r → n ≡ ruleNumber R → Through r n 1 y → FiresBoth q w w₁ s g (subAsk a b) y
+    unfolding children
+    inst-done d en th = record {
+      in-mode = λ m. record {
+        run = λ j k. through-ends begin (call .in-mode m) (asks₁ m k) d R en (λ v. refl) (omega arith) th _ (way m j k .says);
+      };
+    }

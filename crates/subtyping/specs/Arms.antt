@@ -1,0 +1,68 @@
+-- The arm of the definition that two types fall into, and what the rule in it requires.
+use mathlib.Core.Path.{_≡_}
+use mathlib.Core.Bool.{Bool, true, false}
+use mathlib.Core.List.{List}
+use mathlib.Core.Option.{none, some}
+use Prim.Native.Nat.{ℕ, _≤_}
+use Rattle.definition.specs.Syntax
+use Rattle.definition.specs.Syntax.{TyVar, Ty, etvar, arrow, forall, Ctx, onL, onR, Rule, ruleNumber, subtypingError}
+use Rattle.definition.specs.Run.{M, refuse}
+use Rattle.definition.specs.Rules.{Fired, Judge, closes, asVar, asETVar, notIn, sameBase, same, subArr, subAllR, subAllL, subInst, subtypeRule}
+use Rattle.layout.specs.Denotes.{Den}
+use Rattle.layout.specs.declared.Span.{Span}
+use Rattle.layout.specs.declared.State.{State}
+use Rattle.types.specs.Reading.{Held}
+use Rattle.judging.specs.Asking.{subAsk, RulePre}
+use Rattle.subtyping.specs.declared.Arm.{Arm}
+use Rattle.subtyping.specs.declared.Arm.the-variants as arm
+
+-- both denote a type
+pub record BothHeld (q w : List ℕ) (t a b : ℕ) : Type 0 where
+  pub left : Held q w t a
+  pub right : Held q w t b
+
+-- what the rule for two types comes to, whatever is asked and in every context
+abbrev pub Comes : Ty → Ty → (Judge → Ctx → M Fired) → Type 0
+Comes A B k = (judge : Judge) (Γ : Ctx) → subtypeRule judge Γ A B ≡ k judge Γ
+
+-- none of the three arms without premises is there
+pub record NotAlike (A B : Ty) : Type 0 where
+  pub base : sameBase A B ≡ false
+  pub vars : same (asVar A) (asVar B) ≡ false
+  pub etvars : same (asETVar A) (asETVar B) ≡ false
+
+-- n is the number of the first of them that is there, or 0
+pub data AlikeBy (A B : Ty) (n : ℕ) : Type 0 where
+  by-rule : (R : Rule) → 22 ≤ n → n ≡ ruleNumber R → Comes A B (λ judge Γ. closes R Γ) → AlikeBy A B n
+  by-none : n ≡ 0 → NotAlike A B → AlikeBy A B n
+
+pub record Alike (q w : List ℕ) (t a b n : ℕ) : Type 0 where
+  pub is : (A B : Ty) → Den q w t a A → Den q w t b B → AlikeBy A B n
+
+-- A is an unknown that does not occur in B
+pub record AbsentFrom (A B : Ty) : Type 0 where
+  pub x : TyVar
+  pub is : A ≡ etvar x
+  pub not-in : notIn B (asETVar A) ≡ some x
+
+pub record Absent (q w : List ℕ) (t a b : ℕ) (r : Bool) : Type 0 where
+  pub yes : r ≡ true → (A B : Ty) → Den q w t a A → Den q w t b B → AbsentFrom A B
+  pub no : r ≡ false → (A B : Ty) → Den q w t a A → Den q w t b B → notIn B (asETVar A) ≡ none
+
+-- the first arm that is there, with the types' parts that it asks for
+pub data Fits (A B : Ty) : Arm → Type 0 where
+  fits-refl : {n : ℕ} (R : Rule) → n ≡ ruleNumber R → Comes A B (λ judge Γ. closes R Γ) → Fits A B (arm.Refl n)
+  fits-arr : {A₁ A₂ B₁ B₂ : Ty} → A ≡ arrow A₁ A₂ → B ≡ arrow B₁ B₂ → Comes A B (λ judge Γ. subArr judge Γ (A₁, A₂) (B₁, B₂)) → Fits A B arm.Arr
+  fits-all-r : {b : TyVar} {T : Ty} → B ≡ forall b T → Comes A B (λ judge Γ. subAllR judge Γ A (b, T)) → Fits A B arm.AllR
+  fits-all-l : {a : TyVar} {T : Ty} → A ≡ forall a T → Comes A B (λ judge Γ. subAllL judge Γ B (a, T)) → Fits A B arm.AllL
+  fits-inst-l : {x : TyVar} → A ≡ etvar x → Comes A B (λ judge Γ. subInst judge Syntax.SubInstL onL Γ B x) → Fits A B arm.InstL
+  fits-inst-r : {y : TyVar} → B ≡ etvar y → Comes A B (λ judge Γ. subInst judge Syntax.SubInstR onR Γ A y) → Fits A B arm.InstR
+  fits-none : Comes A B (λ judge Γ. refuse (subtypingError A B)) → Fits A B arm.Neither
+
+pub record Chosen (q w : List ℕ) (t a b : ℕ) (z : Arm) : Type 0 where
+  pub is : (A B : Ty) → Den q w t a A → Den q w t b B → Fits A B z
+
+-- what the rule in an arm requires
+pub record ArmPre (q w : List ℕ) (s : State) (g : Span) (a b : ℕ) (z : Arm) : Type 0 where
+  pub pre : RulePre q w s g (subAsk a b)
+  pub chosen : Chosen q w (s .top) a b z

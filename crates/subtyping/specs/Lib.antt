@@ -1,0 +1,2 @@
+-- What the functions of subtyping take and give.
+pub mod Arms
