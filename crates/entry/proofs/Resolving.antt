@@ -1,0 +1,79 @@
+-- Kind 7: what the judgement came to, with its type resolved.
+use mathlib.Core.Path.{_≡_, refl, sym, _∙_}
+use mathlib.Core.List.{List}
+use Prim.Native.Nat.{ℕ, _+_, _*_, _≤_}
+use native.Mathlib.Omega.{arith}
+use native.Mathlib.Nat.{le-trans}
+use Rattle.definition.specs.Syntax.{Ty, Ctx, Tree, Trees, leaf, _&_}
+use Rattle.definition.specs.Run.{Out, done, fail, stop, andThen, _>>=_, give}
+use Rattle.definition.specs.Types.{apply}
+use Rattle.definition.specs.Rules.{Result}
+use Rattle.layout.specs.Room.{Room}
+use Rattle.layout.specs.declared.State.{State}
+use Rattle.layout.proofs.Denotes.{run-frame}
+use Rattle.substitution.specs.Calls.{ApplyPre, Applied}
+use Rattle.layout.specs.declared.Made.{Made}
+use Rattle.layout.specs.declared.Made.the-variants as made
+use Rattle.substitution.proofs.Passing.{Reached, reached, Ended, ended, room-after}
+use Rattle.judging.specs.declared.Answer.{Answer}
+use Rattle.judging.specs.declared.Step.{Step}
+use Rattle.judging.specs.declared.Step.the-variants.{Done, Fail, Spent}
+use Rattle.judging.specs.Ending.{Landed, EndsJ, landed, failed, ran-out}
+use Rattle.judging.proofs.Nodes.{nodes-frame, nodes-at}
+use Rattle.judging.proofs.Steps.{NotDone, no-done, Came, came}
+use Rattle.entry.specs.Entry.{resolved, ResolvePre, Resolves}
+
+-- it did not end well
+pub resolve-else : {q w : List ℕ} {s : State} {z : Step} → NotDone z → Resolves q w w s z z
+unfolding andThen
+resolve-else {q} {w} {s} nd = record { ends = λ R h. go h nd }
+  where
+    go : {z : Step} {R : Out Result} → EndsJ q w s z R → NotDone z → EndsJ q w s z (resolved R)
+    go (landed {a = a} x) nd = absurd (no-done a nd)
+    go (failed x) nd = failed x
+    go ran-out nd = ran-out
+
+module _ {q w : List ℕ} {s : State} {z : Step} {a : Answer} (d : z ≡ Done a) where
+  pub apply-pre : ResolvePre q w s z → ApplyPre q w (a .st) (a .g) (a .ty)
+  apply-pre pre =
+      let c = came (pre .ends) d in
+      let x = c .land in
+      record { spare = _; room = x .room; ctx = c .Δ; run = x .run; type = c .C; den = x .den }
+
+  module _ {w₁ : List ℕ} {y : Made} (call : Applied q w w₁ (a .st) (a .g) (a .ty) y) where
+    -- the application ran out
+    pub resolve-spent : y ≡ made.Spent → Resolves q w w₁ s z Spent
+    unfolding andThen _>>=_
+    resolve-spent e = record {
+      ends = λ R h.
+          let c = came h d in
+          let f = ended (call .makes (c .Δ) (c .land .run) (c .C) (c .land .den)) e in
+          rw (c .is, f .is) ran-out;
+    }
+
+    -- it came to a type
+    pub resolve-done : {s₁ : State} {r : ℕ} → y ≡ made.Done s₁ r
+        → Resolves q w w₁ s z (Done (record { st = s₁; g = a .g; ty = r; rule = a .rule; kids = a .kids }))
+    unfolding andThen _>>=_ give
+    resolve-done {s₁} {r} e = record {
+      ends = λ R h.
+          let c = came h d in
+          let x = c .land in
+          let f = reached (call .makes (c .Δ) (x .run) (c .C) (x .den)) e in
+          let p = f .passed in
+          let v = room-after (x .room) f in
+          let b : Answer = record { st = s₁; g = a .g; ty = r; rule = a .rule; kids = a .kids } in
+          let y : Landed q w₁ s b (4 * a .g .n + 4) (f .type) (c .Δ) (c .t & leaf) (s₁ .left) (a .st .fresh) =
+          record {
+            run = run-frame (p .keep) (p .up) (x .run);
+            den = f .den;
+            nodes = nodes-at (sym (p .low)) refl (nodes-frame (p .keep) (p .up) (λ i u l. p .keep .above i u) (x .nodes));
+            left = refl;
+            fresh = p .fresh;
+            up = le-trans (x .up) (p .up);
+            down = omega (arith, x .down, p .low);
+            less = omega (arith, x .less, p .paid);
+            room = record { base = v .base; fits = omega (arith, v .fits); low = v .low; cap = v .cap; names = v .names };
+          } in
+          rw (c .is, f .is) (landed y);
+    }

@@ -1,0 +1,95 @@
+-- A question's run, from the entries that it has to pay for to its reply.
+use mathlib.Core.Path.{_≡_, refl, subst₃}
+use mathlib.Core.Bool.{Bool, true, false}
+use mathlib.Core.List.{List}
+use Prim.Native.Nat.{ℕ, _+_, _*_, _≤_, _<_}
+use native.Mathlib.Omega.{arith}
+use native.Mathlib.Nat.{le-trans}
+use lib.ListN.{length}
+use lib.Dec.{eqb}
+use Rattle.definition.specs.Syntax.{pick, Ty, Ctx, Tree, given}
+use Rattle.definition.specs.Question as question
+use Rattle.definition.specs.Run.{Out, done, fail, stop, M, andThen, _>>=_, give}
+use Rattle.definition.specs.Types.{apply}
+use Rattle.definition.specs.Rules.{Result, judge}
+use Rattle.definition.specs.Reply.{refusal, answer, outReply, workWords}
+use Rattle.definition.specs.Memory.{reportAfter}
+use Rattle.laws.proofs.Depth.{Left, apply-left, judge-left}
+use Rattle.laws.proofs.Steps.{bind-stop}
+use Rattle.judging.specs.declared.Step.{Step}
+use Rattle.judging.proofs.Steps.{step-none}
+use Rattle.contexts.specs.declared.Opened.{Opened}
+use Rattle.reading.specs.Questions.{Accepted}
+use Rattle.reading.proofs.Questions.{asks-context}
+use Rattle.reading.specs.declared.Question.{Question}
+use Rattle.entry.specs.declared.Reply.{Reply}
+use Rattle.entry.specs.Entry.{Gives, outcome, RunPre, Runs, Opens, Answers, FinishPre, Finishes}
+
+-- ## Entering cannot be paid
+
+module _ {q : List ℕ} {a : Question} (acc : Accepted q a) (budget : ℕ) (few : budget ≤ a .entries) where
+  stops : judge (acc .asked .manner) (acc .asked .asks) budget 0 ≡ stop
+  stops =
+      let c = asks-context (acc .asks) .list .count in
+      step-none (acc .asked .manner) (acc .asked .asks) budget 0 (omega arith)
+
+  answer-stops : answer (acc .asked) budget 0 ≡ stop
+  unfolding answer pick _>>=_ andThen
+  answer-stops = go (eqb (acc .asked .kind) 7)
+    where
+      go : (b : Bool) → pick b (do r ← judge (acc .asked .manner) (acc .asked .asks); A ← apply (r .1) (r .0); give (A, r .1, r .2)) (judge (acc .asked .manner) (acc .asked .asks)) budget 0 ≡ stop
+      go true = rw stops refl
+      go false = stops
+
+pub unpaid : {q : List ℕ} {a : Question} {budget : ℕ} {s : List ℕ} → budget ≤ a .entries
+    → Runs q budget a s s (record { code = 6; at = 0; len = 0; units = budget })
+unfolding outReply refusal reportAfter
+unpaid {budget = budget} h = record {
+  gives = λ acc.
+      rw (answer-stops acc budget h) (record { numbers = record { code = refl; at = refl; len = refl; units = refl }; report = refl });
+}
+
+-- ## No more is left than there was
+
+left-then : (l : ℕ) (R : Out Result) → Left l R → Left {A = Result} l (andThen R (λ r. _>>=_ (apply (r .1) (r .0)) (λ A. give (A, r .1, r .2))))
+unfolding andThen _>>=_ give
+left-then l (done r k n) h = go (apply (r .1) (r .0) k n) (apply-left (r .1) (r .0) k n)
+  where
+    go : (o : Out Ty) → Left k o → Left {A = Result} l (andThen o (λ A. give (A, r .1, r .2)))
+    go (done A m n) p = le-trans p h
+    go (fail e m) p = le-trans p h
+    go stop p = tt
+left-then l (fail e k) h = h
+left-then l stop h = tt
+
+answer-left : (Q : question.Question) (l n : ℕ) → Left l (answer Q l n)
+unfolding answer pick _>>=_
+answer-left Q l n = go (eqb (Q .kind) 7)
+  where
+    go : (b : Bool) → Left {A = Result} l (pick b (do r ← judge (Q .manner) (Q .asks); A ← apply (r .1) (r .0); give (A, r .1, r .2)) (judge (Q .manner) (Q .asks)) l n)
+    go true = left-then l (judge (Q .manner) (Q .asks) l n) (judge-left (Q .manner) (Q .asks) l n)
+    go false = judge-left (Q .manner) (Q .asks) l n
+
+-- ## The reply
+
+module _ {q w w₁ w₂ : List ℕ} {budget : ℕ} {a : Question} {o : Opened} {z : Step} (pre : RunPre q w budget a) (op : Opens q w₁ budget a o)
+    (an : Answers q w₁ w₂ a (o .st) z) where
+  pub finish-pre : FinishPre q w₂ (o .st) z
+  unfolding workWords
+  finish-pre =
+      let e = an .keep in
+      record {
+        low = omega (arith, op .ready .low);
+        cap = omega (arith, op .ready .cap);
+        budget = omega (arith, op .left, pre .high);
+        R = answer (pre .read .asked) (o .st .left) (o .st .fresh);
+        ends = an .ends (pre .read);
+        left = answer-left (pre .read .asked) (o .st .left) (o .st .fresh);
+      }
+
+  pub runs : {s s′ : List ℕ} {r : Reply} → Finishes q w₂ (a .kind) (o .st) z s s′ r → Runs q budget a s s′ r
+  runs {s} {s′} {r} f = record {
+    gives = λ acc.
+        let g : Gives (outReply (a .kind) (o .st .left) (length s) (answer (acc .asked) (o .st .left) (o .st .fresh))) s s′ r = f .gives _ (an .ends acc) in
+        subst₃ (λ k b n. Gives (outReply k b (length s) (answer (acc .asked) b n)) s s′ r) (acc .kind) (op .left) (op .fresh) g;
+  }

@@ -1,0 +1,2 @@
+-- What the library's entry promises.
+pub mod Entry

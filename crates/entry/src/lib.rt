@@ -1,0 +1,251 @@
+// The library's entry: from any words, budget and buffers to exactly one reply.
+ghost use mathlib.Core.Path.{_≡_};
+ghost use mathlib.Core.List.{_++_};
+ghost use Prim.Native.Nat.{_≤_, _<_, _^_};
+ghost use lib.ListN.{length, drop, replicate};
+ghost use Rattle.entry.specs.Entry.{ModeOf, AskPre, Answers, toldOf, lengthOf, FinishPre, Finishes, ResolvePre, Resolves, OpenPre, Opens, RunPre, Runs, ClearedPre, Cleared, Replied};
+use contexts::Opened;
+use judging::{Answer, Mode, Step};
+use layout::{FLOOR, Made, Span, State};
+use reading::{Question, Reading};
+use report::Report;
+
+// The four numbers of a reply.
+pub struct Reply {
+    pub code: u32,
+    pub at: u32,
+    pub len: u32,
+    pub units: u32,
+}
+
+// A reply that refuses: no report, no units.
+fn refusal(code: u32, at: u32) -> Reply
+    ensures { λ r. ⌜ r ≡ record { code = code; at = at; len = 0; units = 0 } ⌝ }
+{
+    Reply {
+        code: code,
+        at: at,
+        len: 0,
+        units: 0,
+    }
+}
+
+// Zeroes the first n words.
+fn clear(work: &mut [u32], n: usize)
+    requires { ⌜ n ≤ length (now work) ⌝ }
+    ensures { λ _. ⌜ now (work .exit) ≡ replicate n 0 ++ drop n (now (work .entry)) ⌝ }
+{
+    let mut i = 0;
+    while i < n {
+        work[i] = 0;
+        i += 1;
+    }
+}
+
+// Lays the table of ends, and loads the context.
+fn prepare(q: &[u32], work: &mut [u32], budget: usize, a: Question) -> Opened
+    requires { ⌜ OpenPre (now q) (now work) budget a ⌝ }
+    ensures { λ o. ⌜ Opens (now (q .entry)) (now (work .exit)) budget a o ⌝ }
+{
+    let low = 32 * budget + 4096;
+    let from = a.context;
+    let n = a.entries;
+    reading::ends::fill_ends(q, work);
+    let st = State {
+        top: FLOOR,
+        low: low,
+        left: budget,
+        fresh: 0,
+    };
+    loading::load_context(q, work, st, from, n)
+}
+
+// Kind 7's type, resolved by the final context; from is the state in which the judgement began.
+fn resolve(q: &[u32], work: &mut [u32], from: State, z: Step) -> Step
+    requires { ⌜ ResolvePre (now q) (now work) from z ⌝ }
+    ensures { λ y. ⌜ Resolves (now (q .entry)) (now (work .entry)) (now (work .exit)) from z y ⌝ }
+{
+    let Step::Done(r) = z else {
+        return z;
+    };
+    let st = r.st;
+    let g = r.g;
+    let ty = r.ty;
+    let made = substitution::apply_ctx_type(q, work, st, g, ty);
+    let Made::Done(after, found) = made else {
+        return Step::Spent;
+    };
+    let rule = r.rule;
+    let kids = r.kids;
+    Step::Done(Answer {
+        st: after,
+        g: g,
+        ty: found,
+        rule: rule,
+        kids: kids,
+    })
+}
+
+// The four numbers, by what became of the report.
+fn told(code: usize, at: u32, units: usize, z: Report) -> Reply
+    requires { ⌜ (code < 2 ^ 32) × (units < 2 ^ 32) × (lengthOf z < 2 ^ 32) ⌝ }
+    ensures { λ r. ⌜ r ≡ toldOf code at units z ⌝ }
+{
+    let c = code as u32;
+    let u = units as u32;
+    match z {
+        Report::Written(n) => Reply {
+            code: c,
+            at: at,
+            len: n as u32,
+            units: u,
+        },
+        Report::NoRoom(n) => Reply {
+            code: 7,
+            at: 0,
+            len: n as u32,
+            units: u,
+        },
+    }
+}
+
+// The reply to what a run came to; from is the state in which it began.
+fn finish(
+    q: &[u32],
+    work: &[u32],
+    kind: usize,
+    from: State,
+    z: Step,
+    report: &mut [u32],
+) -> Reply
+    requires { ⌜ FinishPre (now q) (now work) from z ⌝ }
+    ensures { λ r. ⌜ Finishes (now (q .entry)) (now (work .entry)) kind from z (now (report .entry)) (now (report .exit)) r ⌝ }
+{
+    let budget = from.left;
+    let high = from.low;
+    match z {
+        Step::Done(a) => {
+            let st = a.st;
+            let left = st.left;
+            let units = budget - left;
+            let y = report::report_result(q, work, kind, a, high, report);
+            told(0, 0, units, y)
+        }
+        Step::Fail(b) => {
+            let st = b.st;
+            let left = st.left;
+            let code = b.code;
+            let name = b.name;
+            let units = budget - left;
+            let y = report::report_error(q, work, b, report);
+            told(code, name, units, y)
+        }
+        Step::Spent => Reply {
+            code: 6,
+            at: 0,
+            len: 0,
+            units: budget as u32,
+        },
+    }
+}
+
+// Mode 0 is plain, mode 1 strict.
+fn mode_of(mode: usize) -> Mode
+    ensures { λ m. ⌜ ModeOf mode m ⌝ }
+{
+    let strict = mode == 1;
+    Mode {
+        compares_parameter: strict,
+        applies_branches: strict,
+    }
+}
+
+// The judgement that the question asks; kind 7 infers, and resolves the type.
+fn judge(q: &[u32], work: &mut [u32], a: Question, st: State, g: Span) -> Step
+    requires { ⌜ AskPre (now q) (now work) a st g ⌝ }
+    ensures { λ z. ⌜ Answers (now (q .entry)) (now (work .entry)) (now (work .exit)) a st z ⌝ }
+{
+    let m = mode_of(a.mode);
+    let kind = a.kind;
+    let ex = a.expr;
+    let left = a.left;
+    let right = a.right;
+    match kind {
+        1 => inference::infer(q, work, m, st, g, ex),
+        2 => inference::check(q, work, m, st, g, ex, right),
+        3 => inference::infer_app(q, work, m, st, g, left, ex),
+        4 => subtyping::subtype(q, work, st, g, left, right),
+        5 => instantiation::inst_l(q, work, st, g, left, right),
+        6 => instantiation::inst_r(q, work, st, g, left, right),
+        _ => {
+            let z = inference::infer(q, work, m, st, g, ex);
+            resolve(q, work, st, z)
+        }
+    }
+}
+
+// The run of a question that was read: work is as long as the budget asks.
+fn run(q: &[u32], work: &mut [u32], budget: usize, a: Question, report: &mut [u32]) -> Reply
+    requires { ⌜ RunPre (now q) (now work) budget a ⌝ }
+    ensures { λ r. ⌜ Runs (now (q .entry)) budget a (now (report .entry)) (now (report .exit)) r ⌝ }
+{
+    let n = a.entries;
+    let kind = a.kind;
+    if budget <= n {
+        return Reply {
+            code: 6,
+            at: 0,
+            len: 0,
+            units: budget as u32,
+        };
+    }
+    let o = prepare(q, work, budget, a);
+    let st = o.st;
+    let g = o.g;
+    let z = judge(q, work, a, st, g);
+    finish(q, work, kind, st, z, report)
+}
+
+// The same in the first words of a longer slice, which end as 0.
+fn run_cleared(
+    q: &[u32],
+    work: &mut [u32],
+    budget: usize,
+    a: Question,
+    report: &mut [u32],
+) -> Reply
+    requires { ⌜ ClearedPre (now q) (now work) budget a ⌝ }
+    ensures { λ r. ⌜ Cleared (now (q .entry)) (now (work .entry)) (now (work .exit)) budget a (now (report .entry)) (now (report .exit)) r ⌝ }
+{
+    let need = 32 * budget + 4096;
+    let r = run(q, &mut work[0..need], budget, a, report);
+    clear(work, need);
+    r
+}
+
+// Answers a question: any words, any budget, any work and any report slice.
+pub fn check(question: &[u32], budget: u32, work: &mut [u32], report: &mut [u32]) -> Reply
+    ensures { λ r. ⌜ Replied budget (now (question .entry)) (now (work .entry)) (now (work .exit)) (now (report .entry)) (now (report .exit)) r ⌝ }
+{
+    if budget < 1 {
+        return refusal(1, 0);
+    }
+    if 8192 < budget {
+        return refusal(1, 0);
+    }
+    let b = budget as usize;
+    let need = 32 * b + 4096;
+    if work.len() < need {
+        return refusal(2, 0);
+    }
+    if question.len() < 1 {
+        return refusal(3, 0);
+    }
+    if 2048 < question.len() {
+        return refusal(3, 0);
+    }
+    match reading::read_question(question) {
+        Reading::Fault(code, at) => refusal(code as u32, at as u32),
+        Reading::Asked(a) => run_cleared(question, work, b, a, report),
+    }
+}
