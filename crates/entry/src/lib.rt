@@ -5,9 +5,15 @@ ghost use Prim.Native.Nat.{_≤_, _<_, _^_};
 ghost use lib.ListN.{length, drop, replicate};
 ghost use Rattle.entry.specs.Entry.{ModeOf, AskPre, Answers, toldOf, lengthOf, FinishPre, Finishes, ResolvePre, Resolves, OpenPre, Opens, RunPre, Runs, ClearedPre, Cleared, Replied};
 use contexts::Opened;
-use judging::{Answer, Mode, Step};
-use layout::{FLOOR, Made, Span, State};
-use reading::{Question, Reading};
+use judging::Answer;
+use judging::Mode;
+use judging::Step;
+use layout::FLOOR;
+use layout::Made;
+use layout::Span;
+use layout::State;
+use reading::Question;
+use reading::Reading;
 use report::Report;
 
 // The four numbers of a reply.
@@ -110,14 +116,7 @@ fn told(code: usize, at: u32, units: usize, z: Report) -> Reply
 }
 
 // The reply to what a run came to; from is the state in which it began.
-fn finish(
-    q: &[u32],
-    work: &[u32],
-    kind: usize,
-    from: State,
-    z: Step,
-    report: &mut [u32],
-) -> Reply
+fn finish(q: &[u32], work: &[u32], kind: usize, from: State, z: Step, report: &mut [u32]) -> Reply
     requires { ⌜ FinishPre (now q) (now work) from z ⌝ }
     ensures { λ r. ⌜ Finishes (now (q .entry)) (now (work .entry)) kind from z (now (report .entry)) (now (report .exit)) r ⌝ }
 {
@@ -207,13 +206,7 @@ fn run(q: &[u32], work: &mut [u32], budget: usize, a: Question, report: &mut [u3
 }
 
 // The same in the first words of a longer slice, which end as 0.
-fn run_cleared(
-    q: &[u32],
-    work: &mut [u32],
-    budget: usize,
-    a: Question,
-    report: &mut [u32],
-) -> Reply
+fn run_cleared(q: &[u32], work: &mut [u32], budget: usize, a: Question, report: &mut [u32]) -> Reply
     requires { ⌜ ClearedPre (now q) (now work) budget a ⌝ }
     ensures { λ r. ⌜ Cleared (now (q .entry)) (now (work .entry)) (now (work .exit)) budget a (now (report .entry)) (now (report .exit)) r ⌝ }
 {

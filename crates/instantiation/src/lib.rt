@@ -1,6 +1,14 @@
 // Instantiation: inst_l and inst_r with their rules. A reference a denotes the unknown, ty the type that it is to be.
-use judging::{Answer, Ask, Bad, Entered, Step};
-use layout::{Key, Made, Span, State, TyVar};
+use judging::Answer;
+use judging::Ask;
+use judging::Bad;
+use judging::Entered;
+use judging::Step;
+use layout::Key;
+use layout::Made;
+use layout::Span;
+use layout::State;
+use layout::TyVar;
 use steps::Instance;
 ghost use Prim.Native.Nat.{_<_, _^_};
 ghost use Rattle.definition.specs.Syntax.{onL, onR};

@@ -93,6 +93,6 @@ pub telephone :
     (hostCall (7 ∷ []) (replicate 15 9) ≡ record { returns = 8; replySlice = replicate 15 9 })
     × (hostCall (7 ∷ []) (replicate 17 9) ≡ record { returns = 3; replySlice = 3 ∷ replicate 15 0 ++ 9 ∷ [] })
     × (take 20 (hostCall (7 ∷ replicate 11 0 ++ 3 ∷ 0 ∷ 0 ∷ 0 ∷ 22 ∷ 0 ∷ 0 ∷ 0 ∷ 1 ∷ replicate 15 0) (replicate 100 9) .replySlice)
-        ≡ 0 ∷ 0 ∷ 0 ∷ 0 ∷ 0 ∷ 0 ∷ 0 ∷ 0 ∷ 13 ∷ 0 ∷ 0 ∷ 0 ∷ 2 ∷ 0 ∷ 0 ∷ 0 ∷ 1 ∷ 0 ∷ 0 ∷ 0 ∷ [])
+    ≡ 0 ∷ 0 ∷ 0 ∷ 0 ∷ 0 ∷ 0 ∷ 0 ∷ 0 ∷ 13 ∷ 0 ∷ 0 ∷ 0 ∷ 2 ∷ 0 ∷ 0 ∷ 0 ∷ 1 ∷ 0 ∷ 0 ∷ 0 ∷ [])
 unfolding host-computes
 telephone = (refl, refl, refl)

@@ -1,6 +1,11 @@
 // The question's context as a run of entries in work.
 use contexts::Opened;
-use layout::{ENDS, INT, Span, State, put4, word};
+use layout::ENDS;
+use layout::INT;
+use layout::Span;
+use layout::State;
+use layout::put4;
+use layout::word;
 ghost use Rattle.loading.specs.Loading.{Loads, LoadedFrom, Loading, Loaded, Reads, EntryRead};
 
 // An entry's type reference (INT where it holds none), and the place past the entry.

@@ -1,6 +1,11 @@
 // What rules do between their judgements: an unknown parted into an arrow, a Forall opened, a context cut.
-use judging::{Answer, Step};
-use layout::{Key, Made, Span, State, TyVar};
+use judging::Answer;
+use judging::Step;
+use layout::Key;
+use layout::Made;
+use layout::Span;
+use layout::State;
+use layout::TyVar;
 ghost use Prim.Native.Nat.{_+_, _*_, _≤_};
 ghost use lib.ListN.{length};
 ghost use Rattle.layout.specs.Names.{key};
@@ -98,7 +103,15 @@ pub fn open_left(q: &[u32], work: &mut [u32], st: State, g: Span, r: usize) -> I
     let Made::Done(paid, made) = substitution::subst_type(q, work, past, b, unknown, body) else {
         return Instance::Spent;
     };
-    let o = contexts::push2(work, paid, g, Key::ETVar(b), layout::INT, Key::Mark(b), layout::INT);
+    let o = contexts::push2(
+        work,
+        paid,
+        g,
+        Key::ETVar(b),
+        layout::INT,
+        Key::Mark(b),
+        layout::INT,
+    );
     let end = o.st;
     let h = o.g;
     Instance::Of(Body {

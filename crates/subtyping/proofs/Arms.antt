@@ -260,9 +260,10 @@ module _ {A B : Ty} (none-alike : NotAlike A B) where
       neither h f judge Γ = rest judge Γ ∙ rw (not-both A B (subArr judge Γ) h, not-forall B not-r, not-forall A not-l, in-l, f) refl
 
 pub codes-small : {q w : List ℕ} {t a b k m : ℕ} → BothHeld q w t a b → Tagged q w t a k → Tagged q w t b m → (k < 7) × (m < 7)
-codes-small h tk tm =
-    (omega (arith, tk .is (h .left .type) (h .left .den), code-small (h .left .type)),
-    omega (arith, tm .is (h .right .type) (h .right .den), code-small (h .right .type)))
+codes-small h tk tm = (
+  omega (arith, tk .is (h .left .type) (h .left .den), code-small (h .left .type)),
+  omega (arith, tm .is (h .right .type) (h .right .den), code-small (h .right .type)),
+)
 
 pub chosen-refl : {q w : List ℕ} {t a b n : ℕ} → Alike q w t a b n → (n ≡ 0 → ⊥) → Chosen q w t a b (arm.Refl n)
 chosen-refl {n = n} al h = record { is = λ A B d e. go (al .is A B d e) }

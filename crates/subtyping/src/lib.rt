@@ -1,6 +1,12 @@
 // Subtyping: subtype with its rules. References a and b denote the left and the right type.
-use judging::{Answer, Ask, Bad, Entered, Step};
-use layout::{Key, Span, State};
+use judging::Answer;
+use judging::Ask;
+use judging::Bad;
+use judging::Entered;
+use judging::Step;
+use layout::Key;
+use layout::Span;
+use layout::State;
 use steps::Instance;
 ghost use Rattle.judging.specs.Asking.{subAsk, JudgePre, RulePre};
 ghost use Rattle.steps.specs.Modes.{JudgedBoth, FiresBoth};
