@@ -129,10 +129,10 @@ pub fn right_alone(work: &[u32], r: Answer, k: Key, rule: usize) -> Step
 {
     let st = r.st;
     let g = r.g;
-    let h = contexts::right_of(work, g, k);
+    let right = contexts::right_of(work, g, k);
     Step::Done(Answer {
         st: st,
-        g: h,
+        g: right,
         ty: layout::INT,
         rule: rule,
         kids: 1,
