@@ -6,3 +6,4 @@ pub mod Asking
 pub mod Resolving
 pub mod Finishing
 pub mod Running
+pub mod One

@@ -30,7 +30,7 @@ pub fn infer(q: &[u32], work: &mut [u32], m: Mode, st: State, g: Span, ex: usize
     let Entered::In(inner) = judging::enter(st, g) else {
         return Step::Spent;
     };
-    let z = infer_rule(q, work, m, inner, g, ex);
+    let z = inf_rule(q, work, m, inner, g, ex);
     let Step::Done(r) = z else {
         return z;
     };
@@ -45,7 +45,7 @@ pub fn infer(q: &[u32], work: &mut [u32], m: Mode, st: State, g: Span, ex: usize
 }
 
 // The rule for the expression's form, as 000's infer matches.
-fn infer_rule(q: &[u32], work: &mut [u32], m: Mode, st: State, g: Span, ex: usize) -> Step
+fn inf_rule(q: &[u32], work: &mut [u32], m: Mode, st: State, g: Span, ex: usize) -> Step
     requires { ⌜ RulePre (now q) (now work) st g (inferAsk ex) ⌝ }
     ensures { λ z. ⌜ Fires m (now (q .entry)) (now (work .entry)) (now (work .exit)) st g (inferAsk ex) z ⌝ }
 {
@@ -250,15 +250,15 @@ fn infer_binop(q: &[u32], work: &mut [u32], m: Mode, st: State, g: Span, ex: usi
     let at = ex + 1;
     let op = word(q, at);
     match op {
-        1..=4 => infer_both(q, work, m, st, g, ex, INT, INT, 8),
-        5..=6 => infer_both(q, work, m, st, g, ex, BOOL, BOOL, 9),
-        7..=8 => infer_eq(q, work, m, st, g, ex),
-        _ => infer_both(q, work, m, st, g, ex, INT, BOOL, 10),
+        1..=4 => both(q, work, m, st, g, ex, INT, INT, 8),
+        5..=6 => both(q, work, m, st, g, ex, BOOL, BOOL, 9),
+        7..=8 => equal(q, work, m, st, g, ex),
+        _ => both(q, work, m, st, g, ex, INT, BOOL, 10),
     }
 }
 
 // InfArith, InfBool and InfCmp: both sides are checked against a; the result is c.
-fn infer_both(
+fn both(
     q: &[u32],
     work: &mut [u32],
     m: Mode,
@@ -290,7 +290,7 @@ fn infer_both(
 }
 
 // InfEq: the right side is checked against the left side's type.
-fn infer_eq(q: &[u32], work: &mut [u32], m: Mode, st: State, g: Span, ex: usize) -> Step
+fn equal(q: &[u32], work: &mut [u32], m: Mode, st: State, g: Span, ex: usize) -> Step
     requires { ⌜ EqPre (now q) (now work) st g ex ⌝ }
     ensures { λ z. ⌜ Fires m (now (q .entry)) (now (work .entry)) (now (work .exit)) st g (inferAsk ex) z ⌝ }
 {
@@ -322,7 +322,7 @@ pub fn check(q: &[u32], work: &mut [u32], m: Mode, st: State, g: Span, ex: usize
     let Entered::In(inner) = judging::enter(st, g) else {
         return Step::Spent;
     };
-    let z = check_rule(q, work, m, inner, g, ex, ty);
+    let z = chk_rule(q, work, m, inner, g, ex, ty);
     let Step::Done(r) = z else {
         return z;
     };
@@ -337,15 +337,7 @@ pub fn check(q: &[u32], work: &mut [u32], m: Mode, st: State, g: Span, ex: usize
 }
 
 // The first arm of 000's check that fits.
-fn check_rule(
-    q: &[u32],
-    work: &mut [u32],
-    m: Mode,
-    st: State,
-    g: Span,
-    ex: usize,
-    ty: usize,
-) -> Step
+fn chk_rule(q: &[u32], work: &mut [u32], m: Mode, st: State, g: Span, ex: usize, ty: usize) -> Step
     requires { ⌜ RulePre (now q) (now work) st g (checkAsk ex ty) ⌝ }
     ensures { λ z. ⌜ Fires m (now (q .entry)) (now (work .entry)) (now (work .exit)) st g (checkAsk ex ty) z ⌝ }
 {
@@ -355,14 +347,14 @@ fn check_rule(
     let rule = rules::check_choice(k, c);
     match rule {
         17..=18 => rules::check_lit(q, work, st, g, ex, ty, rule),
-        19 => check_lam(q, work, m, st, g, ex, ty),
-        20 => check_all(q, work, m, st, g, ex, ty),
-        _ => check_sub(q, work, m, st, g, ex, ty),
+        19 => chk_lam(q, work, m, st, g, ex, ty),
+        20 => chk_all(q, work, m, st, g, ex, ty),
+        _ => chk_sub(q, work, m, st, g, ex, ty),
     }
 }
 
 // ChkLam: the body under the expected parameter, which strict mode compares first; right alone.
-fn check_lam(q: &[u32], work: &mut [u32], m: Mode, st: State, g: Span, ex: usize, ty: usize) -> Step
+fn chk_lam(q: &[u32], work: &mut [u32], m: Mode, st: State, g: Span, ex: usize, ty: usize) -> Step
     requires { ⌜ CheckPre (now q) (now work) st g ex ty 19 ⌝ }
     ensures { λ z. ⌜ Fires m (now (q .entry)) (now (work .entry)) (now (work .exit)) st g (checkAsk ex ty) z ⌝ }
 {
@@ -391,7 +383,7 @@ fn check_lam(q: &[u32], work: &mut [u32], m: Mode, st: State, g: Span, ex: usize
 }
 
 // ChkAll: under the name that the Forall binds; right alone.
-fn check_all(q: &[u32], work: &mut [u32], m: Mode, st: State, g: Span, ex: usize, ty: usize) -> Step
+fn chk_all(q: &[u32], work: &mut [u32], m: Mode, st: State, g: Span, ex: usize, ty: usize) -> Step
     requires { ⌜ CheckPre (now q) (now work) st g ex ty 20 ⌝ }
     ensures { λ z. ⌜ Fires m (now (q .entry)) (now (work .entry)) (now (work .exit)) st g (checkAsk ex ty) z ⌝ }
 {
@@ -408,7 +400,7 @@ fn check_all(q: &[u32], work: &mut [u32], m: Mode, st: State, g: Span, ex: usize
 }
 
 // ChkSub: the inferred type below the expected one, both with the context applied.
-fn check_sub(q: &[u32], work: &mut [u32], m: Mode, st: State, g: Span, ex: usize, ty: usize) -> Step
+fn chk_sub(q: &[u32], work: &mut [u32], m: Mode, st: State, g: Span, ex: usize, ty: usize) -> Step
     requires { ⌜ CheckPre (now q) (now work) st g ex ty 21 ⌝ }
     ensures { λ z. ⌜ Fires m (now (q .entry)) (now (work .entry)) (now (work .exit)) st g (checkAsk ex ty) z ⌝ }
 {

@@ -4,8 +4,6 @@ use mathlib.Core.Path.{refl}
 use Rattle.rules.specs.Taking.{lit-int, lit-bool, lam, all, sub}
 use Rattle.rules.proofs.check_choice.Statement.{statement}
 use Rattle.rules.proofs.check_choice.Tie as tie
-use Rattle.rules.proofs.check_choice.Reads as reads
-use Rattle.rules.proofs.check_choice.Lts as lts
 
 returns : tie.Need-returns
 returns c = lit-int refl (c .if1 .taken) (c .before .match .keys1)

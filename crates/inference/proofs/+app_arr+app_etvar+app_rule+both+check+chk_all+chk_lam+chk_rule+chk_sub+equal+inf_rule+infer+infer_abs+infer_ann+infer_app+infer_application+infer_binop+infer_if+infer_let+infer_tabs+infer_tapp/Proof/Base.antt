@@ -5,67 +5,67 @@ use borrow.Fn.Kinds.{In}
 use borrow.Fn.PlainCycle.{Measures, is, falls, and}
 use Rattle.inference.proofs.app_arr.Reads as app-arr
 use Rattle.inference.proofs.app_arr.Kinds as app-arr-kinds
-use Rattle.inference.proofs.+app_arr+app_etvar+app_rule+check+check_all+check_lam+check_rule+check_sub+infer+infer_abs+infer_ann+infer_app+infer_application+infer_binop+infer_both+infer_eq+infer_if+infer_let+infer_rule+infer_tabs+infer_tapp.Lts-app_arr as app-arr-lts
+use Rattle.inference.proofs.+app_arr+app_etvar+app_rule+both+check+chk_all+chk_lam+chk_rule+chk_sub+equal+inf_rule+infer+infer_abs+infer_ann+infer_app+infer_application+infer_binop+infer_if+infer_let+infer_tabs+infer_tapp.Lts-app_arr as app-arr-lts
 use Rattle.inference.proofs.app_etvar.Reads as app-etvar
 use Rattle.inference.proofs.app_etvar.Kinds as app-etvar-kinds
-use Rattle.inference.proofs.+app_arr+app_etvar+app_rule+check+check_all+check_lam+check_rule+check_sub+infer+infer_abs+infer_ann+infer_app+infer_application+infer_binop+infer_both+infer_eq+infer_if+infer_let+infer_rule+infer_tabs+infer_tapp.Lts-app_etvar as app-etvar-lts
+use Rattle.inference.proofs.+app_arr+app_etvar+app_rule+both+check+chk_all+chk_lam+chk_rule+chk_sub+equal+inf_rule+infer+infer_abs+infer_ann+infer_app+infer_application+infer_binop+infer_if+infer_let+infer_tabs+infer_tapp.Lts-app_etvar as app-etvar-lts
 use Rattle.inference.proofs.app_rule.Reads as app-rule
 use Rattle.inference.proofs.app_rule.Kinds as app-rule-kinds
-use Rattle.inference.proofs.+app_arr+app_etvar+app_rule+check+check_all+check_lam+check_rule+check_sub+infer+infer_abs+infer_ann+infer_app+infer_application+infer_binop+infer_both+infer_eq+infer_if+infer_let+infer_rule+infer_tabs+infer_tapp.Lts-app_rule as app-rule-lts
+use Rattle.inference.proofs.+app_arr+app_etvar+app_rule+both+check+chk_all+chk_lam+chk_rule+chk_sub+equal+inf_rule+infer+infer_abs+infer_ann+infer_app+infer_application+infer_binop+infer_if+infer_let+infer_tabs+infer_tapp.Lts-app_rule as app-rule-lts
 use Rattle.inference.proofs.check.Reads as check
 use Rattle.inference.proofs.check.Kinds as check-kinds
-use Rattle.inference.proofs.+app_arr+app_etvar+app_rule+check+check_all+check_lam+check_rule+check_sub+infer+infer_abs+infer_ann+infer_app+infer_application+infer_binop+infer_both+infer_eq+infer_if+infer_let+infer_rule+infer_tabs+infer_tapp.Lts-check as check-lts
-use Rattle.inference.proofs.check_all.Reads as check-all
-use Rattle.inference.proofs.check_all.Kinds as check-all-kinds
-use Rattle.inference.proofs.+app_arr+app_etvar+app_rule+check+check_all+check_lam+check_rule+check_sub+infer+infer_abs+infer_ann+infer_app+infer_application+infer_binop+infer_both+infer_eq+infer_if+infer_let+infer_rule+infer_tabs+infer_tapp.Lts-check_all as check-all-lts
-use Rattle.inference.proofs.check_lam.Reads as check-lam
-use Rattle.inference.proofs.check_lam.Kinds as check-lam-kinds
-use Rattle.inference.proofs.+app_arr+app_etvar+app_rule+check+check_all+check_lam+check_rule+check_sub+infer+infer_abs+infer_ann+infer_app+infer_application+infer_binop+infer_both+infer_eq+infer_if+infer_let+infer_rule+infer_tabs+infer_tapp.Lts-check_lam as check-lam-lts
-use Rattle.inference.proofs.check_rule.Reads as check-rule
-use Rattle.inference.proofs.check_rule.Kinds as check-rule-kinds
-use Rattle.inference.proofs.+app_arr+app_etvar+app_rule+check+check_all+check_lam+check_rule+check_sub+infer+infer_abs+infer_ann+infer_app+infer_application+infer_binop+infer_both+infer_eq+infer_if+infer_let+infer_rule+infer_tabs+infer_tapp.Lts-check_rule as check-rule-lts
-use Rattle.inference.proofs.check_sub.Reads as check-sub
-use Rattle.inference.proofs.check_sub.Kinds as check-sub-kinds
-use Rattle.inference.proofs.+app_arr+app_etvar+app_rule+check+check_all+check_lam+check_rule+check_sub+infer+infer_abs+infer_ann+infer_app+infer_application+infer_binop+infer_both+infer_eq+infer_if+infer_let+infer_rule+infer_tabs+infer_tapp.Lts-check_sub as check-sub-lts
+use Rattle.inference.proofs.+app_arr+app_etvar+app_rule+both+check+chk_all+chk_lam+chk_rule+chk_sub+equal+inf_rule+infer+infer_abs+infer_ann+infer_app+infer_application+infer_binop+infer_if+infer_let+infer_tabs+infer_tapp.Lts-check as check-lts
+use Rattle.inference.proofs.chk_all.Reads as chk-all
+use Rattle.inference.proofs.chk_all.Kinds as chk-all-kinds
+use Rattle.inference.proofs.+app_arr+app_etvar+app_rule+both+check+chk_all+chk_lam+chk_rule+chk_sub+equal+inf_rule+infer+infer_abs+infer_ann+infer_app+infer_application+infer_binop+infer_if+infer_let+infer_tabs+infer_tapp.Lts-chk_all as chk-all-lts
+use Rattle.inference.proofs.chk_lam.Reads as chk-lam
+use Rattle.inference.proofs.chk_lam.Kinds as chk-lam-kinds
+use Rattle.inference.proofs.+app_arr+app_etvar+app_rule+both+check+chk_all+chk_lam+chk_rule+chk_sub+equal+inf_rule+infer+infer_abs+infer_ann+infer_app+infer_application+infer_binop+infer_if+infer_let+infer_tabs+infer_tapp.Lts-chk_lam as chk-lam-lts
+use Rattle.inference.proofs.chk_rule.Reads as chk-rule
+use Rattle.inference.proofs.chk_rule.Kinds as chk-rule-kinds
+use Rattle.inference.proofs.+app_arr+app_etvar+app_rule+both+check+chk_all+chk_lam+chk_rule+chk_sub+equal+inf_rule+infer+infer_abs+infer_ann+infer_app+infer_application+infer_binop+infer_if+infer_let+infer_tabs+infer_tapp.Lts-chk_rule as chk-rule-lts
+use Rattle.inference.proofs.chk_sub.Reads as chk-sub
+use Rattle.inference.proofs.chk_sub.Kinds as chk-sub-kinds
+use Rattle.inference.proofs.+app_arr+app_etvar+app_rule+both+check+chk_all+chk_lam+chk_rule+chk_sub+equal+inf_rule+infer+infer_abs+infer_ann+infer_app+infer_application+infer_binop+infer_if+infer_let+infer_tabs+infer_tapp.Lts-chk_sub as chk-sub-lts
 use Rattle.inference.proofs.infer.Reads as infer
 use Rattle.inference.proofs.infer.Kinds as infer-kinds
-use Rattle.inference.proofs.+app_arr+app_etvar+app_rule+check+check_all+check_lam+check_rule+check_sub+infer+infer_abs+infer_ann+infer_app+infer_application+infer_binop+infer_both+infer_eq+infer_if+infer_let+infer_rule+infer_tabs+infer_tapp.Lts-infer as infer-lts
+use Rattle.inference.proofs.+app_arr+app_etvar+app_rule+both+check+chk_all+chk_lam+chk_rule+chk_sub+equal+inf_rule+infer+infer_abs+infer_ann+infer_app+infer_application+infer_binop+infer_if+infer_let+infer_tabs+infer_tapp.Lts-infer as infer-lts
 use Rattle.inference.proofs.infer_abs.Reads as infer-abs
 use Rattle.inference.proofs.infer_abs.Kinds as infer-abs-kinds
-use Rattle.inference.proofs.+app_arr+app_etvar+app_rule+check+check_all+check_lam+check_rule+check_sub+infer+infer_abs+infer_ann+infer_app+infer_application+infer_binop+infer_both+infer_eq+infer_if+infer_let+infer_rule+infer_tabs+infer_tapp.Lts-infer_abs as infer-abs-lts
+use Rattle.inference.proofs.+app_arr+app_etvar+app_rule+both+check+chk_all+chk_lam+chk_rule+chk_sub+equal+inf_rule+infer+infer_abs+infer_ann+infer_app+infer_application+infer_binop+infer_if+infer_let+infer_tabs+infer_tapp.Lts-infer_abs as infer-abs-lts
 use Rattle.inference.proofs.infer_ann.Reads as infer-ann
 use Rattle.inference.proofs.infer_ann.Kinds as infer-ann-kinds
-use Rattle.inference.proofs.+app_arr+app_etvar+app_rule+check+check_all+check_lam+check_rule+check_sub+infer+infer_abs+infer_ann+infer_app+infer_application+infer_binop+infer_both+infer_eq+infer_if+infer_let+infer_rule+infer_tabs+infer_tapp.Lts-infer_ann as infer-ann-lts
+use Rattle.inference.proofs.+app_arr+app_etvar+app_rule+both+check+chk_all+chk_lam+chk_rule+chk_sub+equal+inf_rule+infer+infer_abs+infer_ann+infer_app+infer_application+infer_binop+infer_if+infer_let+infer_tabs+infer_tapp.Lts-infer_ann as infer-ann-lts
 use Rattle.inference.proofs.infer_app.Reads as infer-app
 use Rattle.inference.proofs.infer_app.Kinds as infer-app-kinds
-use Rattle.inference.proofs.+app_arr+app_etvar+app_rule+check+check_all+check_lam+check_rule+check_sub+infer+infer_abs+infer_ann+infer_app+infer_application+infer_binop+infer_both+infer_eq+infer_if+infer_let+infer_rule+infer_tabs+infer_tapp.Lts-infer_app as infer-app-lts
+use Rattle.inference.proofs.+app_arr+app_etvar+app_rule+both+check+chk_all+chk_lam+chk_rule+chk_sub+equal+inf_rule+infer+infer_abs+infer_ann+infer_app+infer_application+infer_binop+infer_if+infer_let+infer_tabs+infer_tapp.Lts-infer_app as infer-app-lts
 use Rattle.inference.proofs.infer_application.Reads as infer-application
 use Rattle.inference.proofs.infer_application.Kinds as infer-application-kinds
-use Rattle.inference.proofs.+app_arr+app_etvar+app_rule+check+check_all+check_lam+check_rule+check_sub+infer+infer_abs+infer_ann+infer_app+infer_application+infer_binop+infer_both+infer_eq+infer_if+infer_let+infer_rule+infer_tabs+infer_tapp.Lts-infer_application as infer-application-lts
+use Rattle.inference.proofs.+app_arr+app_etvar+app_rule+both+check+chk_all+chk_lam+chk_rule+chk_sub+equal+inf_rule+infer+infer_abs+infer_ann+infer_app+infer_application+infer_binop+infer_if+infer_let+infer_tabs+infer_tapp.Lts-infer_application as infer-application-lts
 use Rattle.inference.proofs.infer_binop.Reads as infer-binop
 use Rattle.inference.proofs.infer_binop.Kinds as infer-binop-kinds
-use Rattle.inference.proofs.+app_arr+app_etvar+app_rule+check+check_all+check_lam+check_rule+check_sub+infer+infer_abs+infer_ann+infer_app+infer_application+infer_binop+infer_both+infer_eq+infer_if+infer_let+infer_rule+infer_tabs+infer_tapp.Lts-infer_binop as infer-binop-lts
-use Rattle.inference.proofs.infer_both.Reads as infer-both
-use Rattle.inference.proofs.infer_both.Kinds as infer-both-kinds
-use Rattle.inference.proofs.+app_arr+app_etvar+app_rule+check+check_all+check_lam+check_rule+check_sub+infer+infer_abs+infer_ann+infer_app+infer_application+infer_binop+infer_both+infer_eq+infer_if+infer_let+infer_rule+infer_tabs+infer_tapp.Lts-infer_both as infer-both-lts
-use Rattle.inference.proofs.infer_eq.Reads as infer-eq
-use Rattle.inference.proofs.infer_eq.Kinds as infer-eq-kinds
-use Rattle.inference.proofs.+app_arr+app_etvar+app_rule+check+check_all+check_lam+check_rule+check_sub+infer+infer_abs+infer_ann+infer_app+infer_application+infer_binop+infer_both+infer_eq+infer_if+infer_let+infer_rule+infer_tabs+infer_tapp.Lts-infer_eq as infer-eq-lts
+use Rattle.inference.proofs.+app_arr+app_etvar+app_rule+both+check+chk_all+chk_lam+chk_rule+chk_sub+equal+inf_rule+infer+infer_abs+infer_ann+infer_app+infer_application+infer_binop+infer_if+infer_let+infer_tabs+infer_tapp.Lts-infer_binop as infer-binop-lts
+use Rattle.inference.proofs.both.Reads as both
+use Rattle.inference.proofs.both.Kinds as both-kinds
+use Rattle.inference.proofs.+app_arr+app_etvar+app_rule+both+check+chk_all+chk_lam+chk_rule+chk_sub+equal+inf_rule+infer+infer_abs+infer_ann+infer_app+infer_application+infer_binop+infer_if+infer_let+infer_tabs+infer_tapp.Lts-both as both-lts
+use Rattle.inference.proofs.equal.Reads as equal
+use Rattle.inference.proofs.equal.Kinds as equal-kinds
+use Rattle.inference.proofs.+app_arr+app_etvar+app_rule+both+check+chk_all+chk_lam+chk_rule+chk_sub+equal+inf_rule+infer+infer_abs+infer_ann+infer_app+infer_application+infer_binop+infer_if+infer_let+infer_tabs+infer_tapp.Lts-equal as equal-lts
 use Rattle.inference.proofs.infer_if.Reads as infer-if
 use Rattle.inference.proofs.infer_if.Kinds as infer-if-kinds
-use Rattle.inference.proofs.+app_arr+app_etvar+app_rule+check+check_all+check_lam+check_rule+check_sub+infer+infer_abs+infer_ann+infer_app+infer_application+infer_binop+infer_both+infer_eq+infer_if+infer_let+infer_rule+infer_tabs+infer_tapp.Lts-infer_if as infer-if-lts
+use Rattle.inference.proofs.+app_arr+app_etvar+app_rule+both+check+chk_all+chk_lam+chk_rule+chk_sub+equal+inf_rule+infer+infer_abs+infer_ann+infer_app+infer_application+infer_binop+infer_if+infer_let+infer_tabs+infer_tapp.Lts-infer_if as infer-if-lts
 use Rattle.inference.proofs.infer_let.Reads as infer-let
 use Rattle.inference.proofs.infer_let.Kinds as infer-let-kinds
-use Rattle.inference.proofs.+app_arr+app_etvar+app_rule+check+check_all+check_lam+check_rule+check_sub+infer+infer_abs+infer_ann+infer_app+infer_application+infer_binop+infer_both+infer_eq+infer_if+infer_let+infer_rule+infer_tabs+infer_tapp.Lts-infer_let as infer-let-lts
-use Rattle.inference.proofs.infer_rule.Reads as infer-rule
-use Rattle.inference.proofs.infer_rule.Kinds as infer-rule-kinds
-use Rattle.inference.proofs.+app_arr+app_etvar+app_rule+check+check_all+check_lam+check_rule+check_sub+infer+infer_abs+infer_ann+infer_app+infer_application+infer_binop+infer_both+infer_eq+infer_if+infer_let+infer_rule+infer_tabs+infer_tapp.Lts-infer_rule as infer-rule-lts
+use Rattle.inference.proofs.+app_arr+app_etvar+app_rule+both+check+chk_all+chk_lam+chk_rule+chk_sub+equal+inf_rule+infer+infer_abs+infer_ann+infer_app+infer_application+infer_binop+infer_if+infer_let+infer_tabs+infer_tapp.Lts-infer_let as infer-let-lts
+use Rattle.inference.proofs.inf_rule.Reads as inf-rule
+use Rattle.inference.proofs.inf_rule.Kinds as inf-rule-kinds
+use Rattle.inference.proofs.+app_arr+app_etvar+app_rule+both+check+chk_all+chk_lam+chk_rule+chk_sub+equal+inf_rule+infer+infer_abs+infer_ann+infer_app+infer_application+infer_binop+infer_if+infer_let+infer_tabs+infer_tapp.Lts-inf_rule as inf-rule-lts
 use Rattle.inference.proofs.infer_tabs.Reads as infer-tabs
 use Rattle.inference.proofs.infer_tabs.Kinds as infer-tabs-kinds
-use Rattle.inference.proofs.+app_arr+app_etvar+app_rule+check+check_all+check_lam+check_rule+check_sub+infer+infer_abs+infer_ann+infer_app+infer_application+infer_binop+infer_both+infer_eq+infer_if+infer_let+infer_rule+infer_tabs+infer_tapp.Lts-infer_tabs as infer-tabs-lts
+use Rattle.inference.proofs.+app_arr+app_etvar+app_rule+both+check+chk_all+chk_lam+chk_rule+chk_sub+equal+inf_rule+infer+infer_abs+infer_ann+infer_app+infer_application+infer_binop+infer_if+infer_let+infer_tabs+infer_tapp.Lts-infer_tabs as infer-tabs-lts
 use Rattle.inference.proofs.infer_tapp.Reads as infer-tapp
 use Rattle.inference.proofs.infer_tapp.Kinds as infer-tapp-kinds
-use Rattle.inference.proofs.+app_arr+app_etvar+app_rule+check+check_all+check_lam+check_rule+check_sub+infer+infer_abs+infer_ann+infer_app+infer_application+infer_binop+infer_both+infer_eq+infer_if+infer_let+infer_rule+infer_tabs+infer_tapp.Lts-infer_tapp as infer-tapp-lts
+use Rattle.inference.proofs.+app_arr+app_etvar+app_rule+both+check+chk_all+chk_lam+chk_rule+chk_sub+equal+inf_rule+infer+infer_abs+infer_ann+infer_app+infer_application+infer_binop+infer_if+infer_let+infer_tabs+infer_tapp.Lts-infer_tapp as infer-tapp-lts
 use Rattle.contexts.proofs.push.Reads as push-reads
 use Rattle.inference.proofs.subtype_applied.Reads as subtype-applied-reads
 use Rattle.judging.proofs.enter.Reads as enter-reads
@@ -104,17 +104,17 @@ abbrev pub μ-app-rule : Measures 2 app-rule-kinds.ps ℕ
 abbrev pub μ-check : Measures 2 check-kinds.ps ℕ
 μ-check κs a = 4 * a .1 .1 .1 .0 .left
 
-abbrev pub μ-check-all : Measures 2 check-all-kinds.ps ℕ
-μ-check-all κs a = 4 * a .1 .1 .1 .0 .left + 1
+abbrev pub μ-chk-all : Measures 2 chk-all-kinds.ps ℕ
+μ-chk-all κs a = 4 * a .1 .1 .1 .0 .left + 1
 
-abbrev pub μ-check-lam : Measures 2 check-lam-kinds.ps ℕ
-μ-check-lam κs a = 4 * a .1 .1 .1 .0 .left + 1
+abbrev pub μ-chk-lam : Measures 2 chk-lam-kinds.ps ℕ
+μ-chk-lam κs a = 4 * a .1 .1 .1 .0 .left + 1
 
-abbrev pub μ-check-rule : Measures 2 check-rule-kinds.ps ℕ
-μ-check-rule κs a = 4 * a .1 .1 .1 .0 .left + 3
+abbrev pub μ-chk-rule : Measures 2 chk-rule-kinds.ps ℕ
+μ-chk-rule κs a = 4 * a .1 .1 .1 .0 .left + 3
 
-abbrev pub μ-check-sub : Measures 2 check-sub-kinds.ps ℕ
-μ-check-sub κs a = 4 * a .1 .1 .1 .0 .left + 1
+abbrev pub μ-chk-sub : Measures 2 chk-sub-kinds.ps ℕ
+μ-chk-sub κs a = 4 * a .1 .1 .1 .0 .left + 1
 
 abbrev pub μ-infer : Measures 2 infer-kinds.ps ℕ
 μ-infer κs a = 4 * a .1 .1 .1 .0 .left
@@ -134,11 +134,11 @@ abbrev pub μ-infer-application : Measures 2 infer-application-kinds.ps ℕ
 abbrev pub μ-infer-binop : Measures 2 infer-binop-kinds.ps ℕ
 μ-infer-binop κs a = 4 * a .1 .1 .1 .0 .left + 2
 
-abbrev pub μ-infer-both : Measures 2 infer-both-kinds.ps ℕ
-μ-infer-both κs a = 4 * a .1 .1 .1 .0 .left + 1
+abbrev pub μ-both : Measures 2 both-kinds.ps ℕ
+μ-both κs a = 4 * a .1 .1 .1 .0 .left + 1
 
-abbrev pub μ-infer-eq : Measures 2 infer-eq-kinds.ps ℕ
-μ-infer-eq κs a = 4 * a .1 .1 .1 .0 .left + 1
+abbrev pub μ-equal : Measures 2 equal-kinds.ps ℕ
+μ-equal κs a = 4 * a .1 .1 .1 .0 .left + 1
 
 abbrev pub μ-infer-if : Measures 2 infer-if-kinds.ps ℕ
 μ-infer-if κs a = 4 * a .1 .1 .1 .0 .left + 1
@@ -146,8 +146,8 @@ abbrev pub μ-infer-if : Measures 2 infer-if-kinds.ps ℕ
 abbrev pub μ-infer-let : Measures 2 infer-let-kinds.ps ℕ
 μ-infer-let κs a = 4 * a .1 .1 .1 .0 .left + 1
 
-abbrev pub μ-infer-rule : Measures 2 infer-rule-kinds.ps ℕ
-μ-infer-rule κs a = 4 * a .1 .1 .1 .0 .left + 3
+abbrev pub μ-inf-rule : Measures 2 inf-rule-kinds.ps ℕ
+μ-inf-rule κs a = 4 * a .1 .1 .1 .0 .left + 3
 
 abbrev pub μ-infer-tabs : Measures 2 infer-tabs-kinds.ps ℕ
 μ-infer-tabs κs a = 4 * a .1 .1 .1 .0 .left + 1
@@ -181,34 +181,34 @@ check-at t = and 2 check-kinds.ps (is 2 check-kinds.ps μ-check t) check.Pre
 abbrev pub check-below : ℕ → In 2 check-kinds.ps
 check-below t = and 2 check-kinds.ps (falls 2 check-kinds.ps _<_ μ-check t) check.Pre
 
-abbrev pub check-all-at : ℕ → In 2 check-all-kinds.ps
-check-all-at t = and 2 check-all-kinds.ps (is 2 check-all-kinds.ps μ-check-all t) check-all.Pre
+abbrev pub chk-all-at : ℕ → In 2 chk-all-kinds.ps
+chk-all-at t = and 2 chk-all-kinds.ps (is 2 chk-all-kinds.ps μ-chk-all t) chk-all.Pre
 
-abbrev pub check-all-below : ℕ → In 2 check-all-kinds.ps
-check-all-below t =
-    and 2 check-all-kinds.ps (falls 2 check-all-kinds.ps _<_ μ-check-all t) check-all.Pre
+abbrev pub chk-all-below : ℕ → In 2 chk-all-kinds.ps
+chk-all-below t =
+    and 2 chk-all-kinds.ps (falls 2 chk-all-kinds.ps _<_ μ-chk-all t) chk-all.Pre
 
-abbrev pub check-lam-at : ℕ → In 2 check-lam-kinds.ps
-check-lam-at t = and 2 check-lam-kinds.ps (is 2 check-lam-kinds.ps μ-check-lam t) check-lam.Pre
+abbrev pub chk-lam-at : ℕ → In 2 chk-lam-kinds.ps
+chk-lam-at t = and 2 chk-lam-kinds.ps (is 2 chk-lam-kinds.ps μ-chk-lam t) chk-lam.Pre
 
-abbrev pub check-lam-below : ℕ → In 2 check-lam-kinds.ps
-check-lam-below t =
-    and 2 check-lam-kinds.ps (falls 2 check-lam-kinds.ps _<_ μ-check-lam t) check-lam.Pre
+abbrev pub chk-lam-below : ℕ → In 2 chk-lam-kinds.ps
+chk-lam-below t =
+    and 2 chk-lam-kinds.ps (falls 2 chk-lam-kinds.ps _<_ μ-chk-lam t) chk-lam.Pre
 
-abbrev pub check-rule-at : ℕ → In 2 check-rule-kinds.ps
-check-rule-at t =
-    and 2 check-rule-kinds.ps (is 2 check-rule-kinds.ps μ-check-rule t) check-rule.Pre
+abbrev pub chk-rule-at : ℕ → In 2 chk-rule-kinds.ps
+chk-rule-at t =
+    and 2 chk-rule-kinds.ps (is 2 chk-rule-kinds.ps μ-chk-rule t) chk-rule.Pre
 
-abbrev pub check-rule-below : ℕ → In 2 check-rule-kinds.ps
-check-rule-below t =
-    and 2 check-rule-kinds.ps (falls 2 check-rule-kinds.ps _<_ μ-check-rule t) check-rule.Pre
+abbrev pub chk-rule-below : ℕ → In 2 chk-rule-kinds.ps
+chk-rule-below t =
+    and 2 chk-rule-kinds.ps (falls 2 chk-rule-kinds.ps _<_ μ-chk-rule t) chk-rule.Pre
 
-abbrev pub check-sub-at : ℕ → In 2 check-sub-kinds.ps
-check-sub-at t = and 2 check-sub-kinds.ps (is 2 check-sub-kinds.ps μ-check-sub t) check-sub.Pre
+abbrev pub chk-sub-at : ℕ → In 2 chk-sub-kinds.ps
+chk-sub-at t = and 2 chk-sub-kinds.ps (is 2 chk-sub-kinds.ps μ-chk-sub t) chk-sub.Pre
 
-abbrev pub check-sub-below : ℕ → In 2 check-sub-kinds.ps
-check-sub-below t =
-    and 2 check-sub-kinds.ps (falls 2 check-sub-kinds.ps _<_ μ-check-sub t) check-sub.Pre
+abbrev pub chk-sub-below : ℕ → In 2 chk-sub-kinds.ps
+chk-sub-below t =
+    and 2 chk-sub-kinds.ps (falls 2 chk-sub-kinds.ps _<_ μ-chk-sub t) chk-sub.Pre
 
 abbrev pub infer-at : ℕ → In 2 infer-kinds.ps
 infer-at t = and 2 infer-kinds.ps (is 2 infer-kinds.ps μ-infer t) infer.Pre
@@ -261,20 +261,20 @@ abbrev pub infer-binop-below : ℕ → In 2 infer-binop-kinds.ps
 infer-binop-below t =
     and 2 infer-binop-kinds.ps (falls 2 infer-binop-kinds.ps _<_ μ-infer-binop t) infer-binop.Pre
 
-abbrev pub infer-both-at : ℕ → In 2 infer-both-kinds.ps
-infer-both-at t =
-    and 2 infer-both-kinds.ps (is 2 infer-both-kinds.ps μ-infer-both t) infer-both.Pre
+abbrev pub both-at : ℕ → In 2 both-kinds.ps
+both-at t =
+    and 2 both-kinds.ps (is 2 both-kinds.ps μ-both t) both.Pre
 
-abbrev pub infer-both-below : ℕ → In 2 infer-both-kinds.ps
-infer-both-below t =
-    and 2 infer-both-kinds.ps (falls 2 infer-both-kinds.ps _<_ μ-infer-both t) infer-both.Pre
+abbrev pub both-below : ℕ → In 2 both-kinds.ps
+both-below t =
+    and 2 both-kinds.ps (falls 2 both-kinds.ps _<_ μ-both t) both.Pre
 
-abbrev pub infer-eq-at : ℕ → In 2 infer-eq-kinds.ps
-infer-eq-at t = and 2 infer-eq-kinds.ps (is 2 infer-eq-kinds.ps μ-infer-eq t) infer-eq.Pre
+abbrev pub equal-at : ℕ → In 2 equal-kinds.ps
+equal-at t = and 2 equal-kinds.ps (is 2 equal-kinds.ps μ-equal t) equal.Pre
 
-abbrev pub infer-eq-below : ℕ → In 2 infer-eq-kinds.ps
-infer-eq-below t =
-    and 2 infer-eq-kinds.ps (falls 2 infer-eq-kinds.ps _<_ μ-infer-eq t) infer-eq.Pre
+abbrev pub equal-below : ℕ → In 2 equal-kinds.ps
+equal-below t =
+    and 2 equal-kinds.ps (falls 2 equal-kinds.ps _<_ μ-equal t) equal.Pre
 
 abbrev pub infer-if-at : ℕ → In 2 infer-if-kinds.ps
 infer-if-at t = and 2 infer-if-kinds.ps (is 2 infer-if-kinds.ps μ-infer-if t) infer-if.Pre
@@ -290,13 +290,13 @@ abbrev pub infer-let-below : ℕ → In 2 infer-let-kinds.ps
 infer-let-below t =
     and 2 infer-let-kinds.ps (falls 2 infer-let-kinds.ps _<_ μ-infer-let t) infer-let.Pre
 
-abbrev pub infer-rule-at : ℕ → In 2 infer-rule-kinds.ps
-infer-rule-at t =
-    and 2 infer-rule-kinds.ps (is 2 infer-rule-kinds.ps μ-infer-rule t) infer-rule.Pre
+abbrev pub inf-rule-at : ℕ → In 2 inf-rule-kinds.ps
+inf-rule-at t =
+    and 2 inf-rule-kinds.ps (is 2 inf-rule-kinds.ps μ-inf-rule t) inf-rule.Pre
 
-abbrev pub infer-rule-below : ℕ → In 2 infer-rule-kinds.ps
-infer-rule-below t =
-    and 2 infer-rule-kinds.ps (falls 2 infer-rule-kinds.ps _<_ μ-infer-rule t) infer-rule.Pre
+abbrev pub inf-rule-below : ℕ → In 2 inf-rule-kinds.ps
+inf-rule-below t =
+    and 2 inf-rule-kinds.ps (falls 2 inf-rule-kinds.ps _<_ μ-inf-rule t) inf-rule.Pre
 
 abbrev pub infer-tabs-at : ℕ → In 2 infer-tabs-kinds.ps
 infer-tabs-at t =
@@ -354,14 +354,14 @@ abbrev pub check-claims : ℕ → check-lts.Claims
 check-claims t = (
   enter-reads.Asked,
   enter-reads.Learnt,
-  check-rule-below t,
-  check-rule.Post,
+  chk-rule-below t,
+  chk-rule.Post,
   leave-reads.Asked,
   leave-reads.Learnt,
 )
 
-abbrev pub check-all-claims : ℕ → check-all-lts.Claims
-check-all-claims t = (
+abbrev pub chk-all-claims : ℕ → chk-all-lts.Claims
+chk-all-claims t = (
   open-right-reads.Asked,
   open-right-reads.Learnt,
   check-below t,
@@ -370,8 +370,8 @@ check-all-claims t = (
   right-alone-reads.Learnt,
 )
 
-abbrev pub check-lam-claims : ℕ → check-lam-lts.Claims
-check-lam-claims t = (
+abbrev pub chk-lam-claims : ℕ → chk-lam-lts.Claims
+chk-lam-claims t = (
   word-reads.Asked,
   word-reads.Learnt,
   left-of-reads.Asked,
@@ -388,26 +388,26 @@ check-lam-claims t = (
   right-alone-reads.Learnt,
 )
 
-abbrev pub check-rule-claims : ℕ → check-rule-lts.Claims
-check-rule-claims t = (
+abbrev pub chk-rule-claims : ℕ → chk-rule-lts.Claims
+chk-rule-claims t = (
   word-reads.Asked,
   word-reads.Learnt,
   tag-reads.Asked,
   tag-reads.Learnt,
   check-choice-reads.Asked,
   check-choice-reads.Learnt,
-  check-lam-below t,
-  check-lam.Post,
-  check-all-below t,
-  check-all.Post,
+  chk-lam-below t,
+  chk-lam.Post,
+  chk-all-below t,
+  chk-all.Post,
   check-lit-reads.Asked,
   check-lit-reads.Learnt,
-  check-sub-below t,
-  check-sub.Post,
+  chk-sub-below t,
+  chk-sub.Post,
 )
 
-abbrev pub check-sub-claims : ℕ → check-sub-lts.Claims
-check-sub-claims t = (
+abbrev pub chk-sub-claims : ℕ → chk-sub-lts.Claims
+chk-sub-claims t = (
   infer-below t,
   infer.Post,
   subtype-applied-reads.Asked,
@@ -420,8 +420,8 @@ abbrev pub infer-claims : ℕ → infer-lts.Claims
 infer-claims t = (
   enter-reads.Asked,
   enter-reads.Learnt,
-  infer-rule-below t,
-  infer-rule.Post,
+  inf-rule-below t,
+  inf-rule.Post,
   leave-reads.Asked,
   leave-reads.Learnt,
 )
@@ -476,14 +476,14 @@ abbrev pub infer-binop-claims : ℕ → infer-binop-lts.Claims
 infer-binop-claims t = (
   word-reads.Asked,
   word-reads.Learnt,
-  infer-both-below t,
-  infer-both.Post,
-  infer-eq-below t,
-  infer-eq.Post,
+  both-below t,
+  both.Post,
+  equal-below t,
+  equal.Post,
 )
 
-abbrev pub infer-both-claims : ℕ → infer-both-lts.Claims
-infer-both-claims t = (
+abbrev pub both-claims : ℕ → both-lts.Claims
+both-claims t = (
   word-reads.Asked,
   word-reads.Learnt,
   check-below t,
@@ -492,8 +492,8 @@ infer-both-claims t = (
   plain-out-reads.Learnt,
 )
 
-abbrev pub infer-eq-claims : ℕ → infer-eq-lts.Claims
-infer-eq-claims t = (
+abbrev pub equal-claims : ℕ → equal-lts.Claims
+equal-claims t = (
   word-reads.Asked,
   word-reads.Learnt,
   infer-below t,
@@ -530,8 +530,8 @@ infer-let-claims t = (
   keep-out-reads.Learnt,
 )
 
-abbrev pub infer-rule-claims : ℕ → infer-rule-lts.Claims
-infer-rule-claims t = (
+abbrev pub inf-rule-claims : ℕ → inf-rule-lts.Claims
+inf-rule-claims t = (
   word-reads.Asked,
   word-reads.Learnt,
   infer-var-reads.Asked,
