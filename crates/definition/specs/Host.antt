@@ -9,10 +9,11 @@ use Rattle.definition.specs.Reply.{Reply, refusal, reply, reply-computes
 
 -- ---- Little-endian words
 
--- the first n words of the bytes b
+-- the word i of the bytes b
 unfoldable pub wordAt : List ℕ → ℕ → ℕ
 wordAt b i = getD b (4 * i) 0 + 256 * getD b (4 * i + 1) 0 + 65536 * getD b (4 * i + 2) 0 + 16777216 * getD b (4 * i + 3) 0
 
+-- the first n words of the bytes b
 unfoldable pub wordsOf : List ℕ → ℕ → List ℕ
 wordsOf b zero = []
 wordsOf b (suc n) = wordsOf b n ++ (wordAt b n ∷ [])

@@ -8,7 +8,7 @@ const BUDGET: u32 = 384;
 
 // How many words of report there are: none where its length passes the room, which it does for NoRoom alone.
 fn shown(len: usize, room: usize) -> usize
-    ensures { λ n. ⌜ n ≤ room ⌝ }
+    ensures { λ n. ⌜ (n ≤ room) × (len ≤ room → n ≡ len) × (room < len → n ≡ 0) ⌝ }
 {
     if room < len { 0 } else { len }
 }
@@ -27,7 +27,9 @@ fn say(out: &mut [u8], r: Reply, report: &[u32])
 }
 
 // The reply to input that isn't whole words, or is too long.
-fn bad_length() -> Reply {
+fn bad_length() -> Reply
+    ensures { λ r. ⌜ r ≡ record { code = 3; at = 0; len = 0; units = 0 } ⌝ }
+{
     Reply {
         code: 3,
         at: 0,
