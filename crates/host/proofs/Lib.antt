@@ -1,0 +1,2 @@
+-- Laws behind the functions for C.
+pub mod Replying

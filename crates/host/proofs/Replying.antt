@@ -1,0 +1,91 @@
+-- From the reply in words to the reply slice.
+use mathlib.Core.Path.{_≡_, refl, sym, ap, _∙_}
+use mathlib.Core.Bool.{Bool, true, false}
+use mathlib.Core.List.{List, [], _∷_, _++_, append-assoc}
+use Prim.Native.Nat.{ℕ, suc, _+_, _-_, _*_, _/_, _≤_, _<_, min}
+use native.Mathlib.Omega.{arith}
+use native.Mathlib.Nat.{sub-zero}
+use lib.ListN.{length, take, drop}
+use lib.Seq.{take-at, drop-drop, drop-append-add}
+use lib.Dec.{ltb, lt→ltb}
+use mir.Facts.{no-ltb}
+use Rattle.definition.specs.Syntax.{pick}
+use Rattle.definition.specs.Reply.{Reply}
+use Rattle.definition.specs.Memory.{reportAfter}
+use Rattle.definition.specs.Host.{bytesOf, deskReply, byteReply, numbers, hostCall}
+use Rattle.laws.proofs.Steps.{is-true, is-false}
+use Rattle.entry.specs.declared.Reply as entry
+use Rattle.entry.specs.Entry.{Numbers, Replied}
+use Rattle.wire.proofs.Bytes.{length-bytes}
+use Rattle.sized.specs.Sized as sized
+use Rattle.sized.specs.Sized.{writtenOf}
+use Rattle.sized.proofs.Lengths.{in-bytes, length-written}
+use Rattle.host.specs.Host.{Told, Answered, Checked, numbersOf}
+
+-- ## The report's first words
+
+pub within : {b part t : List ℕ} {r : entry.Reply} (room : ℕ) (rest : List ℕ) → length part ≡ room → room ≤ 4096
+    → sized.Answered b part t r → Told b room (t ++ rest) r
+unfolding reportAfter
+within {b} {part} {t} {r} room rest l h a =
+    let R : Reply = byteReply room b in
+    let n : Numbers R r = rw l at (a .numbers) in
+    let e : t ≡ R .report ++ drop (length (R .report)) part = rw l at (a .report) in
+    let k : length (R .report) ≡ writtenOf r = length-written (in-bytes room b) n in
+    record {
+      numbers = n;
+      report = rw e (ap (take (writtenOf r)) (append-assoc (R .report) (drop (length (R .report)) part) rest) ∙ take-at (R .report) _ (writtenOf r) k);
+      fits = omega (arith, k, in-bytes room b .within);
+    }
+
+-- ## The bytes
+
+-- the four numbers are put, then words
+pub put : (a b c e : ℕ) (ws d : List ℕ) {d₁ d₂ : List ℕ} → d₁ ≡ bytesOf (a ∷ b ∷ c ∷ e ∷ []) ++ drop 16 d
+    → d₂ ≡ take 16 d₁ ++ (bytesOf ws ++ drop (16 + 4 * length ws) d₁) → d₂ ≡ bytesOf (a ∷ b ∷ c ∷ e ∷ ws) ++ drop (16 + 4 * length ws) d
+unfolding bytesOf
+put a b c e ws d f g =
+    let four : List ℕ = bytesOf (a ∷ b ∷ c ∷ e ∷ []) in
+    let k : ℕ = 4 * length ws in
+    let tk : take 16 (four ++ drop 16 d) ≡ four = take-at four (drop 16 d) 16 (length-bytes (a ∷ b ∷ c ∷ e ∷ [])) in
+    let dp : drop (16 + k) (four ++ drop 16 d) ≡ drop (16 + k) d = drop-append-add four (drop 16 d) k ∙ drop-drop k 16 d in
+    g ∙ ap (λ (l : List ℕ). take 16 l ++ (bytesOf ws ++ drop (16 + k) l)) f
+    ∙ ap (λ (l : List ℕ). l ++ (bytesOf ws ++ drop (16 + k) (four ++ drop 16 d))) tk
+    ∙ ap (λ (l : List ℕ). four ++ (bytesOf ws ++ l)) dp
+
+-- ## The call
+
+pub short : {b s : List ℕ} → length s < 16 → Answered b s s 8
+unfolding hostCall pick
+short {b} {s} h = let t = is-true (ltb (length s) 16) (lt→ltb (length s) 16 h) in record { returns = rw t; reply = rw t }
+
+capped : (room : ℕ) (b : List ℕ) → byteReply (min room 4096) b ≡ byteReply room b
+unfolding byteReply deskReply
+capped room b = let e : min (min room 4096) 4096 ≡ min room 4096 = omega arith in rw e
+
+pub answered : {b s s′ rep : List ℕ} {r : entry.Reply} {room n : ℕ} → 16 ≤ length s → room ≡ min ((length s - 16) / 4) 4096 → Told b room rep r
+    → n ≡ writtenOf r
+    → s′ ≡ bytesOf (numbersOf r ++ take (n - 0) (drop 0 rep)) ++ drop (16 + 4 * length (take (n - 0) (drop 0 rep))) s → Answered b s s′ (r .code)
+unfolding hostCall pick numbers
+answered {b} {s} {s′} {rep} {r} {room} {n} h e t w f =
+    let R : Reply = byteReply ((length s - 16) / 4) b in
+    let i : byteReply room b ≡ R = ap (λ (m : ℕ). byteReply m b) e ∙ capped ((length s - 16) / 4) b in
+    let p : Numbers R r = rw i at (t .numbers) in
+    let q : take (n - 0) (drop 0 rep) ≡ R .report = rw (w, sub-zero) (rw i at (t .report)) in
+    let l = is-false (ltb (length s) 16) (no-ltb h) in
+    let k : 16 + 4 * length (R .report) ≡ 4 * suc (suc (suc (suc (length (R .report))))) = omega arith in
+    record { returns = rw l (p .code); reply = f ∙ rw (l, q, p .code, p .at, p .len, p .units, k) }
+
+-- ## The numbers of the free function
+
+pub checked : {budget : ℕ} {q w w′ s s′ : List ℕ} {r : entry.Reply} → Replied budget q w w′ s s′ r
+    → Checked budget q w w′ s s′ (numbersOf r) (r .code)
+unfolding numbers
+checked a =
+    let n = a .numbers in
+    record {
+      returns = n .code;
+      four = rw (n .code, n .at, n .len, n .units);
+      report = a .report;
+      work = a .work;
+    }

@@ -1,0 +1,2 @@
+-- The functions for C.
+pub mod Host

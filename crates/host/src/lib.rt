@@ -1,0 +1,89 @@
+// The functions for C: the telephone host's, in bytes, and one with every parameter free, in words.
+ghost use mathlib.Core.Path.{_≡_};
+ghost use mathlib.Core.List.{_∷_, _++_};
+ghost use Prim.Native.Nat.{_+_, _-_, _*_, _/_, _≤_, min};
+ghost use lib.ListN.{length, drop};
+ghost use Rattle.definition.specs.Host.{bytesOf};
+ghost use Rattle.host.specs.Host.{Lent, Told, Answered, Checked, numbersOf};
+use entry::Reply;
+
+// How many words of report a reply of n bytes has room for.
+fn room_for(n: usize) -> usize
+    requires { ⌜ 16 ≤ n ⌝ }
+    ensures { λ r. ⌜ r ≡ min ((n - 16) / 4) 4096 ⌝ }
+{
+    let most = (n - 16) / 4;
+    if 4096 < most { 4096 } else { most }
+}
+
+// The four numbers, then the words of the report, little-endian.
+fn put_reply(reply: &mut [u8], r: Reply, report: &[u32])
+    requires { ⌜ 16 + 4 * length (now report) ≤ length (now reply) ⌝ }
+    ensures { λ _. ⌜ now (reply .exit) ≡ bytesOf (numbersOf r ++ now (report .entry)) ++ drop (16 + 4 * length (now (report .entry))) (now (reply .entry)) ⌝ }
+{
+    let four = [r.code, r.at, r.len, r.units];
+    wire::put_words(reply, 0, &four);
+    wire::put_words(reply, 16, report);
+}
+
+// The answer, with the first words of the report slice for its report, as many as there is room for.
+fn answer_within(
+    question: &[u8],
+    words: &mut [u32],
+    work: &mut [u32],
+    report: &mut [u32],
+    room: usize,
+) -> Reply
+    requires { ⌜ (Lent (now words) (now work) (now report)) × (room ≤ 4096) ⌝ }
+    ensures { λ r. ⌜ Told (now (question .entry)) room (now (report .exit)) r ⌝ }
+{
+    sized::answer(question, words, work, &mut report[0..room])
+}
+
+// The telephone host's function, in what it lends itself.
+fn answer_in(
+    question: &[u8],
+    reply: &mut [u8],
+    words: &mut [u32],
+    work: &mut [u32],
+    report: &mut [u32],
+) -> u32
+    requires { ⌜ Lent (now words) (now work) (now report) ⌝ }
+    ensures { λ r. ⌜ Answered (now (question .entry)) (now (reply .entry)) (now (reply .exit)) r ⌝ }
+{
+    if reply.len() < 16 {
+        return 8;
+    }
+    let room = room_for(reply.len());
+    let r = answer_within(question, words, work, report, room);
+    let n = sized::written(r);
+    put_reply(reply, r, &report[0..n]);
+    r.code
+}
+
+// The telephone host's function: bytes in, bytes out, with the desk program's sizes.
+#[no_mangle]
+pub extern "C" fn sporeflask_answer(question: &[u8], reply: &mut [u8]) -> u32
+    ensures { λ r. ⌜ Answered (now (question .entry)) (now (reply .entry)) (now (reply .exit)) r ⌝ }
+{
+    let mut words = [0u32; 2048];
+    let mut work = [0u32; 16384];
+    let mut report = [0u32; 4096];
+    answer_in(question, reply, &mut words, &mut work, &mut report)
+}
+
+// The library's entry with every parameter free; the four numbers go to the caller's array.
+#[no_mangle]
+pub extern "C" fn sporeflask_check(
+    question: &[u32],
+    budget: u32,
+    work: &mut [u32],
+    report: &mut [u32],
+    numbers: &mut [u32; 4],
+) -> u32
+    ensures { λ r. ⌜ Checked budget (now (question .entry)) (now (work .entry)) (now (work .exit)) (now (report .entry)) (now (report .exit)) (now (numbers .exit)) r ⌝ }
+{
+    let r = entry::check(question, budget, work, report);
+    *numbers = [r.code, r.at, r.len, r.units];
+    r.code
+}

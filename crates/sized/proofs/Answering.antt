@@ -1,0 +1,68 @@
+-- From words read to the reply in bytes.
+use mathlib.Core.Path.{_≡_, refl, sym, ap, _∙_}
+use mathlib.Core.Bool.{Bool, true, false}
+use mathlib.Core.List.{List, _++_}
+use mathlib.Core.Logic.{_≢_}
+use Prim.Native.Nat.{ℕ, _-_, _*_, _/_, _%_, _≤_, _<_, min}
+use native.Mathlib.Omega.{arith}
+use native.Mathlib.Nat.{sub-zero}
+use lib.ListN.{length, take, drop}
+use lib.Seq.{take-at}
+use lib.Dec.{eqb, eqb-refl}
+use mir.Facts.{no-eqb}
+use Rattle.definition.specs.Syntax.{pick}
+use Rattle.definition.specs.Reply.{Reply, refusal, reply, workWords}
+use Rattle.definition.specs.Memory.{reportAfter, call}
+use Rattle.definition.specs.Host.{wordsOf, deskReply, byteReply}
+use Rattle.laws.proofs.Steps.{is-true, is-false, pick-true, pick-false}
+use Rattle.entry.specs.declared.Reply as entry
+use Rattle.entry.specs.Entry.{Replied}
+use Rattle.entry.proofs.Refusing.{too-long}
+use Rattle.wire.proofs.Bytes.{length-words}
+use Rattle.sized.specs.Sized.{Lent, Answered}
+
+-- ## BadLength
+
+-- nothing is written
+pub refused : {b s : List ℕ} → byteReply (length s) b ≡ refusal 3 0 0 → Answered b s s (record { code = 3; at = 0; len = 0; units = 0 })
+unfolding refusal reportAfter
+refused e = record { numbers = record { code = rw e; at = rw e; len = rw e; units = rw e }; report = rw e }
+
+pub too-many : (room : ℕ) (b : List ℕ) → 2048 < length b / 4 → byteReply room b ≡ refusal 3 0 0
+unfolding byteReply deskReply workWords pick
+too-many room b h = go (eqb (length b % 4) 0)
+  where
+    ws : List ℕ
+    ws = wordsOf b (length b / 4)
+
+    long : reply 384 16384 (min room 4096) ws ≡ refusal 3 0 0
+    long = too-long 384 16384 (min room 4096) ws (omega arith) (omega arith) (omega arith) (omega (arith, length-words b (length b / 4)))
+
+    go : (x : Bool) → pick x (reply 384 16384 (min room 4096) ws) (refusal 3 0 0) ≡ refusal 3 0 0
+    go true = long
+    go false = refl
+
+pub not-whole : (room : ℕ) (b : List ℕ) → 4 * (length b / 4) ≢ length b → byteReply room b ≡ refusal 3 0 0
+unfolding byteReply
+not-whole room b h =
+    let p : length b % 4 ≢ 0 = λ e. h (omega arith) in
+    pick-false _ _ (is-false (eqb (length b % 4) 0) (no-eqb p))
+
+-- ## Whole words
+
+whole : (room : ℕ) (b : List ℕ) → 4 * (length b / 4) ≡ length b → room ≤ 4096
+    → byteReply room b ≡ reply 384 16384 room (wordsOf b (length b / 4))
+unfolding byteReply deskReply
+whole room b h k =
+    let e : length b % 4 ≡ 0 = omega arith in
+    let m : min room 4096 ≡ room = omega arith in
+    rw (e, m) (pick-true _ _ (is-true (eqb 0 0) (eqb-refl 0)))
+
+-- words held what was read, then what they held before
+pub asked : {b w w′ s s′ : List ℕ} (ws rest : List ℕ) {r : entry.Reply} → 4 * (length b / 4) ≡ length b → length w ≡ 16384 → length s ≤ 4096
+    → ws ≡ wordsOf b (length b / 4) ++ rest → Replied 384 (take (length b / 4 - 0) (drop 0 ws)) w w′ s s′ r → Answered b s s′ r
+unfolding call
+asked {b} {w} {w′} {s} {s′} ws rest h l m e x =
+    let q : take (length b / 4 - 0) (drop 0 ws) ≡ wordsOf b (length b / 4) = rw (sub-zero, e) (take-at (wordsOf b (length b / 4)) rest (length b / 4) (length-words b (length b / 4))) in
+    let f : reply 384 (length w) (length s) (take (length b / 4 - 0) (drop 0 ws)) ≡ byteReply (length s) b = rw (q, l) (sym (whole (length s) b h m)) in
+    record { numbers = rw (← f) (x .numbers); report = rw (← f) (x .report) }

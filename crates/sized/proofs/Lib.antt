@@ -1,0 +1,3 @@
+-- Laws behind the desk program's sizes.
+pub mod Lengths
+pub mod Answering

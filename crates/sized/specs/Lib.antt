@@ -1,0 +1,2 @@
+-- The desk program's sizes.
+pub mod Sized

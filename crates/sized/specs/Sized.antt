@@ -1,0 +1,26 @@
+-- What is lent, and what is answered: the definition's byteReply, in the four numbers and in the report slice.
+use mathlib.Core.Path.{_≡_}
+use mathlib.Core.List.{List}
+use Prim.Native.Nat.{ℕ, _≤_}
+use lib.ListN.{length}
+use lib.Dec.{eqb}
+use Rattle.definition.specs.Syntax.{pick}
+use Rattle.definition.specs.Host.{byteReply}
+use Rattle.definition.specs.Memory.{reportAfter}
+use Rattle.entry.specs.declared.Reply.{Reply}
+use Rattle.entry.specs.Entry.{Numbers}
+
+-- words for the question, work, and a report slice
+pub record Lent (ws w s : List ℕ) : Type 0 where
+  pub words : length ws ≡ 2048
+  pub work : length w ≡ 16384
+  pub room : length s ≤ 4096
+
+-- the question's bytes b, the report slice s before and s′ after
+pub record Answered (b s s′ : List ℕ) (r : Reply) : Type 0 where
+  pub numbers : Numbers (byteReply (length s) b) r
+  pub report : s′ ≡ reportAfter (byteReply (length s) b) s
+
+-- how many words of report a reply has
+abbrev pub writtenOf : Reply → ℕ
+writtenOf r = pick (eqb (r .code) 7) 0 (r .len)

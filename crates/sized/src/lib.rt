@@ -1,0 +1,41 @@
+// The entry asked in bytes, with the desk program's sizes: what the desk program and the telephone host share.
+ghost use mathlib.Core.Path.{_≡_};
+ghost use Rattle.sized.specs.Sized.{Lent, Answered, writtenOf};
+use entry::Reply;
+
+const BUDGET: u32 = 384;
+
+// The reply to bytes that are not whole words, or are too many.
+fn bad_length() -> Reply
+    ensures { λ r. ⌜ r ≡ record { code = 3; at = 0; len = 0; units = 0 } ⌝ }
+{
+    Reply {
+        code: 3,
+        at: 0,
+        len: 0,
+        units: 0,
+    }
+}
+
+// Answers a question of little-endian words, in what the caller lends.
+pub fn answer(question: &[u8], words: &mut [u32], work: &mut [u32], report: &mut [u32]) -> Reply
+    requires { ⌜ Lent (now words) (now work) (now report) ⌝ }
+    ensures { λ r. ⌜ Answered (now (question .entry)) (now (report .entry)) (now (report .exit)) r ⌝ }
+{
+    let n = question.len() / 4;
+    if 2048 < n {
+        return bad_length();
+    }
+    if 4 * n != question.len() {
+        return bad_length();
+    }
+    wire::read_words(question, words, n);
+    entry::check(&words[0..n], BUDGET, work, report)
+}
+
+// How many words of report were written: none on NoRoom, whose length is the needed one.
+pub fn written(r: Reply) -> usize
+    ensures { λ n. ⌜ n ≡ writtenOf r ⌝ }
+{
+    if r.code == 7 { 0 } else { r.len as usize }
+}
