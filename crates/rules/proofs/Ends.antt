@@ -6,7 +6,6 @@ use native.Mathlib.Nat.{le-refl}
 use native.Mathlib.Omega.{arith}
 use Rattle.definition.specs.Syntax.{Ty, Ctx}
 use Rattle.definition.specs.Contexts.{Key, solvedAndRight}
-use Rattle.layout.specs.Names.{ty}
 use Rattle.layout.specs.Words.{Keep}
 use Rattle.layout.specs.Denotes.{Den, Run}
 use Rattle.layout.specs.declared.Span.{Span}
