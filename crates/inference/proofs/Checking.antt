@@ -1,6 +1,6 @@
 -- The rules of check that ask judgements: ChkLam, ChkAll, ChkSub.
 use mathlib.Core.Path.{_≡_, refl, sym, _∙_}
-use mathlib.Core.Bool.{true}
+use mathlib.Core.Bool.{true, false}
 use mathlib.Core.List.{List}
 use Prim.Native.Nat.{ℕ, _+_, _*_, _≤_, _<_, _^_}
 use native.Mathlib.Omega.{arith}
@@ -36,16 +36,14 @@ use Rattle.steps.specs.declared.Body.{Body}
 use Rattle.steps.specs.declared.Instance.the-variants.{Of}
 use Rattle.steps.specs.Built.{Built}
 use Rattle.steps.specs.Opening.{ForallPre, Opens, Instances, opened, OpensRight}
-use Rattle.steps.specs.Ending.{RightAlone}
 use Rattle.steps.proofs.Forms.{IsArrow, is-arrow, IsForall, is-forall}
 use Rattle.steps.proofs.Going.{room-space, ref-small}
 use Rattle.rules.specs.declared.Mid.{Mid}
 use Rattle.rules.specs.declared.Mid.the-variants.{On, End}
 use Rattle.rules.specs.Taking.{Choice, lit-int, lit-bool, lam, all, sub, CheckPre}
-use Rattle.rules.specs.Going.{TwoIn, Passes, Nothing, Compared, PlainOut}
+use Rattle.rules.specs.Going.{TwoIn, Passes, Nothing, Compared, PlainOut, kept, KeepOut}
 use Rattle.rules.proofs.Forms.{Abs, form}
 use Rattle.rules.proofs.Choices.{chk-lam, chk-all, chk-sub}
-use Rattle.rules.proofs.Ends.{right-alone}
 use Rattle.rules.proofs.Before.{var-entry}
 use Rattle.rules.proofs.Ways.{Way, asks-infer, asks-check, den-on, otherwise, Back, back, went, grown, Onward, onward, there, turn, finish}
 use Rattle.inference.specs.Rules.{relate, Related}
@@ -168,15 +166,15 @@ module _ (m : Mode) {q w : List ℕ} {s : State} {g : Span} {ex r : ℕ} (pre : 
               lam-back : {j : Judgement} (k : AsksLam j) → Back _ _ (lam-way₂ k) (call .run _ (lam-asks k)) t
               lam-back k = back _ _ (lam-way₂ k) (call .run _ (lam-asks k)) d
 
-              pub lam-within : t .g .at + 4 * t .g .n ≤ length w₃
-              lam-within = let b = lam-back (pre .rule .asks) in omega (arith, b .run .below, b .way .room .fits, b .way .room .low)
+              pub lam-space₂ : Space w₃ (t .st) (t .g) 0
+              lam-space₂ = let b = lam-back (pre .rule .asks) in room-space (b .way .room) (t .g) 0 (b .run) (omega arith)
 
-              pub lam-done : {v : Step} → RightAlone w₃ t (kVar (tm x)) 19 v → Fires m q w w₃ s g (checkAsk ex r) v
-              unfolding ruleNumber children
+              pub lam-done : {w₄ : List ℕ} {y : Step} → KeepOut false w₃ w₄ t (kVar (tm x)) 2048 19 1 y → Fires m q w w₄ s g (checkAsk ex r) y
+              unfolding ruleNumber children kept
               lam-done f = record {
                 run = λ j k.
                     let b = lam-back k in
-                    finish Syntax.ChkLam (right-alone (rw (lam-var k) at f) q) (b .run) (int-den (b .way .room .base)) (b .way) (omega arith) refl refl (omega arith);
+                    finish Syntax.ChkLam (rw (lam-var k) at (f .finished q)) (b .run) (int-den (b .way .room .base)) (b .way) (omega arith) refl refl (omega arith);
               }
 
 -- ## ChkAll
@@ -239,15 +237,15 @@ module _ (m : Mode) {q w : List ℕ} {s : State} {g : Span} {ex r : ℕ} (pre : 
         all-back : {j : Judgement} (k : AsksAll j) → Back _ _ (all-way k) (call .run _ (all-asks k)) t
         all-back k = back _ _ (all-way k) (call .run _ (all-asks k)) d
 
-        pub all-within : t .g .at + 4 * t .g .n ≤ length w₂
-        all-within = let b = all-back (pre .rule .asks) in omega (arith, b .run .below, b .way .room .fits, b .way .room .low)
+        pub all-space : Space w₂ (t .st) (t .g) 0
+        all-space = let b = all-back (pre .rule .asks) in room-space (b .way .room) (t .g) 0 (b .run) (omega arith)
 
-        pub all-done : {v : Step} → RightAlone w₂ t (kTVar (ty (o .b))) 20 v → Fires m q w w₂ s g (checkAsk ex r) v
-        unfolding ruleNumber children
+        pub all-done : {w₃ : List ℕ} {y : Step} → KeepOut false w₂ w₃ t (kTVar (ty (o .b))) 2048 20 1 y → Fires m q w w₃ s g (checkAsk ex r) y
+        unfolding ruleNumber children kept
         all-done f = record {
           run = λ j k.
               let b = all-back k in
-              finish Syntax.ChkAll (right-alone (rw (all-opened k .opens .name) at f) q) (b .run) (int-den (b .way .room .base)) (b .way) (omega arith) refl refl (omega arith);
+              finish Syntax.ChkAll (rw (all-opened k .opens .name) at (f .finished q)) (b .run) (int-den (b .way .room .base)) (b .way) (omega arith) refl refl (omega arith);
         }
 
 -- ## ChkSub

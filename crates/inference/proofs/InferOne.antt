@@ -1,5 +1,6 @@
 -- The rules of infer that ask one judgement: InfAnn, InfLam, InfTAbs, InfTApp.
 use mathlib.Core.Path.{_≡_, refl, _∙_}
+use mathlib.Core.Bool.{true}
 use mathlib.Core.List.{List}
 use Prim.Native.Nat.{ℕ, _+_, _*_, _<_, _^_}
 use native.Mathlib.Omega.{arith}
@@ -40,7 +41,7 @@ use Rattle.rules.specs.declared.Lam.{Lam}
 use Rattle.rules.specs.declared.Mid.{Mid}
 use Rattle.rules.specs.declared.Mid.the-variants.{On, End}
 use Rattle.rules.specs.Taking.{InferPre}
-use Rattle.rules.specs.Going.{LamPre, LamIn, Two, DenOne, Instantiated, PlainOut, KeepOut, TabsPre, TabsOut}
+use Rattle.rules.specs.Going.{LamPre, LamIn, Two, DenOne, Instantiated, PlainOut, kept, KeepOut, TabsPre, TabsOut}
 use Rattle.rules.proofs.Forms.{Abs, Typed, TAbs}
 use Rattle.rules.proofs.Before.{tvar-entry}
 use Rattle.rules.proofs.Ways.{Way, asks-infer, asks-check, otherwise, Back, back, went, grown, apply-pre, AppliedTo, apply-spent, apply-done, onward, there, finish}
@@ -140,8 +141,8 @@ module _ (m : Mode) {q w : List ℕ} {s : State} {g : Span} {ex : ℕ} (pre : In
         abs-space = let k = pre .rule .asks in let b = back _ _ (abs-way k) (call .run _ (abs-asks k)) d in room-space (b .way .room) (r .g) 0 (b .run) (omega arith)
 
         pub abs-done : {w₃ : List ℕ} {y : Step}
-            → KeepOut w₂ w₃ r (kVar (tm x)) (o .ty) 4 1 y → Fires m q w w₃ s g (inferAsk ex) y
-        unfolding ruleNumber children
+            → KeepOut true w₂ w₃ r (kVar (tm x)) (o .ty) 4 1 y → Fires m q w w₃ s g (inferAsk ex) y
+        unfolding ruleNumber children kept
         abs-done fin = record {
           run = λ j k.
               let b = back _ _ (abs-way k) (call .run _ (abs-asks k)) d in

@@ -1,5 +1,6 @@
 -- The rules of infer that ask two judgements: InfApp, InfLet, and the operators.
 use mathlib.Core.Path.{_≡_, refl, _∙_}
+use mathlib.Core.Bool.{true}
 use mathlib.Core.List.{List}
 use Prim.Native.Nat.{ℕ, _+_, _*_, _≤_, _<_, _^_}
 use native.Mathlib.Omega.{arith}
@@ -32,7 +33,7 @@ use Rattle.judging.proofs.Asking.{infer-asked}
 use Rattle.judging.proofs.Steps.{NotDone}
 use Rattle.steps.proofs.Going.{room-space, ref-small}
 use Rattle.rules.specs.Taking.{InferPre}
-use Rattle.rules.specs.Going.{PlainOut, KeepOut}
+use Rattle.rules.specs.Going.{PlainOut, kept, KeepOut}
 use Rattle.rules.proofs.Forms.{App, Let, BinOp}
 use Rattle.rules.proofs.Before.{var-entry}
 use Rattle.rules.proofs.Ways.{Way, asks-infer, asks-check, asks-app, den-on, otherwise, Back, back, grown, apply-pre, AppliedTo, apply-spent, apply-done, finish}
@@ -184,8 +185,8 @@ module _ (m : Mode) {q w : List ℕ} {s : State} {g : Span} {ex : ℕ} (pre : In
             let-space₂ = let b = let-back₂ (pre .rule .asks) in room-space (b .way .room) (u .g) 0 (b .run) (omega arith)
 
             pub let-done : {w₄ : List ℕ} {v : Step}
-                → KeepOut w₃ w₄ u (kVar (tm x)) (u .ty) 6 2 v → Fires m q w w₄ s g (inferAsk ex) v
-            unfolding ruleNumber children
+                → KeepOut true w₃ w₄ u (kVar (tm x)) (u .ty) 6 2 v → Fires m q w w₄ s g (inferAsk ex) v
+            unfolding ruleNumber children kept
             let-done fin = record {
               run = λ j k.
                   let b = let-back₂ k in

@@ -1,5 +1,4 @@
--- Laws of the cycle infer, check, infer_app: a whole judgement, how its rules start, and for each rule the laws by which its needs are met.
-pub mod Whole
+-- Laws of the cycle infer, check, infer_app: how its rules start, and for each rule the laws by which its needs are met.
 pub mod Starting
 pub mod Related
 pub mod InferOne

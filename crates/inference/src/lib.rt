@@ -100,7 +100,7 @@ fn infer_abs(q: &[u32], work: &mut [u32], m: Mode, st: State, g: Span, ex: usize
     let Step::Done(r) = z else {
         return z;
     };
-    rules::keep_out(work, r, Key::Var(x), ty, 4, 1)
+    rules::keep_out(work, true, r, Key::Var(x), ty, 4, 1)
 }
 
 // InfApp: the function's type, with the context applied, takes the argument.
@@ -201,7 +201,7 @@ fn infer_let(q: &[u32], work: &mut [u32], m: Mode, st: State, g: Span, ex: usize
         return y;
     };
     let b = u.ty;
-    rules::keep_out(work, u, Key::Var(x), b, 6, 2)
+    rules::keep_out(work, true, u, Key::Var(x), b, 6, 2)
 }
 
 // InfIf: a Bool, two branches, the first's type below the second's; strict mode applies the context to both before.
@@ -376,7 +376,7 @@ fn chk_lam(q: &[u32], work: &mut [u32], m: Mode, st: State, g: Span, ex: usize, 
             let Step::Done(r) = z else {
                 return z;
             };
-            steps::right_alone(work, r, Key::Var(x), 19)
+            rules::keep_out(work, false, r, Key::Var(x), INT, 19, 1)
         }
         Mid::End(y) => y,
     }
@@ -396,7 +396,7 @@ fn chk_all(q: &[u32], work: &mut [u32], m: Mode, st: State, g: Span, ex: usize, 
     let Step::Done(r) = z else {
         return z;
     };
-    steps::right_alone(work, r, Key::TVar(b), 20)
+    rules::keep_out(work, false, r, Key::TVar(b), INT, 20, 1)
 }
 
 // ChkSub: the inferred type below the expected one, both with the context applied.

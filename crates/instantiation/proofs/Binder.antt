@@ -3,9 +3,9 @@ use mathlib.Core.Path.{_≡_, _∙_, ap}
 use mathlib.Core.List.{List}
 use Prim.Native.Nat.{ℕ}
 use Rattle.definition.specs.Syntax
-use Rattle.definition.specs.Syntax.{Ty, forall, Side, onL, onR, Judgement, inst}
-use Rattle.definition.specs.Run.{andThen}
-use Rattle.definition.specs.Contexts.{kTVar, kMark}
+use Rattle.definition.specs.Syntax.{TyVar, Ty, int, forall, Ctx, Side, onL, onR, Judgement, inst, Rule, leaf, _&_}
+use Rattle.definition.specs.Run.{Out, andThen, give}
+use Rattle.definition.specs.Contexts.{Key, kTVar, kMark, rightOf}
 use Rattle.definition.specs.Rules.{rule, judge}
 use Rattle.layout.specs.Denotes.{Den}
 use Rattle.layout.specs.Room.{Room}
@@ -15,7 +15,7 @@ use Rattle.layout.proofs.Denotes.{den-frame}
 use Rattle.judging.specs.Asking.{mode, Asks, instAsk, Small}
 use Rattle.judging.specs.declared.Mode.{Mode}
 use Rattle.judging.proofs.Asking.{InstAsked, inst-asked, asks-inst}
-use Rattle.steps.specs.Opening.{ForallPre, OpensRight, OpensLeft}
+use Rattle.steps.specs.Opening.{ForallPre, Instances, OpensRight, OpensLeft}
 use Rattle.steps.specs.declared.Body.{Body}
 use Rattle.steps.specs.declared.Instance.{Instance}
 use Rattle.steps.specs.declared.Instance.the-variants.{Of}
@@ -50,37 +50,33 @@ module _ {q w : List ℕ} {s : State} {g : Span} {sd : Side} {a t : ℕ} (pre : 
   pub all-small : {w₁ : List ℕ} {s₁ : State} {k r : ℕ} → Room q w₁ s₁ k → (T : Ty) → Den q w₁ (s₁ .top) r T → Small (instAsk sd a r)
   all-small room T d = small-inst sd (ref-small (pre .pre .room) (askd (pre .pre .asks) .unknown)) (ref-small room d)
 
+  -- the rule R, which opens the Forall with the outcome O
+  under : (m : Mode) {j : Judgement} (k : Asks q w (s .top) g (instAsk sd a t) j) {w₁ : List ℕ} {x : Instance} {Δ : Ctx} {O : Out Ty} (K : TyVar → Key) (R : Rule)
+      → Instances q w w₁ s g (inside k .a) Δ x O
+      → rule (mode m) (judge (mode m)) (inst sd (askd k .Γ) (askd k .x) (forall (inside k .a) (inside k .A))) (s .left) (s .fresh)
+      ≡ andThen O (λ T l n. andThen (judge (mode m) (inst sd Δ (askd k .x) T) l n) (λ u. give (R, int, rightOf (K (inside k .a)) (u .1), u .2 & leaf)))
+      → Under m q w w₁ s g (λ p. instAsk sd a (p .ty)) K R x j
+  under m k K R o e = record {
+    b = inside k .a;
+    Δ = _;
+    O = _;
+    opens = o;
+    i = _;
+    asks = λ p T bt op. asks-inst sd (op .run) (den-frame (bt .keep) (bt .up) (askd k .unknown)) (op .den);
+    says = says m k ∙ e;
+  }
+
 -- on the left
 pub under-l : {q w w₁ : List ℕ} {s : State} {g : Span} {a t : ℕ} {o : Body} → FormPre onL q w s g a t 6 → OpensRight q w w₁ s g t o
     → (m : Mode) (j : Judgement) → Asks q w (s .top) g (instAsk onL a t) j
     → Under m q w w₁ s g (λ p. instAsk onL a (p .ty)) kTVar Syntax.InstLAllR (Of o) j
 unfolding andThen
-under-l {s = s} pre in₁ m j k =
-    let v = askd pre k in
-    let f = inside pre k in
-    record {
-      b = f .a;
-      Δ = _;
-      O = _;
-      opens = in₁ .opens (v .Γ) (f .a) (f .A) (v .run) (whole pre k);
-      i = _;
-      asks = λ p T bt op. asks-inst onL (op .run) (den-frame (bt .keep) (bt .up) (v .unknown)) (op .den);
-      says = says pre m k ∙ all-l-is (mode m) (judge (mode m)) (v .Γ) (v .x) (s .left) (s .fresh) (f .a) (f .A);
-    }
+under-l pre in₁ m j k =
+    under pre m k kTVar Syntax.InstLAllR (in₁ .opens _ _ _ (askd pre k .run) (whole pre k)) (all-l-is (mode m) (judge (mode m)) _ _ _ _ _ _)
 
 -- on the right
 pub under-r : {q w w₁ : List ℕ} {s : State} {g : Span} {a t : ℕ} {x : Instance} → FormPre onR q w s g a t 6 → OpensLeft q w w₁ s g t x
     → (m : Mode) (j : Judgement) → Asks q w (s .top) g (instAsk onR a t) j
     → Under m q w w₁ s g (λ p. instAsk onR a (p .ty)) kMark Syntax.InstRAllL x j
-under-r {s = s} pre in₁ m j k =
-    let v = askd pre k in
-    let f = inside pre k in
-    record {
-      b = f .a;
-      Δ = _;
-      O = _;
-      opens = in₁ .opens (v .Γ) (f .a) (f .A) (v .run) (whole pre k);
-      i = _;
-      asks = λ p T bt op. asks-inst onR (op .run) (den-frame (bt .keep) (bt .up) (v .unknown)) (op .den);
-      says = says pre m k ∙ all-r-is (mode m) (judge (mode m)) (v .Γ) (v .x) (s .left) (s .fresh) (f .a) (f .A);
-    }
+under-r pre in₁ m j k =
+    under pre m k kMark Syntax.InstRAllL (in₁ .opens _ _ _ (askd pre k .run) (whole pre k)) (all-r-is (mode m) (judge (mode m)) _ _ _ _ _ _)

@@ -4,3 +4,4 @@ pub mod Nodes
 pub mod Steps
 pub mod Chain
 pub mod Judgements
+pub mod Whole

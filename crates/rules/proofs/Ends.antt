@@ -5,44 +5,25 @@ use Prim.Native.Nat.{ℕ, _+_, _*_, _≤_}
 use native.Mathlib.Nat.{le-refl}
 use native.Mathlib.Omega.{arith}
 use Rattle.definition.specs.Syntax.{Ty, Ctx}
-use Rattle.definition.specs.Contexts.{Key, rightOf, solvedAndRight}
-use Rattle.layout.specs.Names.{ty}
+use Rattle.definition.specs.Contexts.{Key, solvedAndRight}
 use Rattle.layout.specs.Words.{Keep}
-use Rattle.layout.specs.Denotes.{Den}
+use Rattle.layout.specs.Denotes.{Den, Run}
 use Rattle.layout.specs.declared.Span.{Span}
 use Rattle.layout.specs.declared.State.{State}
 use Rattle.layout.proofs.Words.{keep-refl, keep-less, keep-trans}
 use Rattle.layout.proofs.Denotes.{den-frame, run-frame}
-use Rattle.steps.specs.Ending.{RightAlone}
 use Rattle.contexts.specs.Build.{KeptBoth}
 use Rattle.contexts.specs.declared.Opened.{Opened}
-use Rattle.judging.specs.declared.Answer.{Answer}
-use Rattle.judging.specs.declared.Step.{Step}
 use Rattle.judging.specs.declared.Step.the-variants.{Done}
 use Rattle.rules.specs.Going.{Finished}
 
-module _ {s : State} {g : Span} {rule kids : ℕ} where
-  pub as-it-came : {r : ℕ} (q w : List ℕ) → Finished q w w s g r 0 (λ (Γ : Ctx). Γ) (λ (A : Ty). A) rule kids (Done (record { st = s; g = g; ty = r; rule = rule; kids = kids }))
-  as-it-came q w = record {
-    answer = _;
-    is = refl;
-    rule-is = refl;
-    kids-is = refl;
-    keep = keep-refl _ _ _;
-    up = le-refl _;
-    most = omega arith;
-    low = refl;
-    left = refl;
-    fresh = refl;
-    run = λ r. r;
-    den = λ d. d;
-  }
-
-pub right-alone : {w : List ℕ} {r : Answer} {k : Key} {n : ℕ} {z : Step} → RightAlone w r k n z → (q : List ℕ)
-    → Finished q w w (r .st) (r .g) 2048 0 (rightOf k) (λ (A : Ty). A) n 1 z
-right-alone o q = record {
+-- no word changed: some of the entries stay, as F says
+pub words-stand : {s : State} {g h : Span} {r rule kids : ℕ} (q w : List ℕ) (F : Ctx → Ctx)
+    → ((Γ : Ctx) → Run q w (s .top) (g .at) (g .n) Γ → Run q w (s .top) (h .at) (h .n) (F Γ))
+    → Finished q w w s g r 0 F (λ (A : Ty). A) rule kids (Done (record { st = s; g = h; ty = r; rule = rule; kids = kids }))
+words-stand q w F f = record {
   answer = _;
-  is = o .is;
+  is = refl;
   rule-is = refl;
   kids-is = refl;
   keep = keep-refl _ _ _;
@@ -51,7 +32,7 @@ right-alone o q = record {
   low = refl;
   left = refl;
   fresh = refl;
-  run = λ n. o .right .run n;
+  run = λ n. f _ n;
   den = λ d. d;
 }
 

@@ -1,13 +1,13 @@
 -- What the steps of a rule give: before its recursive calls, between them, and at its end.
 use mathlib.Core.Path.{_≡_}
-use mathlib.Core.Bool.{Bool}
+use mathlib.Core.Bool.{Bool, true, false}
 use mathlib.Core.List.{List}
 use Prim.Native.Nat.{ℕ, _+_, _*_, _≤_}
 use lib.ListN.{length}
 use Rattle.definition.specs.Syntax.{TyVar, Ty, etvar, arrow, forall, varBnd, etvarBnd, Ctx, TypeError}
 use Rattle.definition.specs.Run.{Out, done, fail, stop, M, _>>=_, give}
 use Rattle.definition.specs.Rules.{parameter, branch, instantiate}
-use Rattle.definition.specs.Contexts.{Key, kTVar, _▹_, solvedAndRight}
+use Rattle.definition.specs.Contexts.{Key, kTVar, _▹_, rightOf, solvedAndRight}
 use Rattle.layout.specs.Names.{tm}
 use Rattle.layout.specs.Words.{Keep}
 use Rattle.layout.specs.Denotes.{Den, Run}
@@ -120,11 +120,15 @@ pub record Finished (q w w′ : List ℕ) (s : State) (g : Span) (ty more : ℕ)
 pub record PlainOut (s : State) (g : Span) (ty rule kids : ℕ) (z : Step) : Type 0 where
   pub finished : (q w : List ℕ) → Finished q w w s g ty 0 (λ (Γ : Ctx). Γ) (λ (A : Ty). A) rule kids z
 
--- the solved entries of break3's left, then its right
-pub record KeepOut (w w′ : List ℕ) (r : Answer) (k : Key) (ty rule kids : ℕ) (z : Step) : Type 0 where
-  pub finished : (q : List ℕ) → Finished q w w′ (r .st) (r .g) ty 0 (solvedAndRight k) (λ (A : Ty). A) rule kids z
+-- break3's right, and before it the solved entries of its left where these are kept
+unfoldable pub kept : Bool → Key → Ctx → Ctx
+kept true = solvedAndRight
+kept false = rightOf
 
--- the same, with the Forall of the body type
+pub record KeepOut (keeps : Bool) (w w′ : List ℕ) (r : Answer) (k : Key) (ty rule kids : ℕ) (z : Step) : Type 0 where
+  pub finished : (q : List ℕ) → Finished q w w′ (r .st) (r .g) ty 0 (kept keeps k) (λ (A : Ty). A) rule kids z
+
+-- all that is kept there, with the Forall of the body type
 pub record TabsOut (q w w′ : List ℕ) (s : State) (g : Span) (a : TyVar) (body : ℕ) (z : Step) : Type 0 where
   pub finished : Finished q w w′ s g body 4 (solvedAndRight (kTVar a)) (forall a) 13 1 z
 

@@ -210,7 +210,8 @@ pub fn parameter(
     Mid::On(st, 0, 0)
 }
 
-// ChkSub's two types with the context applied, the first first; strict mode's InfIf too, while plain mode's takes them as they are.
+// Two types for subtype, with the context applied where `applies`, the first first: ChkSub and strict mode's InfIf apply it, plain mode's
+// InfIf and SubArr take them as they are.
 pub fn apply_both(
     q: &[u32],
     work: &mut [u32],
@@ -274,19 +275,37 @@ pub fn plain_out(st: State, g: Span, ty: usize, rule: usize, kids: usize) -> Ste
     })
 }
 
-// The solved entries of break3's left, then its right.
-pub fn keep_out(work: &mut [u32], r: Answer, k: Key, ty: usize, rule: usize, kids: usize) -> Step
+// break3's right; where `keeps`, as infer's rules do and check's do not, the solved entries of its left stand before.
+pub fn keep_out(
+    work: &mut [u32],
+    keeps: bool,
+    r: Answer,
+    k: Key,
+    ty: usize,
+    rule: usize,
+    kids: usize,
+) -> Step
     requires { ⌜ Space (now work) (r .st) (r .g) 0 ⌝ }
-    ensures { λ z. ⌜ KeepOut (now (work .entry)) (now (work .exit)) r (key k) ty rule kids z ⌝ }
+    ensures { λ z. ⌜ KeepOut keeps (now (work .entry)) (now (work .exit)) r (key k) ty rule kids z ⌝ }
 {
     let st = r.st;
     let g = r.g;
-    let o = contexts::solved_and_right(work, st, g, k);
-    let st1 = o.st;
-    let g1 = o.g;
+    if keeps {
+        let o = contexts::solved_and_right(work, st, g, k);
+        let st1 = o.st;
+        let g1 = o.g;
+        return Step::Done(Answer {
+            st: st1,
+            g: g1,
+            ty: ty,
+            rule: rule,
+            kids: kids,
+        });
+    }
+    let right = contexts::right_of(work, g, k);
     Step::Done(Answer {
-        st: st1,
-        g: g1,
+        st: st,
+        g: right,
         ty: ty,
         rule: rule,
         kids: kids,

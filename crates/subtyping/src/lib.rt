@@ -7,6 +7,7 @@ use judging::Step;
 use layout::Key;
 use layout::Span;
 use layout::State;
+use rules::Mid;
 use steps::Instance;
 ghost use Rattle.judging.specs.Asking.{subAsk, JudgePre, RulePre};
 ghost use Rattle.steps.specs.Modes.{JudgedBoth, FiresBoth};
@@ -186,11 +187,17 @@ fn sub_arr(q: &[u32], work: &mut [u32], st: State, g: Span, a: usize, b: usize) 
     };
     let st1 = r.st;
     let g1 = r.g;
-    let y = subtype(q, work, st1, g1, a2, b2);
-    let Step::Done(u) = y else {
-        return y;
-    };
-    steps::through(u, 25, 2)
+    let mid = rules::apply_both(q, work, false, st1, g1, a2, b2);
+    match mid {
+        Mid::On(st2, a3, b3) => {
+            let y = subtype(q, work, st2, g1, a3, b3);
+            let Step::Done(u) = y else {
+                return y;
+            };
+            steps::through(u, 25, 2)
+        }
+        Mid::End(x) => x,
+    }
 }
 
 // SubAllR: a against the body of b, under its name; of the output what stands right of it.

@@ -85,7 +85,6 @@ use Rattle.rules.proofs.refuse_app.Reads as refuse-app-reads
 use Rattle.rules.proofs.tabs_out.Reads as tabs-out-reads
 use Rattle.steps.proofs.open_right.Reads as open-right-reads
 use Rattle.steps.proofs.part.Reads as part-reads
-use Rattle.steps.proofs.right_alone.Reads as right-alone-reads
 use Rattle.substitution.proofs.apply_ctx_type.Reads as apply-ctx-type-reads
 use Rattle.types.proofs.left_of.Reads as left-of-reads
 use Rattle.types.proofs.name_of.Reads as name-of-reads
@@ -366,8 +365,8 @@ chk-all-claims t = (
   open-right-reads.Learnt,
   check-below t,
   check.Post,
-  right-alone-reads.Asked,
-  right-alone-reads.Learnt,
+  keep-out-reads.Asked,
+  keep-out-reads.Learnt,
 )
 
 abbrev pub chk-lam-claims : ℕ → chk-lam-lts.Claims
@@ -384,8 +383,8 @@ chk-lam-claims t = (
   push-reads.Learnt,
   check-below t,
   check.Post,
-  right-alone-reads.Asked,
-  right-alone-reads.Learnt,
+  keep-out-reads.Asked,
+  keep-out-reads.Learnt,
 )
 
 abbrev pub chk-rule-claims : ℕ → chk-rule-lts.Claims

@@ -1,7 +1,7 @@
 -- `check`: entering, its rule, leaving.
 use borrow.Author.Needs.{needs}
 use Prim.Native.Nat.{ℕ}
-use Rattle.inference.proofs.Whole.{whole-spent, whole-rule, whole-less, whole-else, whole-leave, whole-done}
+use Rattle.judging.proofs.Whole.{whole-spent, whole-rule, whole-less, whole-else, whole-leave, whole-done}
 use Rattle.judging.proofs.Judgements.{may-enter}
 use native.Mathlib.Omega.{arith}
 use Rattle.inference.proofs.check.Reads as check
@@ -18,10 +18,10 @@ pub check-enum-told : (t : ℕ) → check-lts.Need-enum-told (check-claims t) (c
 check-enum-told t c = search needs
 
 pub check-returns : (t : ℕ) → check-lts.Need-returns (check-claims t) (check-at t) check.Post
-check-returns t c = whole-spent (c .before .before .before .before .before .args .m) (c .before .before .before .before .before .pre .1) (c .before .before .enter .ensures) (c .enum-told .given .1)
+check-returns t c = whole-spent (c .before .before .enter .ensures) (c .enum-told .given .1)
 
 pub check-chk-rule-requires : (t : ℕ) → check-lts.Need-chk-rule-requires (check-claims t) (check-at t) check.Post
-check-chk-rule-requires t c κs = (omega (arith, c .before .before .before .before .before .before .before .pre .0, whole-less (c .before .before .before .before .before .before .before .args .m) (c .before .before .before .before .before .before .before .pre .1) (c .before .before .before .before .enter .ensures) (c .before .before .inner .given .1)), whole-rule (c .before .before .before .before .before .before .before .args .m) (c .before .before .before .before .before .before .before .pre .1) (c .before .before .before .before .enter .ensures) (c .before .before .inner .given .1))
+check-chk-rule-requires t c κs = (omega (arith, c .before .before .before .before .before .before .before .pre .0, whole-less (c .before .before .before .before .before .before .before .pre .1) (c .before .before .before .before .enter .ensures) (c .before .before .inner .given .1)), whole-rule (c .before .before .before .before .before .before .before .pre .1) (c .before .before .before .before .enter .ensures) (c .before .before .inner .given .1))
 
 pub check-enum-known-z : (t : ℕ) → check-lts.Need-enum-known-z (check-claims t) (check-at t) check.Post
 check-enum-known-z t c = search needs
@@ -30,13 +30,13 @@ pub check-same-length : (t : ℕ) → check-lts.Need-same-length (check-claims t
 check-same-length t c = search needs
 
 pub check-returns-2 : (t : ℕ) → check-lts.Need-returns-2 (check-claims t) (check-at t) check.Post
-check-returns-2 t c = whole-else (c .before .before .before .before .before .before .before .before .before .before .before .args .m) (c .before .before .before .before .before .before .before .before .before .before .before .pre .1) (c .before .before .before .before .before .before .before .before .enter .ensures) (c .before .before .before .before .before .before .inner .given .1) (c .before .before .before .chk-rule .ensures) (c .match2 .keys2)
+check-returns-2 t c = whole-else (c .before .before .before .before .before .before .before .before .before .before .before .pre .1) (c .before .before .before .before .before .before .before .before .enter .ensures) (c .before .before .before .before .before .before .inner .given .1) (c .before .before .before .chk-rule .ensures) (c .match2 .keys2)
 
 pub check-leave-requires : (t : ℕ) → check-lts.Need-leave-requires (check-claims t) (check-at t) check.Post
-check-leave-requires t c κs = whole-leave (c .before .before .before .before .before .before .before .before .before .before .before .before .before .before .args .m) (c .before .before .before .before .before .before .before .before .before .before .before .before .before .before .pre .1) (c .before .before .before .before .before .before .before .before .before .before .before .enter .ensures) (c .before .before .before .before .before .before .before .before .before .inner .given .1) (c .before .before .before .before .before .before .chk-rule .ensures) (c .before .before .z .given .1)
+check-leave-requires t c κs = whole-leave (c .before .before .before .before .before .before .before .before .before .before .before .before .before .before .pre .1) (c .before .before .before .before .before .before .before .before .before .before .before .enter .ensures) (c .before .before .before .before .before .before .before .before .before .inner .given .1) (c .before .before .before .before .before .before .chk-rule .ensures) (c .before .before .z .given .1)
 
 pub check-same-length-2 : (t : ℕ) → check-lts.Need-same-length-2 (check-claims t) (check-at t) check.Post
 check-same-length-2 t c = search needs
 
 pub check-returns-3 : (t : ℕ) → check-lts.Need-returns-3 (check-claims t) (check-at t) check.Post
-check-returns-3 t c = whole-done (c .before .before .before .before .before .before .before .before .before .before .before .before .before .before .before .before .before .args .m) (c .before .before .before .before .before .before .before .before .before .before .before .before .before .before .before .before .before .pre .1) (c .before .before .before .before .before .before .before .before .before .before .before .before .before .before .enter .ensures) (c .before .before .before .before .before .before .before .before .before .before .before .before .inner .given .1) (c .before .before .before .before .before .before .before .before .before .chk-rule .ensures) (c .before .before .before .before .before .z .given .1) (c .before .before .leave .ensures)
+check-returns-3 t c = whole-done (c .before .before .before .before .before .before .before .before .before .before .before .before .before .before .before .before .before .pre .1) (c .before .before .before .before .before .before .before .before .before .before .before .before .before .before .enter .ensures) (c .before .before .before .before .before .before .before .before .before .before .before .before .inner .given .1) (c .before .before .before .before .before .before .before .before .before .chk-rule .ensures) (c .before .before .before .before .before .z .given .1) (c .before .before .leave .ensures)

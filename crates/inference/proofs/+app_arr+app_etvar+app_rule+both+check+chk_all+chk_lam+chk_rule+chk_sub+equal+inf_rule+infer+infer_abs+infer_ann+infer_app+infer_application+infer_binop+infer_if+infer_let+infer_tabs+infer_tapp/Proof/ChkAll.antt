@@ -1,7 +1,7 @@
 -- `chk_all`: ChkAll.
 use borrow.Author.Needs.{needs}
 use Prim.Native.Nat.{ℕ}
-use Rattle.inference.proofs.Checking.{all-pre, all-ask, all-falls, all-else, all-within, all-done}
+use Rattle.inference.proofs.Checking.{all-pre, all-ask, all-falls, all-else, all-space, all-done}
 use native.Mathlib.Omega.{arith}
 use Rattle.inference.proofs.chk_all.Reads as chk-all
 use Rattle.inference.proofs.+app_arr+app_etvar+app_rule+both+check+chk_all+chk_lam+chk_rule+chk_sub+equal+inf_rule+infer+infer_abs+infer_ann+infer_app+infer_application+infer_binop+infer_if+infer_let+infer_tabs+infer_tapp.Lts-chk_all as chk-all-lts
@@ -22,11 +22,11 @@ chk-all-same-length t c = search needs
 pub chk-all-returns : (t : ℕ) → chk-all-lts.Need-returns (chk-all-claims t) (chk-all-at t) chk-all.Post
 chk-all-returns t c = all-else (c .before .before .before .before .before .before .before .before .before .before .before .before .before .before .args .m) (c .before .before .before .before .before .before .before .before .before .before .before .before .before .before .pre .1) (c .before .before .before .before .before .before .before .before .before .before .open-right .ensures) (c .before .before .before .check .ensures) (c .match .keys2)
 
-pub chk-all-right-alone-requires : (t : ℕ) → chk-all-lts.Need-right-alone-requires (chk-all-claims t) (chk-all-at t) chk-all.Post
-chk-all-right-alone-requires t c κs = all-within (c .before .before .before .before .before .before .before .before .before .before .before .before .before .before .before .before .before .args .m) (c .before .before .before .before .before .before .before .before .before .before .before .before .before .before .before .before .before .pre .1) (c .before .before .before .before .before .before .before .before .before .before .before .before .before .open-right .ensures) (c .before .before .before .before .before .before .check .ensures) (c .before .before .z .given .1)
+pub chk-all-keep-out-requires : (t : ℕ) → chk-all-lts.Need-keep-out-requires (chk-all-claims t) (chk-all-at t) chk-all.Post
+chk-all-keep-out-requires t c κs = all-space (c .before .before .before .before .before .before .before .before .before .before .before .before .before .before .before .before .before .args .m) (c .before .before .before .before .before .before .before .before .before .before .before .before .before .before .before .before .before .pre .1) (c .before .before .before .before .before .before .before .before .before .before .before .before .before .open-right .ensures) (c .before .before .before .before .before .before .check .ensures) (c .before .before .z .given .1)
 
 pub chk-all-same-length-2 : (t : ℕ) → chk-all-lts.Need-same-length-2 (chk-all-claims t) (chk-all-at t) chk-all.Post
 chk-all-same-length-2 t c = search needs
 
 pub chk-all-returns-2 : (t : ℕ) → chk-all-lts.Need-returns-2 (chk-all-claims t) (chk-all-at t) chk-all.Post
-chk-all-returns-2 t c = all-done (c .before .before .before .before .before .before .before .before .before .before .before .before .before .before .before .before .before .before .args .m) (c .before .before .before .before .before .before .before .before .before .before .before .before .before .before .before .before .before .before .pre .1) (c .before .before .before .before .before .before .before .before .before .before .before .before .before .before .open-right .ensures) (c .before .before .before .before .before .before .before .check .ensures) (c .before .before .before .z .given .1) (c .right-alone .ensures)
+chk-all-returns-2 t c = all-done (c .before .before .before .before .before .before .before .before .before .before .before .before .before .before .before .before .before .before .before .before .args .m) (c .before .before .before .before .before .before .before .before .before .before .before .before .before .before .before .before .before .before .before .before .pre .1) (c .before .before .before .before .before .before .before .before .before .before .before .before .before .before .before .before .open-right .ensures) (c .before .before .before .before .before .before .before .before .before .check .ensures) (c .before .before .before .before .before .z .given .1) (c .before .before .keep-out .ensures)

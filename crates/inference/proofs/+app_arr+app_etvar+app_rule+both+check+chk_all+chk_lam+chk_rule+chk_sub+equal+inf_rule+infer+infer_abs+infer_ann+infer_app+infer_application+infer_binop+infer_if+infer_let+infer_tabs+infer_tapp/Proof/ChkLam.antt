@@ -1,7 +1,7 @@
 -- `chk_lam`: ChkLam.
 use borrow.Author.Needs.{needs}
 use Prim.Native.Nat.{ℕ}
-use Rattle.inference.proofs.Checking.{lam-name, lam-table, lam-held, lam-two, lam-end, lam-space, lam-ask, lam-falls, lam-else, lam-within, lam-done}
+use Rattle.inference.proofs.Checking.{lam-name, lam-table, lam-held, lam-two, lam-end, lam-space, lam-ask, lam-falls, lam-else, lam-space₂, lam-done}
 use Rattle.inference.proofs.Starting.{check-place}
 use mathlib.Core.Path.{refl, _∙_}
 use native.Mathlib.Omega.{arith}
@@ -54,17 +54,17 @@ chk-lam-same-length t c = search needs
 pub chk-lam-returns : (t : ℕ) → chk-lam-lts.Need-returns (chk-lam-claims t) (chk-lam-at t) chk-lam.Post
 chk-lam-returns t c = lam-else (c .before .before .before .before .before .before .before .before .before .before .before .before .before .before .before .before .before .before .before .before .before .before .before .before .before .before .before .args .m) (c .before .before .before .before .before .before .before .before .before .before .before .before .before .before .before .before .before .before .before .before .before .before .before .before .before .before .before .pre .1) (c .before .before .before .before .before .before .before .before .before .before .before .before .before .before .before .before .before .before .before .before .left-of .ensures) (c .before .before .before .before .before .before .before .before .before .before .before .before .before .before .before .before .before .before .right-of .ensures) (c .before .before .before .before .before .before .before .before .before .before .before .before .before .before .before .before .parameter .ensures) (c .before .before .before .before .before .before .before .before .before .before .before .before .mid .given .1) refl (c .before .before .before .before .before .before .before .before .before .before .before .before .before .before .before .before .before .before .before .before .before .before .word .ensures .0) (c .before .before .before .before .before .before .before .before .before .push .ensures) (c .before .before .before .check .ensures) (c .match2 .keys2)
 
-pub chk-lam-right-alone-requires : (t : ℕ) → chk-lam-lts.Need-right-alone-requires (chk-lam-claims t) (chk-lam-at t) chk-lam.Post
-chk-lam-right-alone-requires t c κs = lam-within (c .before .before .before .before .before .before .before .before .before .before .before .before .before .before .before .before .before .before .before .before .before .before .before .before .before .before .before .before .before .before .args .m) (c .before .before .before .before .before .before .before .before .before .before .before .before .before .before .before .before .before .before .before .before .before .before .before .before .before .before .before .before .before .before .pre .1) (c .before .before .before .before .before .before .before .before .before .before .before .before .before .before .before .before .before .before .before .before .before .before .before .left-of .ensures) (c .before .before .before .before .before .before .before .before .before .before .before .before .before .before .before .before .before .before .before .before .before .right-of .ensures) (c .before .before .before .before .before .before .before .before .before .before .before .before .before .before .before .before .before .before .before .parameter .ensures) (c .before .before .before .before .before .before .before .before .before .before .before .before .before .before .before .mid .given .1) refl (c .before .before .before .before .before .before .before .before .before .before .before .before .before .before .before .before .before .before .before .before .before .before .before .before .before .word .ensures .0) (c .before .before .before .before .before .before .before .before .before .before .before .before .push .ensures) (c .before .before .before .before .before .before .check .ensures) (c .before .before .z .given .1)
+pub chk-lam-keep-out-requires : (t : ℕ) → chk-lam-lts.Need-keep-out-requires (chk-lam-claims t) (chk-lam-at t) chk-lam.Post
+chk-lam-keep-out-requires t c κs = lam-space₂ (c .before .before .before .before .before .before .before .before .before .before .before .before .before .before .before .before .before .before .before .before .before .before .before .before .before .before .before .before .before .before .args .m) (c .before .before .before .before .before .before .before .before .before .before .before .before .before .before .before .before .before .before .before .before .before .before .before .before .before .before .before .before .before .before .pre .1) (c .before .before .before .before .before .before .before .before .before .before .before .before .before .before .before .before .before .before .before .before .before .before .before .left-of .ensures) (c .before .before .before .before .before .before .before .before .before .before .before .before .before .before .before .before .before .before .before .before .before .right-of .ensures) (c .before .before .before .before .before .before .before .before .before .before .before .before .before .before .before .before .before .before .before .parameter .ensures) (c .before .before .before .before .before .before .before .before .before .before .before .before .before .before .before .mid .given .1) refl (c .before .before .before .before .before .before .before .before .before .before .before .before .before .before .before .before .before .before .before .before .before .before .before .before .before .word .ensures .0) (c .before .before .before .before .before .before .before .before .before .before .before .before .push .ensures) (c .before .before .before .before .before .before .check .ensures) (c .before .before .z .given .1)
 
 pub chk-lam-enum-known-mid-2 : (t : ℕ) → chk-lam-lts.Need-enum-known-mid-2 (chk-lam-claims t) (chk-lam-at t) chk-lam.Post
 chk-lam-enum-known-mid-2 t c = search needs
 
 pub chk-lam-same-length-2 : (t : ℕ) → chk-lam-lts.Need-same-length-2 (chk-lam-claims t) (chk-lam-at t) chk-lam.Post
-chk-lam-same-length-2 t c = c .before .before .before .before .before .before .before .check .kept .1 .0 ∙ c .before .before .before .before .before .before .before .before .before .before .before .before .before .push .kept .0 ∙ c .before .before .before .before .before .before .before .before .before .before .before .before .before .before .before .before .before .before .before .before .parameter .kept .1 .0
+chk-lam-same-length-2 t c = c .before .before .keep-out .kept .0 ∙ c .before .before .before .before .before .before .before .before .before .check .kept .1 .0 ∙ c .before .before .before .before .before .before .before .before .before .before .before .before .before .before .before .push .kept .0 ∙ c .before .before .before .before .before .before .before .before .before .before .before .before .before .before .before .before .before .before .before .before .before .before .parameter .kept .1 .0
 
 pub chk-lam-returns-2 : (t : ℕ) → chk-lam-lts.Need-returns-2 (chk-lam-claims t) (chk-lam-at t) chk-lam.Post
-chk-lam-returns-2 t c = lam-done (c .before .before .before .before .before .before .before .before .before .before .before .before .before .before .before .before .before .before .before .before .before .before .before .before .before .before .before .before .before .before .before .args .m) (c .before .before .before .before .before .before .before .before .before .before .before .before .before .before .before .before .before .before .before .before .before .before .before .before .before .before .before .before .before .before .before .pre .1) (c .before .before .before .before .before .before .before .before .before .before .before .before .before .before .before .before .before .before .before .before .before .before .before .before .left-of .ensures) (c .before .before .before .before .before .before .before .before .before .before .before .before .before .before .before .before .before .before .before .before .before .before .right-of .ensures) (c .before .before .before .before .before .before .before .before .before .before .before .before .before .before .before .before .before .before .before .before .parameter .ensures) (c .before .before .before .before .before .before .before .before .before .before .before .before .before .before .before .before .mid .given .1) refl (c .before .before .before .before .before .before .before .before .before .before .before .before .before .before .before .before .before .before .before .before .before .before .before .before .before .before .word .ensures .0) (c .before .before .before .before .before .before .before .before .before .before .before .before .before .push .ensures) (c .before .before .before .before .before .before .before .check .ensures) (c .before .before .before .z .given .1) (c .right-alone .ensures)
+chk-lam-returns-2 t c = lam-done (c .before .before .before .before .before .before .before .before .before .before .before .before .before .before .before .before .before .before .before .before .before .before .before .before .before .before .before .before .before .before .before .before .before .args .m) (c .before .before .before .before .before .before .before .before .before .before .before .before .before .before .before .before .before .before .before .before .before .before .before .before .before .before .before .before .before .before .before .before .before .pre .1) (c .before .before .before .before .before .before .before .before .before .before .before .before .before .before .before .before .before .before .before .before .before .before .before .before .before .before .left-of .ensures) (c .before .before .before .before .before .before .before .before .before .before .before .before .before .before .before .before .before .before .before .before .before .before .before .before .right-of .ensures) (c .before .before .before .before .before .before .before .before .before .before .before .before .before .before .before .before .before .before .before .before .before .before .parameter .ensures) (c .before .before .before .before .before .before .before .before .before .before .before .before .before .before .before .before .before .before .mid .given .1) refl (c .before .before .before .before .before .before .before .before .before .before .before .before .before .before .before .before .before .before .before .before .before .before .before .before .before .before .before .before .word .ensures .0) (c .before .before .before .before .before .before .before .before .before .before .before .before .before .before .before .push .ensures) (c .before .before .before .before .before .before .before .before .before .check .ensures) (c .before .before .before .before .before .z .given .1) (c .before .before .keep-out .ensures)
 
 pub chk-lam-same-length-3 : (t : ℕ) → chk-lam-lts.Need-same-length-3 (chk-lam-claims t) (chk-lam-at t) chk-lam.Post
 chk-lam-same-length-3 t c = search needs

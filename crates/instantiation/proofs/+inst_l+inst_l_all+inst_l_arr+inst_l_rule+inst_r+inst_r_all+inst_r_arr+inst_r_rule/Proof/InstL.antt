@@ -3,7 +3,8 @@ use mathlib.Core.Path.{_∙_}
 use native.Mathlib.Omega.{arith}
 use borrow.Author.Needs.{needs}
 use Rattle.judging.proofs.Judgements.{may-enter}
-use Rattle.steps.proofs.Whole.{whole-spent, whole-rule, whole-less, whole-else, whole-leave, whole-done}
+use Rattle.judging.proofs.Whole.{whole-rule, whole-less}
+use Rattle.steps.proofs.Whole.{whole-spent, whole-else, whole-leave, whole-done}
 use Prim.Native.Nat.{ℕ}
 use Rattle.instantiation.proofs.inst_l.Reads as inst-l
 use Rattle.instantiation.proofs.+inst_l+inst_l_all+inst_l_arr+inst_l_rule+inst_r+inst_r_all+inst_r_arr+inst_r_rule.Lts-inst_l as inst-l-lts

@@ -18,6 +18,7 @@ use Rattle.subtyping.proofs.subtype.Kinds as subtype-kinds
 use Rattle.subtyping.proofs.+sub_all_l+sub_all_r+sub_arr+sub_rule+subtype.Lts-subtype as subtype-lts
 use Rattle.judging.proofs.enter.Reads as enter-reads
 use Rattle.judging.proofs.leave.Reads as leave-reads
+use Rattle.rules.proofs.apply_both.Reads as apply-both-reads
 use Rattle.steps.proofs.open_left.Reads as open-left-reads
 use Rattle.steps.proofs.open_right.Reads as open-right-reads
 use Rattle.steps.proofs.right_alone.Reads as right-alone-reads
@@ -104,6 +105,8 @@ sub-arr-claims t = (
   right-of-reads.Learnt,
   subtype-below t,
   subtype.Post,
+  apply-both-reads.Asked,
+  apply-both-reads.Learnt,
   through-reads.Asked,
   through-reads.Learnt,
 )

@@ -3,7 +3,8 @@ use mathlib.Core.Path.{_∙_}
 use native.Mathlib.Omega.{arith}
 use borrow.Author.Needs.{needs}
 use Rattle.judging.proofs.Judgements.{may-enter}
-use Rattle.steps.proofs.Whole.{whole-spent, whole-rule, whole-less, whole-else, whole-leave, whole-done}
+use Rattle.judging.proofs.Whole.{whole-rule, whole-less}
+use Rattle.steps.proofs.Whole.{whole-spent, whole-else, whole-leave, whole-done}
 use Prim.Native.Nat.{ℕ}
 use Rattle.subtyping.proofs.subtype.Reads as subtype
 use Rattle.subtyping.proofs.+sub_all_l+sub_all_r+sub_arr+sub_rule+subtype.Lts-subtype as subtype-lts
