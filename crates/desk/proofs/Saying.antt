@@ -17,7 +17,7 @@ use Rattle.definition.specs.Rules.{Result}
 use Rattle.definition.specs.Reply as definition
 use Rattle.definition.specs.Reply.{refusal, reported, outReply, readReply, reply, workWords}
 use Rattle.definition.specs.Memory.{call, reportAfter}
-use Rattle.definition.specs.Host.{wordsOf, numbers, deskReply, byteReply}
+use Rattle.definition.specs.Host.{wordsOf, bytesOf, numbers, deskReply, byteReply, host-computes}
 use Rattle.lines.specs.Lines.{lineOf, Wrote}
 use Rattle.lines.proofs.Lines.{wrote-then}
 use Rattle.wire.proofs.Bytes.{length-words}
@@ -134,3 +134,9 @@ read-enough input =
       | yes h ↦ ap (byteReply 4096) (take-all 8196 input h)
       | no h ↦ cut input (lt-of-not-le h)
     ]
+
+-- "Case (a) prints `0 0 13 2` and `1 1 0 9 2 0 4 0 0 0 0 1 1`."
+pub case-a : twoLines (byteReply 4096 (bytesOf (7 ∷ 0 ∷ 0 ∷ 3 ∷ 22 ∷ 1 ∷ 0 ∷ 0 ∷ 0 ∷ [])))
+    ≡ lineOf (0 ∷ 0 ∷ 13 ∷ 2 ∷ []) ++ lineOf (1 ∷ 1 ∷ 0 ∷ 9 ∷ 2 ∷ 0 ∷ 4 ∷ 0 ∷ 0 ∷ 0 ∷ 0 ∷ 1 ∷ 1 ∷ [])
+unfolding twoLines host-computes
+case-a = refl

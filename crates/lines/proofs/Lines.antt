@@ -90,8 +90,8 @@ module _ {s s₁ : List ℕ} {p y : ℕ} (ws : List ℕ) where
       (sym (append-assoc (decimal (getD ws i 0)) (32 ∷ []) (lineOf (getD ws (suc i) 0 ∷ drop (suc (suc i)) ws)))) in
       rw e (wrote-then (decimal (getD ws i 0) ++ (32 ∷ [])) l w k)
 
--- document 01's case (a), and the least and the largest word
-computed : (lineOf (0 ∷ 0 ∷ 13 ∷ 2 ∷ []) ≡ 48 ∷ 32 ∷ 48 ∷ 32 ∷ 49 ∷ 51 ∷ 32 ∷ 50 ∷ 10 ∷ []) × (decimal 0 ≡ 48 ∷ [])
+-- case (a)'s first line, and the least and the largest word, computed
+pub computed : (lineOf (0 ∷ 0 ∷ 13 ∷ 2 ∷ []) ≡ 48 ∷ 32 ∷ 48 ∷ 32 ∷ 49 ∷ 51 ∷ 32 ∷ 50 ∷ 10 ∷ []) × (decimal 0 ≡ 48 ∷ [])
     × (decimal 4294967295 ≡ 52 ∷ 50 ∷ 57 ∷ 52 ∷ 57 ∷ 54 ∷ 55 ∷ 50 ∷ 57 ∷ 53 ∷ [])
 unfolding lines-compute
 computed = (refl, refl, refl)
