@@ -1,67 +1,55 @@
 // The desk program: a question's words from standard input, and two lines, the reply's four numbers and the report's words.
 ghost use mathlib.Core.Path.{_≡_};
-ghost use Prim.Native.Nat.{_+_, _≤_, _<_};
 ghost use lib.ListN.{length};
+ghost use Rattle.desk.specs.Said.{Lines, Said};
+ghost use Rattle.sized.specs.Sized.{Lent, writtenOf};
+ghost use Prim.Native.Nat.{_≤_};
 use entry::Reply;
+use libc::STDIN_FILENO;
+use libc::STDOUT_FILENO;
 
-const BUDGET: u32 = 384;
-
-// How many words of report there are: none where its length passes the room, which it does for NoRoom alone.
-fn shown(len: usize, room: usize) -> usize
-    ensures { λ n. ⌜ (n ≤ room) × (len ≤ room → n ≡ len) × (room < len → n ≡ 0) ⌝ }
+// The two lines, at the start of out; how many bytes they have.
+fn say(out: &mut [u8], r: Reply, report: &[u32]) -> usize
+    requires { ⌜ (length (now out) ≡ 45102) × (length (now report) ≡ 4096) × (writtenOf r ≤ 4096) ⌝ }
+    ensures { λ z. ⌜ Lines r (now (report .entry)) (now (out .exit)) z ⌝ }
 {
-    if room < len { 0 } else { len }
+    let four = [r.code, r.at, r.len, r.units];
+    let n = sized::written(r);
+    let next = lines::line(out, 0, &four);
+    lines::line(out, next, &report[0..n])
 }
 
-// The two lines.
-fn say(out: &mut [u8], r: Reply, report: &[u32])
-    requires { ⌜ 32 ≤ length (now out) ⌝ }
+// What is said to the input, at the start of out; how many bytes it has.
+fn answer(
+    input: &[u8],
+    words: &mut [u32],
+    work: &mut [u32],
+    report: &mut [u32],
+    out: &mut [u8],
+) -> usize
+    requires { ⌜ (Lent (now words) (now work) (now report)) × (length (now out) ≡ 45102) ⌝ }
+    ensures { λ z. ⌜ Said (now (input .entry)) (now (out .exit)) z ⌝ }
 {
-    let a = lines::number(out, 0, r.code, b' ');
-    let b = lines::number(out, a, r.at, b' ');
-    let c = lines::number(out, b, r.len, b' ');
-    let d = lines::number(out, c, r.units, b'\n');
-    let n = shown(r.len as usize, report.len());
-    let e = lines::line(out, d, &report[0..n]);
-    lines::flush(out, e);
-}
-
-// The reply to input that isn't whole words, or is too long.
-fn bad_length() -> Reply
-    ensures { λ r. ⌜ r ≡ record { code = 3; at = 0; len = 0; units = 0 } ⌝ }
-{
-    Reply {
-        code: 3,
-        at: 0,
-        len: 0,
-        units: 0,
-    }
+    let r = sized::answer(input, words, work, report, 4096);
+    say(out, r, report)
 }
 
 // Reads, answers and prints, in what main lends.
 fn desk(bytes: &mut [u8], words: &mut [u32], work: &mut [u32], report: &mut [u32], out: &mut [u8])
-    requires { ⌜ (length (now bytes) ≡ 8196) × (length (now words) ≡ 2048) × (32 ≤ length (now out)) ⌝ }
+    requires { ⌜ (Lent (now words) (now work) (now report)) × (length (now out) ≡ 45102) ⌝ }
 {
-    let n = io::read_full(0, bytes);
-    let k = n / 4;
-    if 2048 < k {
-        say(out, bad_length(), report);
-        return;
-    }
-    if 4 * k != n {
-        say(out, bad_length(), report);
-        return;
-    }
-    wire::read_words(bytes, words, k);
-    let r = entry::check(&words[0..k], BUDGET, work, report);
-    say(out, r, report);
+    let n = io::read_full(STDIN_FILENO, bytes);
+    let z = answer(&bytes[0..n], words, work, report, out);
+    io::write_all(STDOUT_FILENO, &out[0..z]);
 }
 
 fn main() {
+    // one word more than a question may have
     let mut bytes = [0u8; 8196];
     let mut words = [0u32; 2048];
     let mut work = [0u32; 16384];
     let mut report = [0u32; 4096];
-    let mut out = [0u8; 4096];
+    // 11 bytes for each word of both lines, and 2
+    let mut out = [0u8; 45102];
     desk(&mut bytes, &mut words, &mut work, &mut report, &mut out);
 }

@@ -1,7 +1,7 @@
 -- From the reply in words to the reply slice.
 use mathlib.Core.Path.{_≡_, refl, sym, ap, _∙_}
 use mathlib.Core.Bool.{Bool, true, false}
-use mathlib.Core.List.{List, [], _∷_, _++_, append-assoc}
+use mathlib.Core.List.{List, [], _∷_, _++_}
 use Prim.Native.Nat.{ℕ, suc, _+_, _-_, _*_, _/_, _≤_, _<_, min}
 use native.Mathlib.Omega.{arith}
 use native.Mathlib.Nat.{sub-zero}
@@ -11,32 +11,13 @@ use lib.Dec.{ltb, lt→ltb}
 use mir.Facts.{no-ltb}
 use Rattle.definition.specs.Syntax.{pick}
 use Rattle.definition.specs.Reply.{Reply}
-use Rattle.definition.specs.Memory.{reportAfter}
 use Rattle.definition.specs.Host.{bytesOf, deskReply, byteReply, numbers, hostCall}
 use Rattle.laws.proofs.Steps.{is-true, is-false}
 use Rattle.entry.specs.declared.Reply as entry
 use Rattle.entry.specs.Entry.{Numbers, Replied}
 use Rattle.wire.proofs.Bytes.{length-bytes}
-use Rattle.sized.specs.Sized as sized
-use Rattle.sized.specs.Sized.{writtenOf}
-use Rattle.sized.proofs.Lengths.{in-bytes, length-written}
-use Rattle.host.specs.Host.{Told, Answered, Checked, numbersOf}
-
--- ## The report's first words
-
-pub within : {b part t : List ℕ} {r : entry.Reply} (room : ℕ) (rest : List ℕ) → length part ≡ room → room ≤ 4096
-    → sized.Answered b part t r → Told b room (t ++ rest) r
-unfolding reportAfter
-within {b} {part} {t} {r} room rest l h a =
-    let R : Reply = byteReply room b in
-    let n : Numbers R r = rw l at (a .numbers) in
-    let e : t ≡ R .report ++ drop (length (R .report)) part = rw l at (a .report) in
-    let k : length (R .report) ≡ writtenOf r = length-written (in-bytes room b) n in
-    record {
-      numbers = n;
-      report = rw e (ap (take (writtenOf r)) (append-assoc (R .report) (drop (length (R .report)) part) rest) ∙ take-at (R .report) _ (writtenOf r) k);
-      fits = omega (arith, k, in-bytes room b .within);
-    }
+use Rattle.sized.specs.Sized.{Told, writtenOf}
+use Rattle.host.specs.Host.{Answered, Checked, numbersOf}
 
 -- ## The bytes
 

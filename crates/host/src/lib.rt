@@ -4,7 +4,8 @@ ghost use mathlib.Core.List.{_∷_, _++_};
 ghost use Prim.Native.Nat.{_+_, _-_, _*_, _/_, _≤_, min};
 ghost use lib.ListN.{length, drop};
 ghost use Rattle.definition.specs.Host.{bytesOf};
-ghost use Rattle.host.specs.Host.{Lent, Told, Answered, Checked, numbersOf};
+ghost use Rattle.host.specs.Host.{Answered, Checked, numbersOf};
+ghost use Rattle.sized.specs.Sized.{Lent};
 use entry::Reply;
 
 // How many words of report a reply of n bytes has room for.
@@ -26,20 +27,6 @@ fn put_reply(reply: &mut [u8], r: Reply, report: &[u32])
     wire::put_words(reply, 16, report);
 }
 
-// The answer, with the first words of the report slice for its report, as many as there is room for.
-fn answer_within(
-    question: &[u8],
-    words: &mut [u32],
-    work: &mut [u32],
-    report: &mut [u32],
-    room: usize,
-) -> Reply
-    requires { ⌜ (Lent (now words) (now work) (now report)) × (room ≤ 4096) ⌝ }
-    ensures { λ r. ⌜ Told (now (question .entry)) room (now (report .exit)) r ⌝ }
-{
-    sized::answer(question, words, work, &mut report[0..room])
-}
-
 // The telephone host's function, in what it lends itself.
 fn answer_in(
     question: &[u8],
@@ -55,7 +42,7 @@ fn answer_in(
         return 8;
     }
     let room = room_for(reply.len());
-    let r = answer_within(question, words, work, report, room);
+    let r = sized::answer(question, words, work, report, room);
     let n = sized::written(r);
     put_reply(reply, r, &report[0..n]);
     r.code

@@ -1,86 +1,56 @@
-// Lines of decimal numbers to standard output, by a buffer that the caller lends. What is printed is tested, not proved.
-ghost use Prim.Native.Nat.{_+_, _≤_, _<_};
+// Lines of decimal numbers, as bytes in a buffer that the caller lends.
+ghost use mathlib.Core.Path.{_≡_};
+ghost use mathlib.Core.List.{[], _∷_, _++_};
+ghost use Prim.Native.Nat.{_+_, _*_, _≤_, _<_};
 ghost use lib.ListN.{length};
-use libc::STDOUT_FILENO;
+ghost use Rattle.lines.specs.Lines.{decimal, lineOf, Wrote};
 
-// The bytes of src at a place of out; the place after them.
-fn copy(out: &mut [u8], at: usize, src: &[u8]) -> usize
-    requires { ⌜ at + length (now src) ≤ length (now out) ⌝ }
-    ensures { λ r. ⌜ r ≤ length (now (out .entry)) ⌝ }
+fn digit(x: u32) -> u8
+    requires { ⌜ x < 10 ⌝ }
+    ensures { λ r. ⌜ r ≡ 48 + x ⌝ }
 {
-    let mut i = 0;
-    while i < src.len() {
-        out[at + i] = src[i];
-        i += 1;
-    }
-    at + src.len()
+    48 + x as u8
 }
 
-// Writes out what the buffer holds where fewer than 32 bytes are left; the place to go on at.
-fn room(out: &[u8], at: usize) -> usize
-    requires { ⌜ (at ≤ length (now out)) × (32 ≤ length (now out)) ⌝ }
-    ensures { λ r. ⌜ r + 32 ≤ length (now (out .entry)) ⌝ }
+// The digits of x.
+fn digits(out: &mut [u8], at: usize, x: u32) -> usize
+    requires { ⌜ at + length (decimal x) ≤ length (now out) ⌝ }
+    ensures { λ r. ⌜ Wrote (now (out .entry)) (now (out .exit)) at (decimal x) r ⌝ }
 {
-    if out.len() - at < 32 {
-        io::write_all(STDOUT_FILENO, &out[0..at]);
-        return 0;
+    if x < 10 {
+        out[at] = digit(x);
+        return at + 1;
     }
-    at
+    let next = digits(out, at, x / 10);
+    out[next] = digit(x % 10);
+    next + 1
 }
 
 // The number x and then the byte end.
-pub fn number(out: &mut [u8], from: usize, x: u32, end: u8) -> usize
-    requires { ⌜ (from ≤ length (now out)) × (32 ≤ length (now out)) ⌝ }
-    ensures { λ r. ⌜ r ≤ length (now (out .entry)) ⌝ }
+fn number(out: &mut [u8], at: usize, x: u32, end: u8) -> usize
+    requires { ⌜ at + 11 ≤ length (now out) ⌝ }
+    ensures { λ r. ⌜ (Wrote (now (out .entry)) (now (out .exit)) at (decimal x ++ (end ∷ [])) r) × (r ≤ at + 11) ⌝ }
 {
-    let at = room(out, from);
-    let mut digits = [0u8; 20];
-    let n = io::decimal(x as u64, &mut digits);
-    // (never: what the proof has of n is that it lies within digits)
-    if 20 < n {
-        return at;
-    }
-    let next = copy(out, at, &digits[..n]);
-    if next < out.len() {
-        out[next] = end;
-        return next + 1;
-    }
-    next
+    let next = digits(out, at, x);
+    out[next] = end;
+    next + 1
 }
 
 // A line of numbers, empty where there are none.
 pub fn line(out: &mut [u8], from: usize, ws: &[u32]) -> usize
-    requires { ⌜ (from ≤ length (now out)) × (32 ≤ length (now out)) ⌝ }
-    ensures { λ r. ⌜ r ≤ length (now (out .entry)) ⌝ }
+    requires { ⌜ from + 11 * length (now ws) + 1 ≤ length (now out) ⌝ }
+    ensures { λ r. ⌜ (Wrote (now (out .entry)) (now (out .exit)) from (lineOf (now (ws .entry))) r) × (r ≤ from + 11 * length (now (ws .entry)) + 1) ⌝ }
 {
+    if ws.len() == 0 {
+        out[from] = b'\n';
+        return from + 1;
+    }
+    let last = ws.len() - 1;
     let mut at = from;
     let mut i = 0;
-    while i < ws.len() {
-        let mut end = b' ';
-        if i + 1 == ws.len() {
-            end = b'\n';
-        }
-        at = number(out, at, ws[i], end);
+    while i < last {
+        at = number(out, at, ws[i], b' ');
         i += 1;
     }
-    if i == 0 {
-        at = empty(out, at);
-    }
-    at
-}
-
-fn empty(out: &mut [u8], from: usize) -> usize
-    requires { ⌜ (from ≤ length (now out)) × (32 ≤ length (now out)) ⌝ }
-    ensures { λ r. ⌜ r ≤ length (now (out .entry)) ⌝ }
-{
-    let at = room(out, from);
-    out[at] = b'\n';
-    at + 1
-}
-
-// Writes out what the buffer holds.
-pub fn flush(out: &[u8], at: usize)
-    requires { ⌜ at ≤ length (now out) ⌝ }
-{
-    io::write_all(STDOUT_FILENO, &out[0..at]);
+    number(out, at, ws[i], b'\n')
 }

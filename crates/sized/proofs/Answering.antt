@@ -1,7 +1,7 @@
 -- From words read to the reply in bytes.
 use mathlib.Core.Path.{_≡_, refl, sym, ap, _∙_}
 use mathlib.Core.Bool.{Bool, true, false}
-use mathlib.Core.List.{List, _++_}
+use mathlib.Core.List.{List, _++_, append-assoc}
 use mathlib.Core.Logic.{_≢_}
 use Prim.Native.Nat.{ℕ, _-_, _*_, _/_, _%_, _≤_, _<_, min}
 use native.Mathlib.Omega.{arith}
@@ -16,10 +16,11 @@ use Rattle.definition.specs.Memory.{reportAfter, call}
 use Rattle.definition.specs.Host.{wordsOf, deskReply, byteReply}
 use Rattle.laws.proofs.Steps.{is-true, is-false, pick-true, pick-false}
 use Rattle.entry.specs.declared.Reply as entry
-use Rattle.entry.specs.Entry.{Replied}
+use Rattle.entry.specs.Entry.{Numbers, Replied}
 use Rattle.entry.proofs.Refusing.{too-long}
 use Rattle.wire.proofs.Bytes.{length-words}
-use Rattle.sized.specs.Sized.{Lent, Answered}
+use Rattle.sized.specs.Sized.{Answered, Told, writtenOf}
+use Rattle.sized.proofs.Lengths.{in-bytes, length-written}
 
 -- ## BadLength
 
@@ -66,3 +67,19 @@ asked {b} {w} {w′} {s} {s′} ws rest h l m e x =
     let q : take (length b / 4 - 0) (drop 0 ws) ≡ wordsOf b (length b / 4) = rw (sub-zero, e) (take-at (wordsOf b (length b / 4)) rest (length b / 4) (length-words b (length b / 4))) in
     let f : reply 384 (length w) (length s) (take (length b / 4 - 0) (drop 0 ws)) ≡ byteReply (length s) b = rw (q, l) (sym (whole (length s) b h m)) in
     record { numbers = rw (← f) (x .numbers); report = rw (← f) (x .report) }
+
+-- ## The report's first words
+
+pub within : {b part t : List ℕ} {r : entry.Reply} (room : ℕ) (rest : List ℕ) → length part ≡ room → room ≤ 4096
+    → Answered b part t r → Told b room (t ++ rest) r
+unfolding reportAfter
+within {b} {part} {t} {r} room rest l h a =
+    let R : Reply = byteReply room b in
+    let n : Numbers R r = rw l at (a .numbers) in
+    let e : t ≡ R .report ++ drop (length (R .report)) part = rw l at (a .report) in
+    let k : length (R .report) ≡ writtenOf r = length-written (in-bytes room b) n in
+    record {
+      numbers = n;
+      report = rw e (ap (take (writtenOf r)) (append-assoc (R .report) (drop (length (R .report)) part) rest) ∙ take-at (R .report) _ (writtenOf r) k);
+      fits = omega (arith, k, in-bytes room b .within);
+    }

@@ -1,6 +1,7 @@
 // The entry asked in bytes, with the desk program's sizes: what the desk program and the telephone host share.
 ghost use mathlib.Core.Path.{_≡_};
-ghost use Rattle.sized.specs.Sized.{Lent, Answered, writtenOf};
+ghost use Prim.Native.Nat.{_≤_};
+ghost use Rattle.sized.specs.Sized.{Fit, Answered, Lent, Told, writtenOf};
 use entry::Reply;
 
 const BUDGET: u32 = 384;
@@ -17,9 +18,9 @@ fn bad_length() -> Reply
     }
 }
 
-// Answers a question of little-endian words, in what the caller lends.
-pub fn answer(question: &[u8], words: &mut [u32], work: &mut [u32], report: &mut [u32]) -> Reply
-    requires { ⌜ Lent (now words) (now work) (now report) ⌝ }
+// Answers a question of little-endian words; the report slice is as long as there is room.
+fn answer_words(question: &[u8], words: &mut [u32], work: &mut [u32], report: &mut [u32]) -> Reply
+    requires { ⌜ Fit (now words) (now work) (now report) ⌝ }
     ensures { λ r. ⌜ Answered (now (question .entry)) (now (report .entry)) (now (report .exit)) r ⌝ }
 {
     let n = question.len() / 4;
@@ -31,6 +32,20 @@ pub fn answer(question: &[u8], words: &mut [u32], work: &mut [u32], report: &mut
     }
     wire::read_words(question, words, n);
     entry::check(&words[0..n], BUDGET, work, report)
+}
+
+// Answers a question in what the caller lends, with the first words of the report slice for the report, as many as there is room for.
+pub fn answer(
+    question: &[u8],
+    words: &mut [u32],
+    work: &mut [u32],
+    report: &mut [u32],
+    room: usize,
+) -> Reply
+    requires { ⌜ (Lent (now words) (now work) (now report)) × (room ≤ 4096) ⌝ }
+    ensures { λ r. ⌜ Told (now (question .entry)) room (now (report .exit)) r ⌝ }
+{
+    answer_words(question, words, work, &mut report[0..room])
 }
 
 // How many words of report were written: none on NoRoom, whose length is the needed one.

@@ -10,8 +10,8 @@ returns c = short (c .if1 .taken)
 room-for-requires : tie.Need-room-for-requires
 room-for-requires c κs = search needs
 
-answer-within-requires : tie.Need-answer-within-requires
-answer-within-requires c κs = search needs
+answer-requires : tie.Need-answer-requires
+answer-requires c κs = search needs
 
 written-requires : tie.Need-written-requires
 written-requires c κs = search needs
@@ -41,7 +41,7 @@ same-length-4 : tie.Need-same-length-4
 same-length-4 c = search needs
 
 returns-2 : tie.Need-returns-2
-returns-2 c = answered (c .before .before .before .before .before .before .before .before .before .before .before .before .before .before .before .before .before .before .if1 .left) (c .before .before .before .before .before .before .before .before .before .before .before .before .before .before .before .before .before .room-for .ensures) (c .before .before .before .before .before .before .before .before .before .before .before .before .before .answer-within .ensures) (c .before .before .before .before .before .before .written .ensures) (c .before .before .put-reply .ensures)
+returns-2 c = answered (c .before .before .before .before .before .before .before .before .before .before .before .before .before .before .before .before .before .before .if1 .left) (c .before .before .before .before .before .before .before .before .before .before .before .before .before .before .before .before .before .room-for .ensures) (c .before .before .before .before .before .before .before .before .before .before .before .before .before .answer .ensures) (c .before .before .before .before .before .before .written .ensures) (c .before .before .put-reply .ensures)
 
 pub answer-in-spec : {M : Type 1} → statement M
 answer-in-spec =
@@ -49,7 +49,7 @@ answer-in-spec =
     (tie.spec
     returns
     room-for-requires
-    answer-within-requires
+    answer-requires
     written-requires
     sub-put-reply
     part-put-reply-start

@@ -1,38 +1,23 @@
--- `answer` meets its contract: BadLength twice, or the entry's reply.
-use Rattle.sized.proofs.Answering.{refused, too-many, not-whole, asked}
+-- `answer` meets its contract.
+use native.Mathlib.Nat.{sub-zero}
+use native.Mathlib.Omega.{arith}
+use lib.Seq.{length-take-le}
+use Rattle.sized.proofs.Answering.{within}
 use borrow.Author.Needs.{needs}
 use Rattle.sized.proofs.answer.Statement.{statement}
 use Rattle.sized.proofs.answer.Tie as tie
 
-bad-length-requires : tie.Need-bad-length-requires
-bad-length-requires c κs = search needs
+sub-answer-words : tie.Need-sub-answer-words
+sub-answer-words c = search needs
 
-returns : tie.Need-returns
-returns c = rw (c .bad-length .ensures) (refused (too-many _ _ (c .before .if1 .taken)))
+part-answer-words-start : tie.Need-part-answer-words-start
+part-answer-words-start c = search needs
 
-mul-if2 : tie.Need-mul-if2
-mul-if2 c = search needs
+part-answer-words-end : tie.Need-part-answer-words-end
+part-answer-words-end c = search needs
 
-bad-length-requires-2 : tie.Need-bad-length-requires-2
-bad-length-requires-2 c κs = search needs
-
-returns-2 : tie.Need-returns-2
-returns-2 c = rw (c .bad-length2 .ensures) (refused (not-whole _ _ (c .before .if2 .taken)))
-
-read-words-requires : tie.Need-read-words-requires
-read-words-requires c κs = search needs
-
-sub-check : tie.Need-sub-check
-sub-check c = search needs
-
-part-check-start : tie.Need-part-check-start
-part-check-start c = search needs
-
-part-check-end : tie.Need-part-check-end
-part-check-end c = search needs
-
-check-requires : tie.Need-check-requires
-check-requires c κs = search needs
+answer-words-requires : tie.Need-answer-words-requires
+answer-words-requires c κs = search needs
 
 same-length : tie.Need-same-length
 same-length c = search needs
@@ -43,24 +28,18 @@ same-length-2 c = search needs
 same-length-3 : tie.Need-same-length-3
 same-length-3 c = search needs
 
-returns-3 : tie.Need-returns-3
-returns-3 c = asked _ _ (c .before .before .before .before .before .before .before .before .before .before .before .before .before .if2 .left) (c .before .before .before .before .before .before .before .before .before .before .before .before .before .before .before .before .before .before .before .pre .work) (c .before .before .before .before .before .before .before .before .before .before .before .before .before .before .before .before .before .before .before .pre .room) (c .before .before .before .before .before .before .before .before .before .before .before .read-words .ensures) (c .before .before .before .before .check .ensures)
+returns : tie.Need-returns
+returns c = within _ _ (rw sub-zero (length-take-le _ _ (omega (arith, c .before .before .before .before .before .before .before .before .before .before .before .before .before .before .pre .0 .report, c .before .before .before .before .before .before .before .before .before .before .before .before .before .before .pre .1)))) (c .before .before .before .before .before .before .before .before .before .before .before .before .before .before .pre .1) (c .before .before .before .before .before .before .answer-words .ensures)
 
 pub answer-spec : {M : Type 1} → statement M
 answer-spec =
     tie.close
     (tie.spec
-    bad-length-requires
-    returns
-    mul-if2
-    bad-length-requires-2
-    returns-2
-    read-words-requires
-    sub-check
-    part-check-start
-    part-check-end
-    check-requires
+    sub-answer-words
+    part-answer-words-start
+    part-answer-words-end
+    answer-words-requires
     same-length
     same-length-2
     same-length-3
-    returns-3)
+    returns)

@@ -1,0 +1,2 @@
+-- Laws of what the desk program says.
+pub mod Saying

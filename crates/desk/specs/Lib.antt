@@ -1,0 +1,2 @@
+-- What the desk program says.
+pub mod Said

@@ -1,0 +1,2 @@
+-- Decimal numbers and lines of them, as bytes.
+pub mod Lines
