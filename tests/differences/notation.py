@@ -1,0 +1,72 @@
+"""Document 01's words in formula notation: questions, replies, and the paper's outcomes. Names as there: 1 A, 2 B, 5 x, 6 y, 1,000,000 α0."""
+from paper import section
+
+OPERATORS = [None, "+", "-", "*", "/", "&&", "||", "==", "!=", "<", "<=", ">", ">="]
+CODES = {1: "BadBudget", 2: "ShortWork", 3: "BadLength", 4: "BadShape", 5: "ReservedName", 6: "Budget", 7: "NoRoom",
+         11: "UnboundVariable", 12: "ApplicationTypeError", 13: "TypeApplicationError", 14: "OccursCheck", 15: "SubtypingError",
+         17: "ParameterMismatch"}
+
+
+def name(number):
+    return f"α{number - 1_000_000}" if number >= 1_000_000 else {1: "A", 2: "B", 5: "x", 6: "y"}.get(number, f"n{number}")
+
+
+def ty(A, inner=False):
+    code, *parts = A
+    if code <= 4:
+        return ["Int", "Bool", *(hat + name(part) for hat in ("", "^") for part in parts)][code - 1]
+    text = f"{ty(parts[0], True)} → {ty(parts[1])}" if code == 5 else f"∀{name(parts[0])}. {ty(parts[1])}"
+    return f"({text})" if inner else text
+
+
+def entry(item):
+    code, a, *held = item
+    sign = {34: "^", 35: "^", 36: "$"}.get(code, "")
+    return sign + name(a) + "".join({32: " : ", 35: " = "}[code] + ty(A) for A in held)
+
+
+def context(G):
+    return ", ".join(map(entry, G)) or "·"
+
+
+def expr(e, inner=False):
+    code, *parts = e
+    sub = lambda i, within=True: expr(parts[i], within)  # noqa: E731
+    if code in (16, 22, 23, 21):
+        return {16: lambda: name(parts[0]), 22: lambda: str(parts[0] + (parts[1] << 32)), 23: lambda: ["false", "true"][parts[0]],
+                21: lambda: f"({sub(0, False)} : {ty(parts[1])})"}[code]()
+    text = {17: lambda: f"{sub(0)} {sub(1)}", 18: lambda: f"λ{name(parts[0])}:{ty(parts[1], True)}. {sub(2, False)}",
+            19: lambda: f"{sub(0)}[{ty(parts[1])}]", 20: lambda: f"Λ{name(parts[0])}. {sub(1, False)}",
+            24: lambda: f"let {name(parts[0])} = {sub(1, False)} in {sub(2, False)}",
+            25: lambda: f"if {sub(0, False)} then {sub(1, False)} else {sub(2, False)}",
+            26: lambda: f"{sub(1)} {OPERATORS[parts[0]]} {sub(2)}"}[code]()
+    return f"({text})" if inner else text
+
+
+def question(words):
+    rest = iter(words)
+    kind, mode = next(rest), next(rest)
+    G, e, A, B = (section(rest) for _ in range(4))
+    judgement = {1: lambda: f"{expr(*e)} ⇒", 2: lambda: f"{expr(*e)} ⇐ {ty(*B)}", 3: lambda: f"{expr(*e)} • {ty(*A, True)} ⇒⇒",
+                 4: lambda: f"{ty(*A)} <: {ty(*B)}", 7: lambda: expr(*e)}.get(kind, lambda: f"{ty(*A)} :=< {ty(*B)}")()
+    return (f"{context(G)} ⊢ " if kind != 7 else "") + judgement + ", strict" * mode
+
+
+def accepted(A, G):
+    return "accepted" + "".join(f", type {ty(C)}" for C in A) + f", context {context(G)}"
+
+
+def reply(numbers, report):
+    code, at, *_ = numbers
+    rest = iter(report)
+    if code == 0:
+        return accepted(section(rest), section(rest))
+    named = " " + name(at) if code in (11, 14) else ""
+    types = [ty(A) for _ in range(2) for A in section(rest)] if code >= 11 else []
+    return f"refused, {CODES[code]}{named}" + ("" if not types else ": " + ", ".join(types))
+
+
+def outcome(derived):
+    if isinstance(derived, str):
+        return derived
+    return " or ".join(accepted((A,) if A else (), G) for A, G in derived) or "refused"
