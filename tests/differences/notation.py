@@ -1,7 +1,9 @@
 """Document 01's words in formula notation: questions, replies, and the paper's outcomes. Names as there: 1 A, 2 B, 5 x, 6 y, 1,000,000 α0."""
-from paper import section
+from paper import PARTS, section
 
 OPERATORS = [None, "+", "-", "*", "/", "&&", "||", "==", "!=", "<", "<=", ">", ">="]
+FORMS = {16: "{0}", 17: "{0} {1}", 18: "λ{0}:{1}. {2}", 19: "{0}[{1}]", 20: "Λ{0}. {1}", 21: "({0} : {1})", 24: "let {0} = {1} in {2}",
+         25: "if {0} then {1} else {2}", 26: "{1} {operator} {2}"}
 CODES = {1: "BadBudget", 2: "ShortWork", 3: "BadLength", 4: "BadShape", 5: "ReservedName", 6: "Budget", 7: "NoRoom",
          11: "UnboundVariable", 12: "ApplicationTypeError", 13: "TypeApplicationError", 14: "OccursCheck", 15: "SubtypingError",
          17: "ParameterMismatch"}
@@ -31,16 +33,14 @@ def context(G):
 
 def expr(e, inner=False):
     code, *parts = e
-    sub = lambda i, within=True: expr(parts[i], within)  # noqa: E731
-    if code in (16, 22, 23, 21):
-        return {16: lambda: name(parts[0]), 22: lambda: str(parts[0] + (parts[1] << 32)), 23: lambda: ["false", "true"][parts[0]],
-                21: lambda: f"({sub(0, False)} : {ty(parts[1])})"}[code]()
-    text = {17: lambda: f"{sub(0)} {sub(1)}", 18: lambda: f"λ{name(parts[0])}:{ty(parts[1], True)}. {sub(2, False)}",
-            19: lambda: f"{sub(0)}[{ty(parts[1])}]", 20: lambda: f"Λ{name(parts[0])}. {sub(1, False)}",
-            24: lambda: f"let {name(parts[0])} = {sub(1, False)} in {sub(2, False)}",
-            25: lambda: f"if {sub(0, False)} then {sub(1, False)} else {sub(2, False)}",
-            26: lambda: f"{sub(1)} {OPERATORS[parts[0]]} {sub(2)}"}[code]()
-    return f"({text})" if inner else text
+    if code == 22:
+        return str(parts[0] + (parts[1] << 32))
+    if code == 23:
+        return ["false", "true"][parts[0]]
+    inside = {"n": name, "t": lambda A: ty(A, code == 18), "e": lambda part: expr(part, code in (17, 19, 26))}
+    texts = [inside[kind](part) for kind, part in zip(PARTS[code], parts)]
+    text = FORMS[code].format(*texts, operator=OPERATORS[parts[0]] if code == 26 else "")
+    return f"({text})" if inner and code not in (16, 21) else text
 
 
 def question(words):

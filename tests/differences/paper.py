@@ -15,7 +15,7 @@ PARTS = {INT: "", BOOL: "", VAR: "n", ETVAR: "n", ARROW: "tt", FORALL: "nt", E_V
          ETVARBND: "n", SETVARBND: "nt", MARK: "n"}
 
 
-# ---- Reading and writing
+# ---- Reading
 
 def item(words):
     code = next(words)
@@ -29,10 +29,6 @@ def section(words):
             items.append(item(inside))
         except StopIteration:
             return tuple(items)
-
-
-def written(thing):
-    return [thing] if isinstance(thing, int) else [word for part in thing for word in written(part)]
 
 
 # ---- Names, substitution, free variables; a bound name that is taken is changed, as the paper's contexts declare a name once
