@@ -1,5 +1,5 @@
 """Document 01's words in formula notation: questions, replies, and the paper's outcomes. Names as there: 1 A, 2 B, 5 x, 6 y, 1,000,000 α0."""
-from paper import PARTS, section
+from paper import PARTS, parts as read, section
 
 OPERATORS = [None, "+", "-", "*", "/", "&&", "||", "==", "!=", "<", "<=", ">", ">="]
 FORMS = {16: "{0}", 17: "{0} {1}", 18: "λ{0}:{1}. {2}", 19: "{0}[{1}]", 20: "Λ{0}. {1}", 21: "({0} : {1})", 24: "let {0} = {1} in {2}",
@@ -44,9 +44,7 @@ def expr(e, inner=False):
 
 
 def question(words):
-    rest = iter(words)
-    kind, mode = next(rest), next(rest)
-    G, e, A, B = (section(rest) for _ in range(4))
+    kind, mode, G, e, A, B = read(words)
     judgement = {1: lambda: f"{expr(*e)} ⇒", 2: lambda: f"{expr(*e)} ⇐ {ty(*B)}", 3: lambda: f"{expr(*e)} • {ty(*A, True)} ⇒⇒",
                  4: lambda: f"{ty(*A)} <: {ty(*B)}", 7: lambda: expr(*e)}.get(kind, lambda: f"{ty(*A)} :=< {ty(*B)}")()
     return (f"{context(G)} ⊢ " if kind != 7 else "") + judgement + ", strict" * mode

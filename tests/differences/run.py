@@ -82,4 +82,5 @@ def main():
     sys.exit(1 if faults or not asked else 0)
 
 
-main()
+if __name__ == "__main__":
+    main()
