@@ -1,4 +1,4 @@
-"""Document 01's words in formula notation: questions, replies, and the paper's outcomes. Names as there: 1 A, 2 B, 5 x, 6 y, 1,000,000 α0."""
+"""Document 01's words in formula notation: questions, replies, the paper's outcomes. Names as there: 1 A, 2 B, 5 x, 6 y, 1,000,000 α0."""
 from paper import PARTS, parts as read, section
 
 OPERATORS = [None, "+", "-", "*", "/", "&&", "||", "==", "!=", "<", "<=", ">", ">="]

@@ -21,6 +21,8 @@ from paper import (  # noqa: E402
 SWITCHES = {"P1", "P2", "P3", "P4", "P6", "P7", "P8", "P9", "P11", "P12", "P13", "P14", "P16", "P17", "P18", "P19", "P20"}
 # applications after which a run counts as endless
 MOST_STEPS = 3_000
+# words past which a question is passed over: Python's stack is small
+MOST_WORDS = 200
 
 
 class Refused(Exception):
@@ -208,7 +210,7 @@ def outcome(switches, words):
 def told(line):
     """The outcome that a recorded answer tells, or None where it tells none or the paper lacks its expressions."""
     code = int(line.numbers.split()[0])
-    if 1 <= code <= 7:
+    if 1 <= code <= 7 or len(line.question.split()) > MOST_WORDS:
         return None
     _, mode, _, e, _, _ = paper.parts(map(int, line.question.split()))
     if mode == 1 or not paper.has_rules(e):
@@ -217,12 +219,21 @@ def told(line):
     return ((*section(rest), None)[0], section(rest)) if code == 0 else "refused"
 
 
+def renumbered(thing, names):
+    """An outcome with its fresh names counted as they occur, since which ones the paper takes means nothing."""
+    if isinstance(thing, tuple):
+        return tuple(renumbered(part, names) for part in thing)
+    return names.setdefault(thing, -len(names)) if isinstance(thing, int) and thing >= 1_000_000 else thing
+
+
 def faults_of(line):
     words = [int(word) for word in line.question.split()]
     if outcome(SWITCHES, words) != told(line):
         yield f"all switches set: {line.question}"
     derived = paper.derived(words)
-    if not isinstance(derived, str) and outcome(set(), words) not in (derived or ["refused"]):
+    if isinstance(derived, str):
+        return
+    if renumbered(outcome(set(), words), {}) not in [renumbered(each, {}) for each in derived or ["refused"]]:
         yield f"no switch set: {line.question}"
 
 
