@@ -39,14 +39,13 @@ def parts(question):
 
 # ---- Names, substitution, free variables; a bound name that is taken is changed, as the paper's contexts declare a name once
 
-def type_names(thing):
-    if isinstance(thing, int):
-        return {thing}
-    return set().union(set(), *map(type_names, thing))
+def numbers(thing):
+    return {thing} if isinstance(thing, int) else set().union(*map(numbers, thing))
 
 
 def fresh(*things):
-    return max({999_999} | type_names(things)) + 1
+    """A name above every number in these."""
+    return max({999_999} | numbers(things)) + 1
 
 
 def subst(A, a, R):
