@@ -1,17 +1,40 @@
-"""The desk program as a function, after `rt check desk`: a question's words in, its two lines out."""
+"""The desk program as a function, after `rt check desk`: a question's words in, its two lines out; and recorded answers to hold it to."""
+import collections
 import pathlib
 import platform
 import struct
 import subprocess
 
 DESK = pathlib.Path(__file__).resolve().parent.parent / "target/bin/desk"
+# budget, work and room of the desk program
+SIZES = "384 16384 4096"
 KIT = "/opt/rattle"
 # programs are x86-64: on an Arm machine they run on the kit's emulator
 EMULATOR = [KIT + "/on/aarch64/toolchain/bin/qemu-x86_64", KIT + "/toolchain/lib/ld-linux-x86-64.so.2",
             "--library-path", KIT + "/toolchain/lib"]
+
+# a recorded answer, its parts as they are written
+Recorded = collections.namedtuple("Recorded", "sizes question numbers report")
 
 
 def ask(words):
     runner = EMULATOR if platform.machine() == "aarch64" else []
     packed = struct.pack(f"<{len(words)}I", *words)
     return subprocess.run(runner + [str(DESK)], input=packed, stdout=subprocess.PIPE, check=True).stdout.decode()
+
+
+def recorded(lines):
+    for line in lines:
+        if line.strip() and not line.startswith("#"):
+            yield Recorded(*(part.strip() for part in line.split("|")))
+
+
+def same_at_the_desk(line):
+    """Whether the desk's sizes give the same reply as those of the recorded answer."""
+    code, _, length, units = map(int, line.numbers.split())
+    budget, _, room = map(int, SIZES.split())
+    if line.sizes == SIZES or code in (3, 4, 5):
+        return True
+    if code == 6:
+        return int(line.sizes.split()[0]) == budget
+    return (code == 0 or code >= 11) and units <= budget and length <= room

@@ -1,7 +1,7 @@
 #!/usr/bin/env python3
 """The definition against the recorded answers: the prover computes every recorded question's reply from crates/definition.
 
-usage: definition.py ANSWERS FOLDER
+usage: definition.py ANSWERS.. FOLDER
 
 Writes a scratch repository into FOLDER (the crate definition, and a crate `recorded` with one theorem by computation for each line of
 ANSWERS) and has `rt` check it. Its last line says how many replies were computed; it fails where one differs.
@@ -55,9 +55,9 @@ def write_crate(folder, lines):
 
 
 def main():
-    answers, folder = pathlib.Path(sys.argv[1]), pathlib.Path(sys.argv[2])
+    *answers, folder = map(pathlib.Path, sys.argv[1:])
     root = pathlib.Path(__file__).resolve().parents[2]
-    lines = [line for line in answers.read_text().splitlines() if line and not line.startswith("#")]
+    lines = [line for file in answers for line in file.read_text().splitlines() if line and not line.startswith("#")]
     shutil.rmtree(folder, ignore_errors=True)
     (folder / "crates").mkdir(parents=True)
     shutil.copytree(root / "crates" / "definition", folder / "crates" / "definition")

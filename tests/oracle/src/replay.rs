@@ -2,9 +2,11 @@
 use std::io::{stdin, stdout, BufRead, BufWriter, Write};
 
 use crate::asked::{parse_asked, parse_recorded};
+use crate::compare::full_reply;
 use crate::make_sizes::in_full;
 use crate::make_types::Maker;
 use crate::reply::reply;
+use crate::tally::Tally;
 
 fn written(result: std::io::Result<()>) -> Result<(), String> {
     result.map_err(|error| error.to_string())
@@ -37,10 +39,11 @@ pub fn answer() -> Result<(), String> {
     written(out.flush())
 }
 
-/// Holds each recorded line to the live answer.
+/// Holds each recorded line to the live answer, and that to the original where it can be asked.
 pub fn replay(file: &str) -> Result<(), String> {
     let text = std::fs::read_to_string(file).map_err(|error| format!("{file}: {error}"))?;
     let mut count = 0;
+    let mut tally = Tally::default();
     for line in text.lines().filter(|line| !line.starts_with('#')) {
         let (asked, recorded) =
             parse_recorded(line).ok_or_else(|| format!("not a recorded line: {line}"))?;
@@ -48,8 +51,9 @@ pub fn replay(file: &str) -> Result<(), String> {
         if live != recorded {
             return Err(format!("{asked}\n  recorded {recorded}\n  live     {live}"));
         }
+        full_reply(&asked.words, &mut tally)?;
         count += 1;
     }
-    println!("{count} recorded answers hold");
+    println!("{count} recorded answers hold, {} of their questions held to the original", tally.held);
     Ok(())
 }
