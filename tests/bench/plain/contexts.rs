@@ -100,7 +100,7 @@ impl Run<'_> {
                 ty = place as u32;
                 place = self.end_of(ty) as usize;
             }
-            self.put(&[kind, name, ty]);
+            self.put([kind, name, ty]);
         }
         Ok(Context { at, len })
     }
@@ -120,7 +120,7 @@ impl Run<'_> {
         let at = self.top;
         self.copy(g, 0..g.len);
         for entry in entries {
-            self.put(entry);
+            self.put(*entry);
         }
         self.since(at)
     }
@@ -131,7 +131,7 @@ impl Run<'_> {
         let i = self.find(g, Key::ETVar(a)).unwrap_or(g.len);
         self.copy(g, 0..i);
         for entry in entries {
-            self.put(entry);
+            self.put(*entry);
         }
         self.copy(g, (i + 1).min(g.len)..g.len);
         self.since(at)

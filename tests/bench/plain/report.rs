@@ -102,28 +102,34 @@ impl<'a> Pen<'a> {
         self.at += 1;
     }
 
-    fn words(&mut self, words: &[u32]) {
-        self.report[self.at..self.at + words.len()].copy_from_slice(words);
-        self.at += words.len();
+    fn words<const N: usize>(&mut self, words: [u32; N]) {
+        self.report[self.at..self.at + N].copy_from_slice(&words);
+        self.at += N;
     }
 
     fn ty(&mut self, r: TypeRef) {
-        let run = self.run;
-        if let Some(words) = run.written_words(r) {
-            return self.words(words);
+        match self.run.written_words(r) {
+            Some(words) => {
+                self.report[self.at..self.at + words.len()].copy_from_slice(words);
+                self.at += words.len();
+            }
+            None => self.made_type(r),
         }
-        match run.ty(r) {
+    }
+
+    fn made_type(&mut self, r: TypeRef) {
+        match self.run.ty(r) {
             Type::Int => self.word(1),
             Type::Bool => self.word(2),
-            Type::Var(a) => self.words(&[3, a]),
-            Type::ETVar(a) => self.words(&[4, a]),
+            Type::Var(a) => self.words([3, a]),
+            Type::ETVar(a) => self.words([4, a]),
             Type::Arrow(from, to) => {
                 self.word(5);
                 self.ty(from);
                 self.ty(to);
             }
             Type::Forall(a, body) => {
-                self.words(&[6, a]);
+                self.words([6, a]);
                 self.ty(body);
             }
         }
@@ -143,7 +149,7 @@ impl<'a> Pen<'a> {
         let count_at = self.at;
         self.word(0);
         for entry in self.run.entries(g) {
-            self.words(&entry[..2]);
+            self.words([entry[0], entry[1]]);
             if holds_type(entry[0]) {
                 self.ty(entry[2]);
             }
@@ -152,7 +158,7 @@ impl<'a> Pen<'a> {
     }
 
     fn node(&mut self, node: &Node) {
-        self.words(&[node.rule, node.children, node.place]);
+        self.words([node.rule, node.children, node.place]);
         self.context(node.input);
         self.section(node.left);
         self.section(node.right);

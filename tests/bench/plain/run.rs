@@ -62,16 +62,16 @@ impl<'a> Run<'a> {
     ) -> Run<'a> {
         let low = work.len();
         let mut run = Run { question, ends, work, top: 0, low, left: budget, fresh: 0, strict };
-        run.put(&[1]);
-        run.put(&[2]);
+        run.put([1]);
+        run.put([2]);
         run
     }
 
     /// Puts words at the top; their place.
-    pub fn put(&mut self, words: &[u32]) -> usize {
+    pub fn put<const N: usize>(&mut self, words: [u32; N]) -> usize {
         let at = self.top;
-        self.top += words.len();
-        self.work[at..self.top].copy_from_slice(words);
+        self.top += N;
+        self.work[at..self.top].copy_from_slice(&words);
         at
     }
 

@@ -69,17 +69,17 @@ impl Run<'_> {
     }
 
     pub fn etvar(&mut self, a: u32) -> TypeRef {
-        IN_WORK + self.put(&[4, a]) as u32
+        IN_WORK + self.put([4, a]) as u32
     }
 
     pub fn arrow(&mut self, from: TypeRef, to: TypeRef) -> TypeRef {
         let length = self.length(from).saturating_add(self.length(to)).saturating_add(1);
-        IN_WORK + self.put(&[5, from, to, length]) as u32
+        IN_WORK + self.put([5, from, to, length]) as u32
     }
 
     pub fn forall(&mut self, a: u32, body: TypeRef) -> TypeRef {
         let length = self.length(body).saturating_add(2);
-        IN_WORK + self.put(&[6, a, body, length]) as u32
+        IN_WORK + self.put([6, a, body, length]) as u32
     }
 
     /// Whether a occurs free; Var and ETVar of one name count alike.

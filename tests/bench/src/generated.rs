@@ -3,9 +3,14 @@ use crate::cases::{Case, MOST_BUDGET, MOST_ROOM};
 use crate::contenders::{ask_plain, Slices};
 use crate::rng::Rng;
 
-/// The house: ahead : Int, open : Open, heads : Open -> Int, seen : forall P. P -> Int, signed_in : SignedIn.
-const HOUSE: [u32; 23] = [32, 1, 1, 32, 2, 3, 1, 32, 3, 5, 3, 1, 1, 32, 4, 6, 2, 5, 3, 2, 1, 32, 5];
-const SIGNED_IN: [u32; 2] = [3, 3];
+/// The house's inputs.
+const HOUSE: [&[u32]; 5] = [
+    &[32, 1, 1],                // ahead : Int
+    &[32, 2, 3, 1],             // open : Open
+    &[32, 3, 5, 3, 1, 1],       // heads : Open -> Int
+    &[32, 4, 6, 2, 5, 3, 2, 1], // seen : forall P. P -> Int
+    &[32, 5, 3, 3],             // signed_in : SignedIn
+];
 const FIRST_BOUND: u32 = 6;
 
 /// Units that the questions are to have, each met within a twenty-fifth, and how many for each.
@@ -98,7 +103,7 @@ impl Writer {
 fn question(seed: u64, binders: u32, size: u32) -> Vec<u32> {
     let mut writer = Writer { rng: Rng::new(seed), ints: vec![1], out: Vec::new() };
     writer.formula(binders, size);
-    let context = [&HOUSE[..], &SIGNED_IN].concat();
+    let context = HOUSE.concat();
     let mut words = vec![1, 0, context.len() as u32];
     words.extend(context);
     words.push(writer.out.len() as u32);
