@@ -9,6 +9,9 @@ const BEFORE: u32 = 0xDEAD_BEEF;
 /// More than any allowed budget needs; the lines of code 1 speak of longer slices.
 const MOST_WORK: u64 = 1 << 20;
 
+/// So many words past each report are looked at after its call, the others once at the end.
+const NEAR: usize = 1 << 16;
+
 /// Deep questions recurse deeply.
 const STACK: usize = 1 << 28;
 
@@ -64,10 +67,13 @@ fn held(asked: &Recorded, slices: &mut Slices) -> Result<(), &'static str> {
         1..=5 => 0,
         _ => 32 * asked.budget as usize + 4_096,
     };
+    let near = asked.room.min(written + NEAR);
     let found = if [reply.code, reply.at, reply.len, reply.units] != asked.numbers[..] {
         Err("the four numbers")
     } else if report[..written] != asked.report[..] {
         Err("the report")
+    } else if !untouched(&report[written..near]) {
+        Err("the report slice past the report")
     } else if work[..cleared].iter().any(|&word| word != 0) || !untouched(&work[cleared..]) {
         Err("the work slice afterwards")
     } else {
