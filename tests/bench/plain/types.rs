@@ -1,0 +1,105 @@
+//! Types by reference: in the question as written, in work as records that share their parts.
+
+use crate::run::Run;
+
+/// Below `IN_WORK` a place of the question, else `IN_WORK` plus a place of work.
+pub type TypeRef = u32;
+
+const IN_WORK: TypeRef = 2_048;
+pub const INT: TypeRef = IN_WORK;
+pub const BOOL: TypeRef = IN_WORK + 1;
+
+#[derive(Clone, Copy)]
+pub enum Type {
+    Int,
+    Bool,
+    Var(u32),
+    ETVar(u32),
+    Arrow(TypeRef, TypeRef),
+    Forall(u32, TypeRef),
+}
+
+impl Run<'_> {
+    pub fn ty(&self, r: TypeRef) -> Type {
+        if r < IN_WORK {
+            self.written_type(r)
+        } else {
+            self.made_type((r - IN_WORK) as usize)
+        }
+    }
+
+    fn written_type(&self, r: TypeRef) -> Type {
+        let at = r as usize;
+        match self.question[at] {
+            1 => Type::Int,
+            2 => Type::Bool,
+            3 => Type::Var(self.question[at + 1]),
+            4 => Type::ETVar(self.question[at + 1]),
+            5 => Type::Arrow(r + 1, self.end_of(r + 1)),
+            _ => Type::Forall(self.question[at + 1], r + 2),
+        }
+    }
+
+    fn made_type(&self, at: usize) -> Type {
+        match self.work[at] {
+            1 => Type::Int,
+            2 => Type::Bool,
+            4 => Type::ETVar(self.work[at + 1]),
+            5 => Type::Arrow(self.work[at + 1], self.work[at + 2]),
+            _ => Type::Forall(self.work[at + 1], self.work[at + 2]),
+        }
+    }
+
+    /// The words of a type that stands in the question.
+    pub fn written_words(&self, r: TypeRef) -> Option<&[u32]> {
+        (r < IN_WORK).then(|| &self.question[r as usize..self.end_of(r) as usize])
+    }
+
+    /// The type's length in words, which stops at the largest number.
+    pub fn length(&self, r: TypeRef) -> u32 {
+        if r < IN_WORK {
+            return self.end_of(r) - r;
+        }
+        let at = (r - IN_WORK) as usize;
+        match self.work[at] {
+            1 | 2 => 1,
+            4 => 2,
+            _ => self.work[at + 3],
+        }
+    }
+
+    pub fn etvar(&mut self, a: u32) -> TypeRef {
+        IN_WORK + self.put([4, a]) as u32
+    }
+
+    pub fn arrow(&mut self, from: TypeRef, to: TypeRef) -> TypeRef {
+        let length = self.length(from).saturating_add(self.length(to)).saturating_add(1);
+        IN_WORK + self.put([5, from, to, length]) as u32
+    }
+
+    pub fn forall(&mut self, a: u32, body: TypeRef) -> TypeRef {
+        let length = self.length(body).saturating_add(2);
+        IN_WORK + self.put([6, a, body, length]) as u32
+    }
+
+    /// Whether a occurs free; Var and ETVar of one name count alike.
+    pub fn occurs(&self, a: u32, r: TypeRef) -> bool {
+        match self.ty(r) {
+            Type::Int | Type::Bool => false,
+            Type::Var(b) | Type::ETVar(b) => a == b,
+            Type::Arrow(from, to) => self.occurs(a, from) || self.occurs(a, to),
+            Type::Forall(b, body) => a != b && self.occurs(a, body),
+        }
+    }
+
+    /// Whether two types are the same, name for name.
+    pub fn same(&self, r: TypeRef, s: TypeRef) -> bool {
+        match (self.ty(r), self.ty(s)) {
+            (Type::Int, Type::Int) | (Type::Bool, Type::Bool) => true,
+            (Type::Var(a), Type::Var(b)) | (Type::ETVar(a), Type::ETVar(b)) => a == b,
+            (Type::Arrow(r1, r2), Type::Arrow(s1, s2)) => self.same(r1, s1) && self.same(r2, s2),
+            (Type::Forall(a, r), Type::Forall(b, s)) => a == b && self.same(r, s),
+            _ => false,
+        }
+    }
+}
