@@ -6,4 +6,3 @@ pub mod Asking
 pub mod Resolving
 pub mod Finishing
 pub mod Running
-pub mod One

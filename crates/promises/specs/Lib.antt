@@ -1,0 +1,2 @@
+-- What two calls of an exported function have in common.
+pub mod Common
