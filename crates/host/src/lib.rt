@@ -18,7 +18,7 @@ fn room_for(n: usize) -> usize
 }
 
 // The four numbers, then the words of the report, little-endian.
-fn put_reply(reply: &mut [u8], r: Reply, report: &[u32])
+pub fn put_reply(reply: &mut [u8], r: Reply, report: &[u32])
     requires { ⌜ 16 + 4 * length (now report) ≤ length (now reply) ⌝ }
     ensures { λ _. ⌜ now (reply .exit) ≡ bytesOf (numbersOf r ++ now (report .entry)) ++ drop (16 + 4 * length (now (report .entry))) (now (reply .entry)) ⌝ }
 {

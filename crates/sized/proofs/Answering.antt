@@ -19,8 +19,9 @@ use Rattle.entry.specs.declared.Reply as entry
 use Rattle.entry.specs.Entry.{Numbers, Replied}
 use Rattle.entry.proofs.Refusing.{too-long}
 use Rattle.wire.proofs.Bytes.{length-words}
-use Rattle.sized.specs.Sized.{Answered, Told, writtenOf}
-use Rattle.sized.proofs.Lengths.{in-bytes, length-written}
+use Rattle.sized.specs.Sized as sized
+use Rattle.sized.specs.Sized.{Answered, writtenOf}
+use Rattle.sized.proofs.Lengths.{Told, in-bytes, length-written}
 
 -- ## BadLength
 
@@ -70,16 +71,19 @@ asked {b} {w} {w′} {s} {s′} ws rest h l m e x =
 
 -- ## The report's first words
 
-pub within : {b part t : List ℕ} {r : entry.Reply} (room : ℕ) (rest : List ℕ) → length part ≡ room → room ≤ 4096
-    → Answered b part t r → Told b room (t ++ rest) r
+-- they are the report, in a slice that goes on after the part that was lent
+pub first-words : {R : Reply} {t : List ℕ} {r : entry.Reply} {room : ℕ} (part rest : List ℕ) → Told room R → Numbers R r → t ≡ reportAfter R part
+    → take (writtenOf r) (t ++ rest) ≡ R .report
 unfolding reportAfter
+first-words {R} {t} {r} part rest k n e =
+    rw e (ap (take (writtenOf r)) (append-assoc (R .report) (drop (length (R .report)) part) rest)
+    ∙ take-at (R .report) _ (writtenOf r) (length-written k n))
+
+pub within : {b part t : List ℕ} {r : entry.Reply} (room : ℕ) (rest : List ℕ) → length part ≡ room → room ≤ 4096
+    → Answered b part t r → sized.Told b room (t ++ rest) r
 within {b} {part} {t} {r} room rest l h a =
     let R : Reply = byteReply room b in
     let n : Numbers R r = rw l at (a .numbers) in
-    let e : t ≡ R .report ++ drop (length (R .report)) part = rw l at (a .report) in
-    let k : length (R .report) ≡ writtenOf r = length-written (in-bytes room b) n in
-    record {
-      numbers = n;
-      report = rw e (ap (take (writtenOf r)) (append-assoc (R .report) (drop (length (R .report)) part) rest) ∙ take-at (R .report) _ (writtenOf r) k);
-      fits = omega (arith, k, in-bytes room b .within);
-    }
+    let e : t ≡ reportAfter R part = rw l at (a .report) in
+    let k : Told (min room 4096) R = in-bytes room b in
+    record { numbers = n; report = first-words part rest k n e; fits = omega (arith, length-written k n, k .within) }

@@ -1,0 +1,2 @@
+-- Laws of the replay program.
+pub mod Replaying

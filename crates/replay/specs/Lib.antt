@@ -1,0 +1,2 @@
+-- What the replay program answers.
+pub mod Replayed
