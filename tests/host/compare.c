@@ -7,6 +7,9 @@
 /* The most of a frame. No budget needs more work; longer work is clipped by who writes frames, since it changes no reply. */
 enum { MOST_QUESTION = 4096, MOST_WORK = 266240 + 512, MOST_REPORT = 65536, CODES = 18 };
 
+/* A line is printed after each so many frames, since a long run takes an hour. */
+enum { FRAMES_A_LINE = 1000000 };
+
 struct frame {
     struct { uint32_t budget, work, room, count; } sizes;
     uint32_t question[MOST_QUESTION];
@@ -138,6 +141,10 @@ int main(void) {
     for (; read_frame(); frames++) {
         hold_check();
         if (at_the_desk()) hold_answer();
+        if ((frames + 1) % FRAMES_A_LINE == 0) {
+            printf("after %lu frames: %lu differences\n", frames + 1, differences);
+            fflush(stdout);
+        }
     }
     print_codes("sporeflask_check", checked);
     print_codes("sporeflask_answer", answered);
