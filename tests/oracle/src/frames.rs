@@ -5,6 +5,7 @@ use crate::asked::{Asked, Reply};
 use crate::cases::CASES;
 use crate::compare::full_reply;
 use crate::make_large::all_large;
+use crate::make_sizes::in_full;
 use crate::make_types::Maker;
 use crate::reading::read;
 use crate::rename::Pairing;
@@ -165,13 +166,18 @@ impl<W: Write> Frames<W> {
     }
 }
 
-/// Document 01's cases and one of each large question, then generated ones.
+/// Document 01's cases and one of each large question.
+fn first_questions() -> impl Iterator<Item = Vec<u32>> {
+    CASES.iter().map(|case| case.words.to_vec()).chain(all_large())
+}
+
+/// The first questions, then generated ones.
 fn questions(
     maker: &mut Maker,
     count: u64,
     mut each: impl FnMut(&mut Maker, Vec<u32>) -> Result<(), String>,
 ) -> Result<(), String> {
-    let mut first = CASES.iter().map(|case| case.words.to_vec()).chain(all_large());
+    let mut first = first_questions();
     for _ in 0..count {
         let words = first.next().unwrap_or_else(|| maker.any_words());
         each(maker, words)?;
@@ -179,10 +185,15 @@ fn questions(
     Ok(())
 }
 
-/// Writes the frames of this many questions to the standard output, and what they reached to the standard error.
+/// Writes the frames of this many questions to the standard output, the first ones also in full, and what they
+/// reached to the standard error.
 pub fn frames(count: u64, seed: u64) -> Result<(), String> {
     let out = BufWriter::with_capacity(1 << 20, stdout().lock());
     let mut frames = Frames { out, tally: Tally::default(), frames: 0, pairs: 0 };
+    for words in first_questions() {
+        let asked = Asked { room: MOST_ROOM, ..in_full(&words) };
+        frames.write(&asked, &reply(&asked))?;
+    }
     questions(&mut Maker::new(seed), count, |maker, words| frames.write_question(maker, words))?;
     frames.out.flush().map_err(|error| error.to_string())?;
     eprintln!("{}", frames.told(seed));
