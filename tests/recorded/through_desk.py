@@ -1,5 +1,6 @@
 #!/usr/bin/env python3
-"""through_desk.py ANSWERS: the recorded answers that the desk's sizes do not change, through the desk program."""
+"""through_desk.py ANSWERS: the recorded answers that the desk's sizes do not change, through the desk program.
+tests/desk_live gives it new ones as /dev/stdin."""
 import pathlib
 import sys
 
@@ -17,7 +18,7 @@ def main():
         if ask([int(word) for word in line.question.split()]) != f"{line.numbers}\n{line.report}\n":
             differ += 1
             print(f"differs: {line.question[:400]}")
-    print(f"desk: {asked} recorded answers asked, {differ} differ, {left_out} left out (other sizes decide their reply)")
+    print(f"desk: {asked} answers asked, {differ} differ, {left_out} left out (other sizes decide their reply)")
     sys.exit(1 if differ or not asked else 0)
 
 

@@ -4,6 +4,7 @@ mod cases;
 mod compare;
 mod convert;
 mod decode;
+mod frames;
 mod make_contexts;
 mod make_damage;
 mod make_large;
@@ -17,6 +18,7 @@ mod question;
 mod reading;
 mod record;
 mod recount;
+mod rename;
 mod replay;
 mod reply;
 mod report;
@@ -34,6 +36,8 @@ const USAGE: &str = "usage: oracle compare --count N --seed S
        oracle record --count N --seed S --date D
        oracle generate --count N --seed S
        oracle answer < LINES
+       oracle frames --count N --seed S
+       oracle desk --count N --seed S
        oracle replay FILE";
 
 /// The value after a flag.
@@ -55,6 +59,8 @@ fn command(arguments: &[String]) -> Result<(), String> {
         Some("record") => record::record(count()? as usize, seed()?, flag(arguments, "--date")?),
         Some("generate") => replay::generate(count()?, seed()?),
         Some("answer") => replay::answer(),
+        Some("frames") => frames::frames(count()?, seed()?),
+        Some("desk") => frames::desk(count()?, seed()?),
         Some("replay") => replay::replay(arguments.get(1).ok_or(USAGE)?),
         _ => Err(USAGE.to_string()),
     }
