@@ -5,7 +5,7 @@ import platform
 import struct
 import subprocess
 
-DESK = pathlib.Path(__file__).resolve().parent.parent / "target/bin/desk"
+PROGRAMS = pathlib.Path(__file__).resolve().parent.parent / "target/bin"
 # budget, work and room of the desk program
 SIZES = "384 16384 4096"
 KIT = "/opt/rattle"
@@ -17,10 +17,14 @@ EMULATOR = [KIT + "/on/aarch64/toolchain/bin/qemu-x86_64", KIT + "/toolchain/lib
 Recorded = collections.namedtuple("Recorded", "sizes question numbers report")
 
 
+def program(name):
+    """The command that runs a program of crates.txt."""
+    return (EMULATOR if platform.machine() == "aarch64" else []) + [str(PROGRAMS / name)]
+
+
 def ask(words):
-    runner = EMULATOR if platform.machine() == "aarch64" else []
     packed = struct.pack(f"<{len(words)}I", *words)
-    return subprocess.run(runner + [str(DESK)], input=packed, stdout=subprocess.PIPE, check=True).stdout.decode()
+    return subprocess.run(program("desk"), input=packed, stdout=subprocess.PIPE, check=True).stdout.decode()
 
 
 def recorded(lines):
