@@ -1,1 +1,1 @@
-// The laws stand in specs/: there is nothing to run here.
+// The laws stand in proofs/: there is nothing to run here.
