@@ -1,3 +1,4 @@
+-- The cycle of inst_l and inst_r meets its contracts.
 use Rattle.instantiation.proofs.inst_l.Reads as inst-l
 use Rattle.instantiation.proofs.+inst_l+inst_l_all+inst_l_arr+inst_l_rule+inst_r+inst_r_all+inst_r_arr+inst_r_rule.Lts-inst_l as inst-l-lts
 use Rattle.instantiation.proofs.inst_l_all.Reads as inst-l-all

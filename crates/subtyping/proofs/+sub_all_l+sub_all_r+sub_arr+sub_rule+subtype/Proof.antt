@@ -1,3 +1,4 @@
+-- The cycle of subtype meets its contracts.
 use Rattle.subtyping.proofs.sub_all_l.Reads as sub-all-l
 use Rattle.subtyping.proofs.+sub_all_l+sub_all_r+sub_arr+sub_rule+subtype.Lts-sub_all_l as sub-all-l-lts
 use Rattle.subtyping.proofs.sub_all_r.Reads as sub-all-r

@@ -1,3 +1,4 @@
+-- What falls from call to call, and what each member claims of its callees.
 use Prim.Native.Nat.{ℕ, _+_, _*_, _<_}
 use borrow.Fn.Kinds.{In}
 use borrow.Fn.PlainCycle.{Measures, is, falls, and}
