@@ -7,7 +7,7 @@ use native.Mathlib.Omega.{arith}
 use lib.ListN.{length, drop, replicate, length-replicate}
 use lib.Seq.{drop-at}
 use lib.Dec.{leb}
-use Rattle.definition.specs.Syntax.{pick, TypeError, unboundVariable, applicationTypeError, typeApplicationError, occursCheck, subtypingError, instantiationError, parameterMismatch}
+use Rattle.definition.specs.Syntax.{pick}
 use Rattle.definition.specs.Question as question
 use Rattle.definition.specs.Question.{Read, got, fault, readQuestion}
 use Rattle.definition.specs.Run.{Out, done, fail, stop}
@@ -18,12 +18,10 @@ use Rattle.definition.specs.Memory.{reportAfter, workAfter, call}
 use Rattle.reading.specs.Questions.{Accepted}
 use Rattle.reading.specs.declared.Question.{Question}
 use Rattle.entry.specs.declared.Reply.{Reply}
+use Rattle.entry.proofs.Codes.{Late, error, error-late}
 use Rattle.entry.specs.Entry.{Numbers, Replied, outcome, Gives, Runs, Cleared}
 
 -- ## A run's reply is none of 1 to 5
-
-abbrev Late : ℕ → Type 0
-Late c = (leb 1 c && leb c 5) ≡ false
 
 late-pick : (b : Bool) (x y : definition.Reply) → Late (x .code) → Late (y .code) → Late (pick b x y .code)
 unfolding pick
@@ -34,20 +32,10 @@ reported-late : (room c p u : ℕ) (ws : List ℕ) → Late c → Late (reported
 unfolding reported
 reported-late room c p u ws h = late-pick (leb (length ws) room && leb (length ws) definition.most) _ _ h refl
 
-error-late : (e : TypeError) → Late (errorCode e)
-unfolding errorCode
-error-late (unboundVariable x) = refl
-error-late (applicationTypeError A) = refl
-error-late (typeApplicationError A) = refl
-error-late (occursCheck a A) = refl
-error-late (subtypingError A B) = refl
-error-late (instantiationError a A) = refl
-error-late (parameterMismatch A B) = refl
-
 out-late : (k budget room : ℕ) (o : Out Result) → Late (outReply k budget room o .code)
 unfolding outReply refusal
 out-late k budget room (done r l n) = reported-late room 0 0 (budget - l) _ refl
-out-late k budget room (fail e l) = reported-late room (errorCode e) _ (budget - l) _ (error-late e)
+out-late k budget room (fail e l) = reported-late room (errorCode e) _ (budget - l) _ (error-late (error e))
 out-late k budget room stop = refl
 
 -- ## The reply

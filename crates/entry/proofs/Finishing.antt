@@ -9,7 +9,7 @@ use native.Mathlib.Decide.{decLe}
 use lib.ListN.{length, drop}
 use lib.Dec.{leb, le→leb}
 use mir.Facts.{no-leb}
-use Rattle.definition.specs.Syntax.{pick, TypeError, unboundVariable, applicationTypeError, typeApplicationError, occursCheck, subtypingError, instantiationError, parameterMismatch}
+use Rattle.definition.specs.Syntax.{pick, TypeError}
 use Rattle.definition.specs.Run.{Out, done, fail, stop}
 use Rattle.definition.specs.Rules.{Result}
 use Rattle.definition.specs.Reply.{most, refusal, reported, errorCode, errorAt, errorWords, resultWords, outReply}
@@ -29,6 +29,7 @@ use Rattle.report.specs.declared.Report.{Report}
 use Rattle.report.specs.declared.Report.the-variants.{Written, NoRoom}
 use Rattle.report.proofs.Replies.{room-ground, landed-result, failed-error, result-spelled, result-reported, error-spelled, error-reported}
 use Rattle.entry.specs.declared.Reply.{Reply}
+use Rattle.entry.proofs.Codes.{error}
 use Rattle.entry.specs.Entry.{Numbers, Gives, toldOf, lengthOf, FinishPre, Finishes}
 
 -- ## What became of a report
@@ -90,22 +91,12 @@ failed-by {q} {w} {s} {z} {b} {R} h d = go (rw d at h)
     go : {S : Out Result} → EndsJ q w s (Fail b) S → FailedBy q w b S
     go (failed {e = e} x) = record { e = e; is = rw (x .left) refl; fails = rw (← x .left) at x }
 
-error-small : (e : TypeError) → errorCode e ≤ 17
-unfolding errorCode
-error-small (unboundVariable x) = omega arith
-error-small (applicationTypeError A) = omega arith
-error-small (typeApplicationError A) = omega arith
-error-small (occursCheck a A) = omega arith
-error-small (subtypingError A B) = omega arith
-error-small (instantiationError a A) = omega arith
-error-small (parameterMismatch A B) = omega arith
-
 module _ {q w : List ℕ} {s : State} {z : Step} {b : Bad} (pre : FinishPre q w s z) (d : z ≡ Fail b) where
   pub error-left : b .st .left ≤ s .left
   error-left = let f = failed-by (pre .ends) d in rw (f .is) at (pre .left)
 
   pub error-code : b .code < 2 ^ 32
-  error-code = let f = failed-by (pre .ends) d in omega (arith, f .fails .code, error-small (f .e))
+  error-code = let f = failed-by (pre .ends) d in omega (arith, f .fails .code, error (f .e) .most)
 
   pub error-words : Spelled q w (b .st .top) (OfError q w b)
   error-words =

@@ -14,7 +14,7 @@ use Rattle.entry.specs.declared.Reply.{Reply}
 use Rattle.entry.specs.Entry.{Numbers, Replied}
 use Rattle.wire.proofs.Bytes.{length-words, length-bytes}
 use Rattle.sized.specs.Sized.{writtenOf}
-use Rattle.sized.proofs.Lengths.{Told, replies, length-written}
+use Rattle.sized.proofs.Lengths.{Measured, replies, length-written}
 use Rattle.sized.proofs.Answering.{first-words}
 use Rattle.host.specs.Host.{numbersOf}
 use Rattle.replay.specs.declared.Frame.{Frame}
@@ -28,7 +28,7 @@ asked {b} {w} {w′} {part} {t} {r} f ws rest more lw lp e x =
     let q : take (f .count - 0) (drop 0 ws) ≡ wordsOf b (f .count) = rw (sub-zero, e) (take-at (wordsOf b (f .count)) rest (f .count) (length-words b (f .count))) in
     let i : reply (f .budget) (length w) (length part) (take (f .count - 0) (drop 0 ws)) ≡ framed f b = rw (q, lw, lp) in
     let n : Numbers (framed f b) r = rw i at (x .numbers) in
-    let k : Told (f .report) (framed f b) = replies (f .budget) (f .work) (f .report) (wordsOf b (f .count)) in
+    let k : Measured (f .report) (framed f b) = replies (f .budget) (f .work) (f .report) (wordsOf b (f .count)) in
     record { numbers = n; report = first-words part more k n (rw i at (x .report)); fits = omega (arith, length-written k n, k .within) }
 
 pub replayed : {b s out : List ℕ} {r : Reply} {n : ℕ} (f : Frame) (rest : List ℕ) → Asked f b s r → n ≡ writtenOf r
@@ -36,7 +36,7 @@ pub replayed : {b s out : List ℕ} {r : Reply} {n : ℕ} (f : Frame) (rest : Li
 unfolding numbers
 replayed {b} {s} {out} {r} {n} f rest a w e h =
     let R : definition.Reply = framed f b in
-    let k : Told (f .report) R = replies (f .budget) (f .work) (f .report) (wordsOf b (f .count)) in
+    let k : Measured (f .report) R = replies (f .budget) (f .work) (f .report) (wordsOf b (f .count)) in
     let m : Numbers R r = a .numbers in
     let t : take (n - 0) (drop 0 s) ≡ R .report = rw (w, sub-zero) (a .report) in
     let l : length (bytesOf (numbersOf r ++ R .report)) ≡ 16 + 4 * n = length-bytes (numbersOf r ++ R .report) ∙ omega (arith, w, length-written k m) in

@@ -19,9 +19,8 @@ use Rattle.entry.specs.declared.Reply as entry
 use Rattle.entry.specs.Entry.{Numbers, Replied}
 use Rattle.entry.proofs.Refusing.{too-long}
 use Rattle.wire.proofs.Bytes.{length-words}
-use Rattle.sized.specs.Sized as sized
-use Rattle.sized.specs.Sized.{Answered, writtenOf}
-use Rattle.sized.proofs.Lengths.{Told, in-bytes, length-written}
+use Rattle.sized.specs.Sized.{Answered, Told, writtenOf}
+use Rattle.sized.proofs.Lengths.{Measured, in-bytes, length-written}
 
 -- ## BadLength
 
@@ -72,7 +71,7 @@ asked {b} {w} {w′} {s} {s′} ws rest h l m e x =
 -- ## The report's first words
 
 -- they are the report, in a slice that goes on after the part that was lent
-pub first-words : {R : Reply} {t : List ℕ} {r : entry.Reply} {room : ℕ} (part rest : List ℕ) → Told room R → Numbers R r → t ≡ reportAfter R part
+pub first-words : {R : Reply} {t : List ℕ} {r : entry.Reply} {room : ℕ} (part rest : List ℕ) → Measured room R → Numbers R r → t ≡ reportAfter R part
     → take (writtenOf r) (t ++ rest) ≡ R .report
 unfolding reportAfter
 first-words {R} {t} {r} part rest k n e =
@@ -80,10 +79,10 @@ first-words {R} {t} {r} part rest k n e =
     ∙ take-at (R .report) _ (writtenOf r) (length-written k n))
 
 pub within : {b part t : List ℕ} {r : entry.Reply} (room : ℕ) (rest : List ℕ) → length part ≡ room → room ≤ 4096
-    → Answered b part t r → sized.Told b room (t ++ rest) r
+    → Answered b part t r → Told b room (t ++ rest) r
 within {b} {part} {t} {r} room rest l h a =
     let R : Reply = byteReply room b in
     let n : Numbers R r = rw l at (a .numbers) in
     let e : t ≡ reportAfter R part = rw l at (a .report) in
-    let k : Told (min room 4096) R = in-bytes room b in
+    let k : Measured (min room 4096) R = in-bytes room b in
     record { numbers = n; report = first-words part rest k n e; fits = omega (arith, length-written k n, k .within) }

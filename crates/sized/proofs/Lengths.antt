@@ -8,7 +8,7 @@ use native.Mathlib.Omega.{arith}
 use lib.ListN.{length}
 use lib.Dec.{T, leb, ltb, eqb, leb→le, eqb-refl}
 use mir.Facts.{no-eqb}
-use Rattle.definition.specs.Syntax.{pick, TypeError, unboundVariable, applicationTypeError, typeApplicationError, occursCheck, subtypingError, instantiationError, parameterMismatch}
+use Rattle.definition.specs.Syntax.{pick}
 use Rattle.definition.specs.Question.{Read, got, fault, Question, readQuestion}
 use Rattle.definition.specs.Run.{Out, done, fail, stop}
 use Rattle.definition.specs.Rules.{Result}
@@ -17,18 +17,19 @@ use Rattle.definition.specs.Host.{deskReply, byteReply, wordsOf}
 use Rattle.laws.proofs.Steps.{is-true, is-false, pick-true, pick-false}
 use Rattle.entry.specs.declared.Reply as entry
 use Rattle.entry.specs.Entry.{Numbers}
+use Rattle.entry.proofs.Codes.{error, not-seven}
 use Rattle.sized.specs.Sized.{writtenOf}
 
-pub record Told (room : ℕ) (R : Reply) : Type 0 where
+pub record Measured (room : ℕ) (R : Reply) : Type 0 where
   pub many : length (R .report) ≡ pick (eqb (R .code) 7) 0 (R .len)
   pub within : length (R .report) ≤ room
 
-pick-told : (b : Bool) {room : ℕ} {R S : Reply} → Told room R → Told room S → Told room (pick b R S)
+either : (b : Bool) {room : ℕ} {R S : Reply} → Measured room R → Measured room S → Measured room (pick b R S)
 unfolding pick
-pick-told true h k = h
-pick-told false h k = k
+either true h k = h
+either false h k = k
 
-refused : (room c p u : ℕ) → Told room (refusal c p u)
+refused : (room c p u : ℕ) → Measured room (refusal c p u)
 unfolding refusal pick
 refused room c p u = record { many = go (eqb c 7); within = omega arith }
   where
@@ -36,46 +37,36 @@ refused room c p u = record { many = go (eqb c 7); within = omega arith }
     go true = refl
     go false = refl
 
-reports : (room c p u : ℕ) (ws : List ℕ) → eqb c 7 ≡ false → Told room (reported room c p u ws)
+reports : (room c p u : ℕ) (ws : List ℕ) → eqb c 7 ≡ false → Measured room (reported room c p u ws)
 unfolding reported pick
 reports room c p u ws e = go (leb (length ws) room) (leb (length ws) most) (leb→le (length ws) room)
   where
-    go : (a b : Bool) → (T a → length ws ≤ room) → Told room (pick (a && b) (record { code = c; at = p; len = length ws; units = u; report = ws }) (record { code = 7; at = 0; len = min (length ws) most; units = u; report = [] }))
+    go : (a b : Bool) → (T a → length ws ≤ room) → Measured room (pick (a && b) (record { code = c; at = p; len = length ws; units = u; report = ws }) (record { code = 7; at = 0; len = min (length ws) most; units = u; report = [] }))
     go true true h = record { many = rw e; within = h tt }
     go true false h = record { many = refl; within = omega arith }
     go false b h = record { many = refl; within = omega arith }
 
-not-seven : (e : TypeError) → eqb (errorCode e) 7 ≡ false
-unfolding errorCode
-not-seven (unboundVariable x) = refl
-not-seven (applicationTypeError A) = refl
-not-seven (typeApplicationError A) = refl
-not-seven (occursCheck a A) = refl
-not-seven (subtypingError A B) = refl
-not-seven (instantiationError a A) = refl
-not-seven (parameterMismatch A B) = refl
-
-outs : (k budget room : ℕ) (o : Out Result) → Told room (outReply k budget room o)
+outs : (k budget room : ℕ) (o : Out Result) → Measured room (outReply k budget room o)
 unfolding outReply
 outs k budget room (done r l n) = reports room 0 0 (budget - l) _ refl
-outs k budget room (fail e l) = reports room (errorCode e) _ (budget - l) _ (not-seven e)
+outs k budget room (fail e l) = reports room (errorCode e) _ (budget - l) _ (not-seven (error e))
 outs k budget room stop = refused room 6 0 budget
 
-reads : (budget room : ℕ) (x : Read Question) → Told room (readReply budget room x)
+reads : (budget room : ℕ) (x : Read Question) → Measured room (readReply budget room x)
 unfolding readReply
 reads budget room (fault c p) = refused room c p 0
 reads budget room (got q p ws) = outs (q .kind) budget room _
 
-pub replies : (budget work room : ℕ) (ws : List ℕ) → Told room (reply budget work room ws)
+pub replies : (budget work room : ℕ) (ws : List ℕ) → Measured room (reply budget work room ws)
 unfolding reply
 replies budget work room ws =
-    pick-told (eqb budget 0 || ltb 8192 budget) (refused room 1 0 0)
-    (pick-told (ltb work (workWords budget)) (refused room 2 0 0)
-    (pick-told (eqb (length ws) 0 || ltb 2048 (length ws)) (refused room 3 0 0) (reads budget room (readQuestion ws))))
+    either (eqb budget 0 || ltb 8192 budget) (refused room 1 0 0)
+    (either (ltb work (workWords budget)) (refused room 2 0 0)
+    (either (eqb (length ws) 0 || ltb 2048 (length ws)) (refused room 3 0 0) (reads budget room (readQuestion ws))))
 
-pub in-bytes : (room : ℕ) (b : List ℕ) → Told (min room 4096) (byteReply room b)
+pub in-bytes : (room : ℕ) (b : List ℕ) → Measured (min room 4096) (byteReply room b)
 unfolding byteReply deskReply
-in-bytes room b = pick-told (eqb (length b % 4) 0) (replies 384 16384 (min room 4096) (wordsOf b (length b / 4))) (refused (min room 4096) 3 0 0)
+in-bytes room b = either (eqb (length b % 4) 0) (replies 384 16384 (min room 4096) (wordsOf b (length b / 4))) (refused (min room 4096) 3 0 0)
 
 -- ## In the program's reply
 
@@ -85,5 +76,5 @@ none r e = sym (pick-true 0 (r .len) (ap (λ (n : ℕ). eqb n 7) e ∙ is-true (
 pub some : (r : entry.Reply) → r .code ≢ 7 → r .len ≡ writtenOf r
 some r p = sym (pick-false 0 (r .len) (is-false (eqb (r .code) 7) (no-eqb p)))
 
-pub length-written : {room : ℕ} {R : Reply} {r : entry.Reply} → Told room R → Numbers R r → length (R .report) ≡ writtenOf r
+pub length-written : {room : ℕ} {R : Reply} {r : entry.Reply} → Measured room R → Numbers R r → length (R .report) ≡ writtenOf r
 length-written t n = rw (n .code, n .len) (t .many)
