@@ -1,5 +1,8 @@
 #!/usr/bin/env python3
-"""Makes the first corpus from the recorded answers: corpus.py FOLDER. Each question with its own sizes; sides and offsets vary."""
+"""Makes the first corpus from the recorded answers: corpus.py FOLDER. Each question with its own sizes; sides and offsets vary.
+
+Of 16, one has a reply of less than 16 bytes, and one a question that isn't whole words.
+"""
 import pathlib
 import struct
 import sys
@@ -12,7 +15,8 @@ from desk import recorded  # noqa: E402
 def first_bytes(number, budget, work, room):
     """fuzz.h's struct chosen; both functions are called."""
     more = work - (32 * budget + 4096)
-    return struct.pack("<HBBHHbBBBBBBB", min(budget, 65535), 3, number % 32, min(room, 65535), 16 + 4 * min(room, 4096) + number % 4,
+    reply = number // 16 % 16 if number % 16 == 5 else 16 + 4 * min(room, 4096) + number % 4
+    return struct.pack("<HBBHHbBBBBBBB", min(budget, 65535), 3, number % 32, min(room, 65535), reply,
                        max(-128, min(more, 127)), number // 32 % 16, 0, number % 256, number // 7 % 256, 0, 0, 0)
 
 
@@ -32,7 +36,9 @@ def main():
     for number, answer in enumerate(recorded(lines)):
         budget, work, room = sizes(number, answer)
         words = [int(word) for word in answer.question.split()]
-        (folder / f"recorded-{number}").write_bytes(first_bytes(number, budget, work, room) + struct.pack(f"<{len(words)}I", *words))
+        packed = struct.pack(f"<{len(words)}I", *words)
+        cut = len(packed) - (number // 16 % 4 if number % 16 == 9 else 0)
+        (folder / f"recorded-{number}").write_bytes(first_bytes(number, budget, work, room) + packed[:cut])
 
 
 main()

@@ -187,6 +187,14 @@ static void unpack(const uint8_t *data, size_t size, struct words *q) {
     if (q->n > 0) memcpy(q->w, data + HEADER, 4 * q->n);
 }
 
+/* Rarely some bytes more, so that the question isn't whole words. */
+static size_t odd_end(uint8_t *data, size_t size, size_t max_size) {
+    size_t more = roll(16) ? 0 : roll(4);
+    if (size + more > max_size) return size;
+    memset(data + size, 0, more);
+    return size + more;
+}
+
 size_t LLVMFuzzerCustomMutator(uint8_t *data, size_t size, size_t max_size, unsigned int seed) {
     state = seed | 1;
     if (max_size < HEADER || roll(16) == 0) return LLVMFuzzerMutate(data, size, max_size);
@@ -199,7 +207,7 @@ size_t LLVMFuzzerCustomMutator(uint8_t *data, size_t size, size_t max_size, unsi
     if (q.n > (max_size - HEADER) / 4) q.n = (max_size - HEADER) / 4;
     memcpy(data, &to, HEADER);
     memcpy(data + HEADER, q.w, 4 * q.n);
-    return HEADER + 4 * q.n;
+    return odd_end(data, HEADER + 4 * q.n, max_size);
 }
 
 /* The second input's items in the first one's question. */

@@ -37,10 +37,11 @@ static void make_stack(void) {
     memset(painted, PAINT, PAGE);
 }
 
-/* The lowest byte that is no longer as painted. */
+/* The lowest byte that is no longer as painted: no call leaves out a whole page, since every frame but that of sporeflask_answer is
+   smaller, and that one writes to each page. */
 static uint8_t *lowest(void) {
-    uint8_t *at = stack;
-    while (memcmp(at, painted, PAGE) == 0) at += PAGE;
+    uint8_t *at = stack + STACK;
+    while (at > stack && memcmp(at - PAGE, painted, PAGE) != 0) at -= PAGE;
     while (*at == PAINT) at++;
     return at;
 }
