@@ -74,9 +74,8 @@ def types():
     yield "apply-solutions", deepest(lambda n: question(CHECK, chain(n), ONE, (), [4, 0]))
 
 
-# An expression that needs no context and makes two unknowns whose solutions lead to each other, then applies them: x : all 3. 3 is
-# taken as 1 to 2, that as (2 to Int) to (1 to Int), and that as 1.
-LOOP = [18, 5, 6, 3, 3, 3, 21, 21, 21, *X, 5, 4, 1, 4, 2, 5, 5, 4, 2, 1, 5, 4, 1, 1, 4, 1]
+# An expression that needs no context and makes two unknowns whose solutions lead to each other: x : 2 to 2, taken as 1 to 1, then applied.
+LOOP = [18, 5, 5, 4, 2, 4, 2, 17, 21, *X, 5, 4, 1, 4, 1, *TRUE]
 
 
 def combined():
