@@ -96,7 +96,7 @@ def samples(folders):
             yield "fuzzed", struct.unpack(f"<{len(data) // 4}I", data[:len(data) // 4 * 4])
 
 
-def all_families(folders):
+def nested():
     """Pairs of a family's name and a question's words."""
-    for family in (readings(), expressions(), types(), combined(), samples(folders)):
+    for family in (readings(), expressions(), types(), combined()):
         yield from family
