@@ -1,16 +1,17 @@
 #!/usr/bin/env python3
 """Small edits to the source, one at a time, and what the prover says of each. Not part of the gate; docs/MUTATIONS.md has the figures.
 
-usage: run.py --count N --seed S [--crate NAME] [--scratch DIR] [--limit SECONDS]
+usage: run.py --count N --seed S [--crate NAME] [--automatic] [--scratch DIR] [--minutes M] [--limit SECONDS]
        run.py --list                    counts all edits, by crate and kind
 
 The edits are made in a copy of the repository (DIR, which is kept and used again; else a temporary one). Each is asked of `rt dev`, which
 looks only at what the edit changes; an edit that is accepted is asked again with nothing kept. The sample takes one edit of every kind
-from every crate in turn, so that N and S fix it. A refusal counts as
+from every crate in turn (of one kind from a slow crate), so that S fixes the order and N how far it goes, M at most. A refusal counts as
   compiler  the edit does not parse, type-check or borrow-check
   fact      something that was to be proved is not, or is another statement than the one that the proof proves
   both      that, and the obligations are others than those that the proof names: a fact may fail only because a name means another
   shape     the obligations are others, and nothing else is said: it tells nothing about the contract
+With --automatic only functions that have no proof by hand are edited: there the prover looks for one anew, and nothing is refused for shape.
 """
 import argparse
 import collections
@@ -29,6 +30,8 @@ import time
 from edits import KINDS, mutants
 
 ROOT = pathlib.Path(__file__).resolve().parent.parent.parent
+# crates in which an edit costs the most time
+SLOW = {"inference", "instantiation", "subtyping", "entry", "reading", "report", "sized", "host", "desk"}
 VERDICTS = ["compiler", "fact", "both", "shape", "accepted", "none"]
 # an error that only passes on another one
 PASSED_ON = re.compile(r"was not admitted \(")
@@ -38,7 +41,7 @@ SHAPE = re.compile(r"that can be named from here|has no field|components but its
 
 
 def sample(found, count, seed):
-    """One edit of each crate and kind in turn, in a random order."""
+    """One edit of each crate and kind in turn, in a random order; of a slow crate one kind in a turn."""
     dice, strata = random.Random(seed), collections.defaultdict(list)
     for mutant in found:
         strata[mutant.crate, mutant.kind].append(mutant)
@@ -46,10 +49,19 @@ def sample(found, count, seed):
         dice.shuffle(members)
     chosen = []
     while len(chosen) < count and any(strata.values()):
-        keys = [key for key in strata if strata[key]]
+        keys, taken = [key for key in strata if strata[key]], collections.Counter()
         dice.shuffle(keys)
-        chosen += [strata[key].pop() for key in keys[:count - len(chosen)]]
-    return sorted(chosen, key=lambda mutant: (mutant.path, mutant.start, mutant.kind))
+        for crate, kind in keys:
+            taken[crate] += 1
+            if len(chosen) < count and (crate not in SLOW or taken[crate] == 1):
+                chosen.append(strata[crate, kind].pop())
+    return chosen
+
+
+def by_hand():
+    """The functions that have a proof by hand, with their crates: a folder of proofs/ is named after one, or after all of a cycle."""
+    folders = (ROOT / "crates").glob("*/proofs/**/")
+    return {(folder.relative_to(ROOT / "crates").parts[0], name) for folder in folders for name in folder.name.split("+")}
 
 
 # ---- One edit
@@ -124,24 +136,20 @@ def prepare(scratch):
     (scratch / "mutants").mkdir(exist_ok=True)
 
 
-def unchanged(scratch, crate, limit):
-    """The crate as it stands must be proved, or the verdicts on its edits mean nothing."""
-    found = verdict(*ask(scratch, crate, 10 * limit)[:2])
-    if found[0] != "accepted":
-        sys.exit(f"{crate} without an edit: {found}")
-
-
-def run(scratch, chosen, limit):
-    results = []
-    for crate in dict.fromkeys(mutant.crate for mutant in chosen):
-        unchanged(scratch, crate, limit)
-        for mutant in (mutant for mutant in chosen if mutant.crate == crate):
-            found, reason, seconds, text = try_edit(scratch, mutant, limit)
-            results.append((mutant, found))
-            (scratch / "mutants" / f"{len(results):03}").write_text(f"{diff(mutant)}\n\n{text}")
-            print(f"{len(results):3} {found:8} {seconds:5.1f} s  {mutant.kind:9} {mutant.path}:{mutant.start + 1} {mutant.function}"
-                  f"  {reason.replace(str(scratch), '')[:160]}", flush=True)
-        unchanged(scratch, crate, limit)
+def run(scratch, chosen, limit, minutes):
+    """The edits whose turn comes in time, each with its verdict. Without an edit everything must be proved."""
+    crates = sorted({mutant.crate for mutant in chosen})
+    if subprocess.run(["nice", "-n", "5", "rt", "check", *crates], cwd=scratch).returncode != 0:
+        sys.exit("not proved without an edit")
+    results, start = [], time.time()
+    for number, mutant in enumerate(chosen, 1):
+        if time.time() - start > 60 * minutes:
+            break
+        found, reason, seconds, text = try_edit(scratch, mutant, limit)
+        results.append((mutant, found))
+        (scratch / "mutants" / f"{number:03}").write_text(f"{diff(mutant)}\n\n{text}")
+        print(f"{number:3} {found:8} {seconds:5.1f} s  {mutant.kind:9} {mutant.path}:{mutant.start + 1} {mutant.function}"
+              f"  {reason.replace(str(scratch), '')[:160]}", flush=True)
     return results
 
 
@@ -159,7 +167,7 @@ def tell(results):
         if found in ("accepted", "none"):
             print(f"\n{found}\n{diff(mutant)}")
     table("kind", KINDS, VERDICTS, collections.Counter((mutant.kind, found) for mutant, found in results))
-    crates = list(dict.fromkeys(mutant.crate for mutant, _ in results))
+    crates = sorted({mutant.crate for mutant, _ in results})
     table("crate", crates, VERDICTS, collections.Counter((mutant.crate, found) for mutant, found in results))
 
 
@@ -168,18 +176,22 @@ def main():
     parser.add_argument("--count", type=int, default=150)
     parser.add_argument("--seed", type=int, default=1)
     parser.add_argument("--crate")
+    parser.add_argument("--automatic", action="store_true")
     parser.add_argument("--scratch", type=pathlib.Path)
+    parser.add_argument("--minutes", type=float, default=45)
     parser.add_argument("--limit", type=int, default=300)
     parser.add_argument("--list", action="store_true")
     options = parser.parse_args()
     found = [mutant for mutant in mutants(ROOT) if options.crate in (None, mutant.crate)]
+    if options.automatic:
+        found = [mutant for mutant in found if (mutant.crate, mutant.function) not in by_hand()]
     if options.list:
         crates = sorted({mutant.crate for mutant in found})
         return table("crate", crates, list(KINDS), collections.Counter((mutant.crate, mutant.kind) for mutant in found))
     with tempfile.TemporaryDirectory() as room:
         scratch = (options.scratch or pathlib.Path(room)).resolve()
         prepare(scratch)
-        tell(run(scratch, sample(found, options.count, options.seed), options.limit))
+        tell(run(scratch, sample(found, options.count, options.seed), options.limit, options.minutes))
 
 
 if __name__ == "__main__":
