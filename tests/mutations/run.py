@@ -11,7 +11,7 @@ from every crate in turn (of one kind from a slow crate), so that S fixes the or
   fact      something that was to be proved is not, or is another statement than the one that the proof proves
   both      that, and the obligations are others than those that the proof names: a fact may fail only because a name means another
   shape     the obligations are others, and nothing else is said: it tells nothing about the contract
-With --automatic only functions that have no proof by hand are edited: there the prover looks for one anew, and nothing is refused for shape.
+With --automatic only functions without a proof by hand are edited: there the prover looks for one anew, and nothing is refused for shape.
 """
 import argparse
 import collections
