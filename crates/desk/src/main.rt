@@ -34,9 +34,9 @@ fn answer(
     say(out, r, report)
 }
 
-// Reads, answers and prints, in what main lends.
+// Reads, answers and prints, in what main lends: bytes for one word more than a question may have, so that a longer one is seen.
 fn desk(bytes: &mut [u8], words: &mut [u32], work: &mut [u32], report: &mut [u32], out: &mut [u8])
-    requires { ⌜ (Lent (now words) (now work) (now report)) × (length (now out) ≡ 45102) ⌝ }
+    requires { ⌜ (8196 ≤ length (now bytes)) × (Lent (now words) (now work) (now report)) × (length (now out) ≡ 45102) ⌝ }
 {
     let n = io::read_full(STDIN_FILENO, bytes);
     let z = answer(&bytes[0..n], words, work, report, out);
@@ -44,7 +44,6 @@ fn desk(bytes: &mut [u8], words: &mut [u32], work: &mut [u32], report: &mut [u32
 }
 
 fn main() {
-    // one word more than a question may have
     let mut bytes = [0u8; 8196];
     let mut words = [0u32; 2048];
     let mut work = [0u32; 16384];
