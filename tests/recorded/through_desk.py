@@ -1,6 +1,5 @@
 #!/usr/bin/env python3
-"""through_desk.py ANSWERS: the recorded answers that the desk's sizes do not change, through the desk program.
-tests/desk_live gives it new ones as /dev/stdin."""
+"""through_desk.py ANSWERS: the recorded answers that the desk's sizes do not change, through the desk program."""
 import pathlib
 import sys
 
