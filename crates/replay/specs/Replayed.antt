@@ -1,11 +1,11 @@
 -- A frame's reply: the definition's, as bytes.
 use mathlib.Core.Path.{_≡_}
 use mathlib.Core.List.{List, _++_}
-use Prim.Native.Nat.{ℕ, _*_, _≤_}
+use Prim.Native.Nat.{ℕ, _*_, _≤_, min}
 use lib.ListN.{length, take}
 use Rattle.definition.specs.Reply as definition
 use Rattle.definition.specs.Reply.{reply}
-use Rattle.definition.specs.Host.{wordsOf, bytesOf, numbers}
+use Rattle.definition.specs.Host.{wordAt, wordsOf, bytesOf, numbers}
 use Rattle.entry.specs.declared.Reply.{Reply}
 use Rattle.entry.specs.Entry.{Numbers}
 use Rattle.sized.specs.Sized.{writtenOf}
@@ -28,6 +28,13 @@ pub record Lent (b ws s o : List ℕ) : Type 0 where
   pub words : length ws ≡ 4096
   pub report : length s ≡ 4096
   pub out : length o ≡ 16400
+
+-- the frame in the first 16 bytes, with as much work as is lent
+pub record Framed (b : List ℕ) (lent : ℕ) (f : Frame) : Type 0 where
+  pub budget : f .budget ≡ wordAt b 0
+  pub work : f .work ≡ min (wordAt b 1) lent
+  pub report : f .report ≡ wordAt b 2
+  pub count : f .count ≡ wordAt b 3
 
 -- a frame asks for no more than is lent
 pub record Fits (f : Frame) (b ws w s : List ℕ) : Type 0 where

@@ -1,9 +1,9 @@
 // The replay program: framed questions from standard input, their replies to standard output, in little-endian words.
 // A frame: budget, words of work, words of report, words of question, and the question. A reply: the four numbers, then its report.
 ghost use mathlib.Core.Path.{_≡_};
-ghost use Prim.Native.Nat.{_+_, _*_, _≤_};
+ghost use Prim.Native.Nat.{_*_, _≤_, min};
 ghost use lib.ListN.{length};
-ghost use Rattle.replay.specs.Replayed.{Lent, Fits, Asked, Replayed};
+ghost use Rattle.replay.specs.Replayed.{Lent, Framed, Fits, Asked, Replayed};
 use entry::Reply;
 use libc::STDIN_FILENO;
 use libc::STDOUT_FILENO;
@@ -48,7 +48,7 @@ fn answer(
 
 // The least of two.
 fn least(a: usize, b: usize) -> usize
-    ensures { λ r. ⌜ (r ≤ a) × (r ≤ b) ⌝ }
+    ensures { λ r. ⌜ r ≡ min a b ⌝ }
 {
     if a < b { a } else { b }
 }
@@ -56,7 +56,7 @@ fn least(a: usize, b: usize) -> usize
 // The frame in the first 16 bytes; no budget asks for more work than is lent, so that the rest of it is left out.
 fn frame_at_start(bytes: &[u8], lent: usize) -> Frame
     requires { ⌜ 16 ≤ length (now bytes) ⌝ }
-    ensures { λ f. ⌜ f .work ≤ lent ⌝ }
+    ensures { λ f. ⌜ Framed (now (bytes .entry)) lent f ⌝ }
 {
     let budget = wire::word_at(bytes, 0);
     let asked = wire::word_at(bytes, 1) as usize;
