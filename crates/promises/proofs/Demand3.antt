@@ -3,17 +3,16 @@ use mathlib.Core.Path.{_≡_, refl, sym, ap, _∙_}
 use mathlib.Core.Bool.{Bool, true, false}
 use mathlib.Core.List.{List, [], _∷_, _++_, append-nil}
 use Prim.Native.Nat.{ℕ, _-_, _*_, _/_, _%_, min}
-use native.Mathlib.Omega.{arith}
 use lib.ListN.{length, drop}
-use lib.Dec.{eqb, ltb}
+use lib.Dec.{ltb}
 use Rattle.definition.specs.Syntax.{pick}
 use Rattle.definition.specs.Reply.{Reply, reply}
 use Rattle.definition.specs.Memory.{call, reportAfter, workAfter}
-use Rattle.definition.specs.Host.{wordsOf, bytesOf, deskReply, byteReply, numbers, HostCall, hostCall}
-use Rattle.laws.proofs.Steps.{pick-true}
+use Rattle.definition.specs.Host.{wordsOf, bytesOf, byteReply, numbers, HostCall, hostCall}
 use Rattle.alike.specs.Alike.{Pairing, itself, Label, the, InReplies, Each, none, more, Alike, AlikeQuestions, AlikeReplies, atLabel}
 use Rattle.alike.proofs.Words.{sameLength, joinE}
 use Rattle.alike.proofs.Demand3.{alike, no-literal, no-literal-call}
+use Rattle.sized.proofs.Answering.{whole}
 use Rattle.host.specs.Host.{Answered, Checked}
 use Rattle.promises.specs.Common.{SameChecks, SameAnswers, sames, IsAnswer, AlikeChecks, AlikeAnswers}
 use Rattle.promises.proofs.One.{one-check, one-answer}
@@ -84,10 +83,6 @@ module _ {P : Pairing} where
       let l : length (R .report) ≡ length (R′ .report) = sameLength (a .report .words) in
       let t = rw (append-nil (R .report), append-nil (R′ .report)) at (told a []) in
       rw (← l) (in-bytes (drop (4 * length (numbers R ++ R .report)) s) (a .code) t)
-
-whole : (room : ℕ) (b : List ℕ) → length b % 4 ≡ 0 → byteReply room b ≡ reply 384 16384 (min room 4096) (wordsOf b (length b / 4))
-unfolding byteReply deskReply
-whole room b k = rw k (pick-true _ _ refl)
 
 -- bytes that are whole words, of questions alike
 pub answers-alike : {P : Pairing} {b b′ : List ℕ} → length b % 4 ≡ 0 → length b′ % 4 ≡ 0

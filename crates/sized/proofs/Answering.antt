@@ -8,13 +8,13 @@ use native.Mathlib.Omega.{arith}
 use native.Mathlib.Nat.{sub-zero}
 use lib.ListN.{length, take, drop}
 use lib.Seq.{take-at}
-use lib.Dec.{eqb, eqb-refl}
+use lib.Dec.{eqb}
 use mir.Facts.{no-eqb}
 use Rattle.definition.specs.Syntax.{pick}
 use Rattle.definition.specs.Reply.{Reply, refusal, reply, workWords}
 use Rattle.definition.specs.Memory.{reportAfter, call}
 use Rattle.definition.specs.Host.{wordsOf, deskReply, byteReply}
-use Rattle.laws.proofs.Steps.{is-true, is-false, pick-true, pick-false}
+use Rattle.laws.proofs.Steps.{is-false, pick-true, pick-false}
 use Rattle.entry.specs.declared.Reply as entry
 use Rattle.entry.specs.Entry.{Numbers, Replied}
 use Rattle.entry.proofs.Refusing.{too-long}
@@ -51,13 +51,9 @@ not-whole room b h =
 
 -- ## Whole words
 
-whole : (room : ℕ) (b : List ℕ) → 4 * (length b / 4) ≡ length b → room ≤ 4096
-    → byteReply room b ≡ reply 384 16384 room (wordsOf b (length b / 4))
+pub whole : (room : ℕ) (b : List ℕ) → length b % 4 ≡ 0 → byteReply room b ≡ reply 384 16384 (min room 4096) (wordsOf b (length b / 4))
 unfolding byteReply deskReply
-whole room b h k =
-    let e : length b % 4 ≡ 0 = omega arith in
-    let m : min room 4096 ≡ room = omega arith in
-    rw (e, m) (pick-true _ _ (is-true (eqb 0 0) (eqb-refl 0)))
+whole room b k = rw k (pick-true _ _ refl)
 
 -- words held what was read, then what they held before
 pub asked : {b w w′ s s′ : List ℕ} (ws rest : List ℕ) {r : entry.Reply} → 4 * (length b / 4) ≡ length b → length w ≡ 16384 → length s ≤ 4096
@@ -65,7 +61,9 @@ pub asked : {b w w′ s s′ : List ℕ} (ws rest : List ℕ) {r : entry.Reply} 
 unfolding call
 asked {b} {w} {w′} {s} {s′} ws rest h l m e x =
     let q : take (length b / 4 - 0) (drop 0 ws) ≡ wordsOf b (length b / 4) = rw (sub-zero, e) (take-at (wordsOf b (length b / 4)) rest (length b / 4) (length-words b (length b / 4))) in
-    let f : reply 384 (length w) (length s) (take (length b / 4 - 0) (drop 0 ws)) ≡ byteReply (length s) b = rw (q, l) (sym (whole (length s) b h m)) in
+    let z : length b % 4 ≡ 0 = omega (arith, h) in
+    let c : min (length s) 4096 ≡ length s = omega (arith, m) in
+    let f : reply 384 (length w) (length s) (take (length b / 4 - 0) (drop 0 ws)) ≡ byteReply (length s) b = rw (q, l) (sym (rw c at (whole (length s) b z))) in
     record { numbers = rw (← f) (x .numbers); report = rw (← f) (x .report) }
 
 -- ## The report's first words
