@@ -105,3 +105,14 @@ pub fn time(class: &Class) -> Timed<'_> {
     }
     Timed { class, times: lanes.iter().map(Lanes::times).collect() }
 }
+
+/// The exported function over the class, again and again for three seconds.
+pub fn exported_alone(class: &Class) {
+    let mut slices = Slices::new();
+    let start = Instant::now();
+    while start.elapsed() < Duration::from_secs(3) {
+        for case in &class.cases {
+            black_box(ask_exported(black_box(case), &mut slices));
+        }
+    }
+}
