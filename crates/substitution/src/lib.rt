@@ -84,6 +84,16 @@ fn forall_made(q: &[u32], work: &mut [u32], st: State, a: TyVar, body: usize) ->
     Made::Done(past, made)
 }
 
+// The same, made anew from its parts: passed on whole it would be copied with its padding, for which the processor waits.
+fn anew(z: Made) -> Made
+    ensures { λ y. ⌜ y ≡ z ⌝ }
+{
+    match z {
+        Made::Done(st, r) => Made::Done(st, r),
+        Made::Spent => Made::Spent,
+    }
+}
+
 // The type `by` for the name a in the type r; Var and ETVar of one name count alike.
 // An Arrow, and a Forall that does not shadow a, are built anew; what else stays is shared.
 pub fn subst_type(q: &[u32], work: &mut [u32], st: State, a: TyVar, by: usize, r: usize) -> Made
@@ -103,7 +113,7 @@ pub fn subst_type(q: &[u32], work: &mut [u32], st: State, a: TyVar, by: usize, r
             let Made::Done(st2, to1) = subst_type(q, work, st1, a, by, to) else {
                 return Made::Spent;
             };
-            arrow_made(q, work, st2, from1, to1)
+            anew(arrow_made(q, work, st2, from1, to1))
         }
         6 => {
             let b = types::name_of(q, work, st.top, r);
@@ -114,7 +124,7 @@ pub fn subst_type(q: &[u32], work: &mut [u32], st: State, a: TyVar, by: usize, r
             let Made::Done(st1, body1) = subst_type(q, work, paid, a, by, body) else {
                 return Made::Spent;
             };
-            forall_made(q, work, st1, b, body1)
+            anew(forall_made(q, work, st1, b, body1))
         }
         _ => {
             if k < 3 {
@@ -143,7 +153,7 @@ pub fn apply_ctx_type(q: &[u32], work: &mut [u32], st: State, g: Span, r: usize)
                 return Made::Done(paid, r);
             }
             let solution = contexts::type_at(work, g, i);
-            apply_ctx_type(q, work, paid, g, solution)
+            anew(apply_ctx_type(q, work, paid, g, solution))
         }
         5 => {
             let from = types::left_of(q, work, st.top, r);
@@ -154,7 +164,7 @@ pub fn apply_ctx_type(q: &[u32], work: &mut [u32], st: State, g: Span, r: usize)
             let Made::Done(st2, right) = apply_ctx_type(q, work, st1, g, to) else {
                 return Made::Spent;
             };
-            arrow_made(q, work, st2, left, right)
+            anew(arrow_made(q, work, st2, left, right))
         }
         6 => {
             let a = types::name_of(q, work, st.top, r);
@@ -162,7 +172,7 @@ pub fn apply_ctx_type(q: &[u32], work: &mut [u32], st: State, g: Span, r: usize)
             let Made::Done(st1, body1) = apply_ctx_type(q, work, paid, g, body) else {
                 return Made::Spent;
             };
-            forall_made(q, work, st1, a, body1)
+            anew(forall_made(q, work, st1, a, body1))
         }
         _ => Made::Done(paid, r),
     }

@@ -10,6 +10,7 @@ use Rattle.substitution.proofs.Arms.{began, fewer, held, part-asks, fol
 use Rattle.substitution.proofs.Ways.{apply-asks, apply-pre, apply-does, applied, apply-way, span-within, plain-applied, unsolved-applied, solved-applied}
 use Rattle.contexts.proofs.find.Reads as find-reads
 use Rattle.contexts.proofs.type_at.Reads as type-at-reads
+use Rattle.substitution.proofs.anew.Reads as anew-reads
 use Rattle.substitution.proofs.arrow_made.Reads as arrow-made-reads
 use Rattle.substitution.proofs.begin.Reads as begin-reads
 use Rattle.substitution.proofs.forall_made.Reads as forall-made-reads
@@ -46,6 +47,8 @@ claims t = (
   type-at-reads.Learnt,
   below t,
   own.Post,
+  anew-reads.Asked,
+  anew-reads.Learnt,
   left-of-reads.Asked,
   left-of-reads.Learnt,
   right-of-reads.Asked,
@@ -96,6 +99,9 @@ apply-ctx-type-requires t c κs =
     let h = apply-asks (c .before .before .before .before .before .before .before .before .before .before .before .before .before .before .before .before .pre .1) in
     let v = solved-applied (b .tag) (c .before .before .before .before .before .before .before .before .match2 .keys1) (c .before .before .before .before .before .before .name-of .ensures) (c .before .before .before .before .find .ensures) (h .x) (h .given) (omega (arith, c .before .before .before .before .find .ensures .within, c .before .before .before .if1 .left)) (c .before .type-at .ensures .0) (h .type) (h .den) in
     (omega (arith, c .before .before .before .before .before .before .before .before .before .before .before .before .before .before .before .before .pre .0, fewer b), apply-pre (part-asks b h (v .den)))
+
+anew-requires : (t : ℕ) → lts.Need-anew-requires (claims t) (asked t) own.Post
+anew-requires t c κs = tt
 
 left-of-requires : (t : ℕ) → lts.Need-left-of-requires (claims t) (asked t) own.Post
 left-of-requires t c κs = held-as (held (apply-asks (c .before .before .before .before .before .before .before .before .before .pre .1))) (began (c .before .before .before .before .before .begin .ensures) (c .before .before .before .paid .given .1) .tag) 5 (c .before .match2 .keys2)
@@ -155,6 +161,9 @@ arrow-made-requires t c κs =
     let parts = halves (b .tag) (c .before .before .before .before .before .before .before .before .before .before .before .before .before .before .before .before .before .before .before .match2 .keys2) (c .before .before .before .before .before .before .before .before .before .before .before .before .before .before .before .before .before .left-of .ensures) (c .before .before .before .before .before .before .before .before .before .before .before .before .before .before .before .right-of .ensures) in
     arrow-asks (apply-way _ _) b parts (apply-does (c .before .before .before .before .before .before .before .before .before .before .before .before .before .apply-ctx-type2 .ensures)) (c .before .before .before .before .before .before .before .before .before .st1 .given .1) (apply-does (c .before .before .before .before .before .before .apply-ctx-type3 .ensures)) (c .before .before .st2 .given .1) (apply-asks (c .before .before .before .before .before .before .before .before .before .before .before .before .before .before .before .before .before .before .before .before .before .before .before .before .before .before .before .pre .1))
 
+anew-requires-2 : (t : ℕ) → lts.Need-anew-requires-2 (claims t) (asked t) own.Post
+anew-requires-2 t c κs = tt
+
 name-of-requires-2 : (t : ℕ) → lts.Need-name-of-requires-2 (claims t) (asked t) own.Post
 name-of-requires-2 t c κs = held-named (held (apply-asks (c .before .before .before .before .before .before .before .before .before .pre .1))) (began (c .before .before .before .before .before .begin .ensures) (c .before .before .before .paid .given .1) .tag) (omega (arith, c .before .match2 .keys3)) (λ e. omega (arith, c .before .match2 .keys3, e))
 
@@ -190,31 +199,34 @@ forall-made-requires t c κs =
     let parts = body (b .tag) (c .before .before .before .before .before .before .before .before .before .before .before .before .match2 .keys3) (c .before .before .before .before .before .before .before .before .before .before .name-of2 .ensures) (c .before .before .before .before .before .before .before .before .body-of .ensures) in
     forall-asks (λ Γ. apply-forall Γ _) b parts (apply-does (c .before .before .before .before .before .before .apply-ctx-type4 .ensures)) (c .before .before .st12 .given .1) (apply-asks (c .before .before .before .before .before .before .before .before .before .before .before .before .before .before .before .before .before .before .before .before .pre .1))
 
+anew-requires-3 : (t : ℕ) → lts.Need-anew-requires-3 (claims t) (asked t) own.Post
+anew-requires-3 t c κs = tt
+
 same-length-6 : (t : ℕ) → lts.Need-same-length-6 (claims t) (asked t) own.Post
 same-length-6 t c = search needs
 
 returns-6 : (t : ℕ) → lts.Need-returns-6 (claims t) (asked t) own.Post
 returns-6 t c =
-    let b = began (c .before .before .before .before .before .before .before .before .before .before .before .before .before .before .before .begin .ensures) (c .before .before .before .before .before .before .before .before .before .before .before .before .before .paid .given .1) in
-    applied (followed b (apply-does (c .before .before .apply-ctx-type .ensures)) (λ Γ run. solved-applied (b .tag) (c .before .before .before .before .before .before .before .before .before .before .before .match2 .keys1) (c .before .before .before .before .before .before .before .before .before .name-of .ensures) (c .before .before .before .before .before .before .before .find .ensures) Γ run (omega (arith, c .before .before .before .before .before .before .before .find .ensures .within, c .before .before .before .before .before .before .if1 .left)) (c .before .before .before .before .type-at .ensures .0)))
+    let b = began (c .before .before .before .before .before .before .before .before .before .before .before .before .before .before .before .before .begin .ensures) (c .before .before .before .before .before .before .before .before .before .before .before .before .before .before .paid .given .1) in
+    rw (c .anew .ensures) (applied (followed b (apply-does (c .before .before .before .apply-ctx-type .ensures)) (λ Γ run. solved-applied (b .tag) (c .before .before .before .before .before .before .before .before .before .before .before .before .match2 .keys1) (c .before .before .before .before .before .before .before .before .before .before .name-of .ensures) (c .before .before .before .before .before .before .before .before .find .ensures) Γ run (omega (arith, c .before .before .before .before .before .before .before .before .find .ensures .within, c .before .before .before .before .before .before .before .if1 .left)) (c .before .before .before .before .before .type-at .ensures .0))))
 
 same-length-7 : (t : ℕ) → lts.Need-same-length-7 (claims t) (asked t) own.Post
 same-length-7 t c = search needs
 
 returns-7 : (t : ℕ) → lts.Need-returns-7 (claims t) (asked t) own.Post
 returns-7 t c =
-    let b = began (c .before .before .before .before .before .before .before .before .before .before .before .before .before .before .before .before .before .before .before .before .before .before .before .before .before .before .begin .ensures) (c .before .before .before .before .before .before .before .before .before .before .before .before .before .before .before .before .before .before .before .before .before .before .before .before .paid .given .1) in
-    let parts = halves (b .tag) (c .before .before .before .before .before .before .before .before .before .before .before .before .before .before .before .before .before .before .before .before .before .before .match2 .keys2) (c .before .before .before .before .before .before .before .before .before .before .before .before .before .before .before .before .before .before .before .before .left-of .ensures) (c .before .before .before .before .before .before .before .before .before .before .before .before .before .before .before .before .before .before .right-of .ensures) in
-    applied (arrow-does (apply-way _ _) b parts (apply-does (c .before .before .before .before .before .before .before .before .before .before .before .before .before .before .before .before .apply-ctx-type2 .ensures)) (c .before .before .before .before .before .before .before .before .before .before .before .before .st1 .given .1) (apply-does (c .before .before .before .before .before .before .before .before .before .apply-ctx-type3 .ensures)) (c .before .before .before .before .before .st2 .given .1) (apply-asks (c .before .before .before .before .before .before .before .before .before .before .before .before .before .before .before .before .before .before .before .before .before .before .before .before .before .before .before .before .before .before .pre .1)) (c .before .before .arrow-made .ensures))
+    let b = began (c .before .before .before .before .before .before .before .before .before .before .before .before .before .before .before .before .before .before .before .before .before .before .before .before .before .before .before .begin .ensures) (c .before .before .before .before .before .before .before .before .before .before .before .before .before .before .before .before .before .before .before .before .before .before .before .before .before .paid .given .1) in
+    let parts = halves (b .tag) (c .before .before .before .before .before .before .before .before .before .before .before .before .before .before .before .before .before .before .before .before .before .before .before .match2 .keys2) (c .before .before .before .before .before .before .before .before .before .before .before .before .before .before .before .before .before .before .before .before .before .left-of .ensures) (c .before .before .before .before .before .before .before .before .before .before .before .before .before .before .before .before .before .before .before .right-of .ensures) in
+    rw (c .anew2 .ensures) (applied (arrow-does (apply-way _ _) b parts (apply-does (c .before .before .before .before .before .before .before .before .before .before .before .before .before .before .before .before .before .apply-ctx-type2 .ensures)) (c .before .before .before .before .before .before .before .before .before .before .before .before .before .st1 .given .1) (apply-does (c .before .before .before .before .before .before .before .before .before .before .apply-ctx-type3 .ensures)) (c .before .before .before .before .before .before .st2 .given .1) (apply-asks (c .before .before .before .before .before .before .before .before .before .before .before .before .before .before .before .before .before .before .before .before .before .before .before .before .before .before .before .before .before .before .before .pre .1)) (c .before .before .before .arrow-made .ensures)))
 
 same-length-8 : (t : ℕ) → lts.Need-same-length-8 (claims t) (asked t) own.Post
 same-length-8 t c = search needs
 
 returns-8 : (t : ℕ) → lts.Need-returns-8 (claims t) (asked t) own.Post
 returns-8 t c =
-    let b = began (c .before .before .before .before .before .before .before .before .before .before .before .before .before .before .before .before .before .before .before .begin .ensures) (c .before .before .before .before .before .before .before .before .before .before .before .before .before .before .before .before .before .paid .given .1) in
-    let parts = body (b .tag) (c .before .before .before .before .before .before .before .before .before .before .before .before .before .before .before .match2 .keys3) (c .before .before .before .before .before .before .before .before .before .before .before .before .before .name-of2 .ensures) (c .before .before .before .before .before .before .before .before .before .before .before .body-of .ensures) in
-    applied (forall-does (λ Γ. apply-forall Γ _) b parts (apply-does (c .before .before .before .before .before .before .before .before .before .apply-ctx-type4 .ensures)) (c .before .before .before .before .before .st12 .given .1) (apply-asks (c .before .before .before .before .before .before .before .before .before .before .before .before .before .before .before .before .before .before .before .before .before .before .before .pre .1)) (c .before .before .forall-made .ensures))
+    let b = began (c .before .before .before .before .before .before .before .before .before .before .before .before .before .before .before .before .before .before .before .before .begin .ensures) (c .before .before .before .before .before .before .before .before .before .before .before .before .before .before .before .before .before .before .paid .given .1) in
+    let parts = body (b .tag) (c .before .before .before .before .before .before .before .before .before .before .before .before .before .before .before .before .match2 .keys3) (c .before .before .before .before .before .before .before .before .before .before .before .before .before .before .name-of2 .ensures) (c .before .before .before .before .before .before .before .before .before .before .before .before .body-of .ensures) in
+    rw (c .anew3 .ensures) (applied (forall-does (λ Γ. apply-forall Γ _) b parts (apply-does (c .before .before .before .before .before .before .before .before .before .before .apply-ctx-type4 .ensures)) (c .before .before .before .before .before .before .st12 .given .1) (apply-asks (c .before .before .before .before .before .before .before .before .before .before .before .before .before .before .before .before .before .before .before .before .before .before .before .before .pre .1)) (c .before .before .before .forall-made .ensures)))
 
 same-length-9 : (t : ℕ) → lts.Need-same-length-9 (claims t) (asked t) own.Post
 same-length-9 t c = search needs
@@ -239,6 +251,7 @@ pub +apply-ctx-type-spec : {M : Type 1} → statement M
     (returns-2 t)
     (type-at-requires t)
     (apply-ctx-type-requires t)
+    (anew-requires t)
     (left-of-requires t)
     (right-of-requires t)
     (apply-ctx-type-requires-2 t)
@@ -252,6 +265,7 @@ pub +apply-ctx-type-spec : {M : Type 1} → statement M
     (same-length-4 t)
     (returns-4 t)
     (arrow-made-requires t)
+    (anew-requires-2 t)
     (name-of-requires-2 t)
     (body-of-requires t)
     (apply-ctx-type-requires-4 t)
@@ -260,6 +274,7 @@ pub +apply-ctx-type-spec : {M : Type 1} → statement M
     (same-length-5 t)
     (returns-5 t)
     (forall-made-requires t)
+    (anew-requires-3 t)
     (same-length-6 t)
     (returns-6 t)
     (same-length-7 t)

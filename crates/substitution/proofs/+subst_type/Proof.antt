@@ -7,6 +7,7 @@ use borrow.Fn.PlainCycle.{Measures, is, falls, and}
 use Rattle.types.proofs.Held.{held-as, held-named}
 use Rattle.substitution.proofs.Arms.{began, fewer, held, part-asks, spent-at-once, given-at-once, halves, left-spent, left-fewer, right-asks, right-spent, arrow-asks, arrow-does, body, body-spent, forall-asks, forall-does}
 use Rattle.substitution.proofs.Ways.{subst-asks, subst-pre, subst-does, substed, subst-way, no-parts, plain-substed, name-substed, shadowed-substed, forall-substed}
+use Rattle.substitution.proofs.anew.Reads as anew-reads
 use Rattle.substitution.proofs.arrow_made.Reads as arrow-made-reads
 use Rattle.substitution.proofs.begin.Reads as begin-reads
 use Rattle.substitution.proofs.chosen.Reads as chosen-reads
@@ -42,6 +43,8 @@ claims t = (
   own.Post,
   arrow-made-reads.Asked,
   arrow-made-reads.Learnt,
+  anew-reads.Asked,
+  anew-reads.Learnt,
   name-of-reads.Asked,
   name-of-reads.Learnt,
   body-of-reads.Asked,
@@ -124,6 +127,9 @@ arrow-made-requires t c κs =
     let parts = halves (b .tag) (c .before .before .before .before .before .before .before .before .before .before .before .before .before .before .before .before .before .before .before .match2 .keys1) (c .before .before .before .before .before .before .before .before .before .before .before .before .before .before .before .before .before .left-of .ensures) (c .before .before .before .before .before .before .before .before .before .before .before .before .before .before .before .right-of .ensures) in
     arrow-asks (subst-way _ (c .before .before .before .before .before .before .before .before .before .before .before .before .before .before .before .before .before .before .before .before .before .before .before .before .before .before .before .args .a) _) b parts (subst-does (c .before .before .before .before .before .before .before .before .before .before .before .before .before .subst-type .ensures)) (c .before .before .before .before .before .before .before .before .before .st1 .given .1) (subst-does (c .before .before .before .before .before .before .subst-type2 .ensures)) (c .before .before .st2 .given .1) (subst-asks (c .before .before .before .before .before .before .before .before .before .before .before .before .before .before .before .before .before .before .before .before .before .before .before .before .before .before .before .pre .1))
 
+anew-requires : (t : ℕ) → lts.Need-anew-requires (claims t) (asked t) own.Post
+anew-requires t c κs = tt
+
 name-of-requires : (t : ℕ) → lts.Need-name-of-requires (claims t) (asked t) own.Post
 name-of-requires t c κs = held-named (held (subst-asks (c .before .before .before .before .before .before .before .before .before .pre .1))) (began (c .before .before .before .before .before .begin .ensures) (c .before .before .before .paid .given .1) .tag) (omega (arith, c .before .match2 .keys2)) (λ e. omega (arith, c .before .match2 .keys2, e))
 
@@ -166,6 +172,9 @@ forall-made-requires t c κs =
     let parts = body (b .tag) (c .before .before .before .before .before .before .before .before .before .before .before .before .before .before .before .match2 .keys2) (c .before .before .before .before .before .before .before .before .before .before .before .before .before .name-of .ensures) (c .before .before .before .before .before .before .before .before .body-of .ensures) in
     forall-asks (forall-substed (c .before .before .before .before .before .before .before .before .before .before .if1 .left)) b parts (subst-does (c .before .before .before .before .before .before .subst-type3 .ensures)) (c .before .before .st12 .given .1) (subst-asks (c .before .before .before .before .before .before .before .before .before .before .before .before .before .before .before .before .before .before .before .before .before .before .before .pre .1))
 
+anew-requires-2 : (t : ℕ) → lts.Need-anew-requires-2 (claims t) (asked t) own.Post
+anew-requires-2 t c κs = tt
+
 same-length-6 : (t : ℕ) → lts.Need-same-length-6 (claims t) (asked t) own.Post
 same-length-6 t c = search needs
 
@@ -182,18 +191,18 @@ same-length-7 t c = search needs
 
 returns-7 : (t : ℕ) → lts.Need-returns-7 (claims t) (asked t) own.Post
 returns-7 t c =
-    let b = began (c .before .before .before .before .before .before .before .before .before .before .before .before .before .before .before .before .before .before .before .before .before .before .before .before .before .before .begin .ensures) (c .before .before .before .before .before .before .before .before .before .before .before .before .before .before .before .before .before .before .before .before .before .before .before .before .paid .given .1) in
-    let parts = halves (b .tag) (c .before .before .before .before .before .before .before .before .before .before .before .before .before .before .before .before .before .before .before .before .before .before .match2 .keys1) (c .before .before .before .before .before .before .before .before .before .before .before .before .before .before .before .before .before .before .before .before .left-of .ensures) (c .before .before .before .before .before .before .before .before .before .before .before .before .before .before .before .before .before .before .right-of .ensures) in
-    substed (arrow-does (subst-way _ (c .before .before .before .before .before .before .before .before .before .before .before .before .before .before .before .before .before .before .before .before .before .before .before .before .before .before .before .before .before .before .args .a) _) b parts (subst-does (c .before .before .before .before .before .before .before .before .before .before .before .before .before .before .before .before .subst-type .ensures)) (c .before .before .before .before .before .before .before .before .before .before .before .before .st1 .given .1) (subst-does (c .before .before .before .before .before .before .before .before .before .subst-type2 .ensures)) (c .before .before .before .before .before .st2 .given .1) (subst-asks (c .before .before .before .before .before .before .before .before .before .before .before .before .before .before .before .before .before .before .before .before .before .before .before .before .before .before .before .before .before .before .pre .1)) (c .before .before .arrow-made .ensures))
+    let b = began (c .before .before .before .before .before .before .before .before .before .before .before .before .before .before .before .before .before .before .before .before .before .before .before .before .before .before .before .begin .ensures) (c .before .before .before .before .before .before .before .before .before .before .before .before .before .before .before .before .before .before .before .before .before .before .before .before .before .paid .given .1) in
+    let parts = halves (b .tag) (c .before .before .before .before .before .before .before .before .before .before .before .before .before .before .before .before .before .before .before .before .before .before .before .match2 .keys1) (c .before .before .before .before .before .before .before .before .before .before .before .before .before .before .before .before .before .before .before .before .before .left-of .ensures) (c .before .before .before .before .before .before .before .before .before .before .before .before .before .before .before .before .before .before .before .right-of .ensures) in
+    rw (c .anew .ensures) (substed (arrow-does (subst-way _ (c .before .before .before .before .before .before .before .before .before .before .before .before .before .before .before .before .before .before .before .before .before .before .before .before .before .before .before .before .before .before .before .args .a) _) b parts (subst-does (c .before .before .before .before .before .before .before .before .before .before .before .before .before .before .before .before .before .subst-type .ensures)) (c .before .before .before .before .before .before .before .before .before .before .before .before .before .st1 .given .1) (subst-does (c .before .before .before .before .before .before .before .before .before .before .subst-type2 .ensures)) (c .before .before .before .before .before .before .st2 .given .1) (subst-asks (c .before .before .before .before .before .before .before .before .before .before .before .before .before .before .before .before .before .before .before .before .before .before .before .before .before .before .before .before .before .before .before .pre .1)) (c .before .before .before .arrow-made .ensures)))
 
 same-length-8 : (t : ℕ) → lts.Need-same-length-8 (claims t) (asked t) own.Post
 same-length-8 t c = search needs
 
 returns-8 : (t : ℕ) → lts.Need-returns-8 (claims t) (asked t) own.Post
 returns-8 t c =
-    let b = began (c .before .before .before .before .before .before .before .before .before .before .before .before .before .before .before .before .before .before .before .before .before .before .begin .ensures) (c .before .before .before .before .before .before .before .before .before .before .before .before .before .before .before .before .before .before .before .before .paid .given .1) in
-    let parts = body (b .tag) (c .before .before .before .before .before .before .before .before .before .before .before .before .before .before .before .before .before .before .match2 .keys2) (c .before .before .before .before .before .before .before .before .before .before .before .before .before .before .before .before .name-of .ensures) (c .before .before .before .before .before .before .before .before .before .before .before .body-of .ensures) in
-    substed (forall-does (forall-substed (c .before .before .before .before .before .before .before .before .before .before .before .before .before .if1 .left)) b parts (subst-does (c .before .before .before .before .before .before .before .before .before .subst-type3 .ensures)) (c .before .before .before .before .before .st12 .given .1) (subst-asks (c .before .before .before .before .before .before .before .before .before .before .before .before .before .before .before .before .before .before .before .before .before .before .before .before .before .before .pre .1)) (c .before .before .forall-made .ensures))
+    let b = began (c .before .before .before .before .before .before .before .before .before .before .before .before .before .before .before .before .before .before .before .before .before .before .before .begin .ensures) (c .before .before .before .before .before .before .before .before .before .before .before .before .before .before .before .before .before .before .before .before .before .paid .given .1) in
+    let parts = body (b .tag) (c .before .before .before .before .before .before .before .before .before .before .before .before .before .before .before .before .before .before .before .match2 .keys2) (c .before .before .before .before .before .before .before .before .before .before .before .before .before .before .before .before .before .name-of .ensures) (c .before .before .before .before .before .before .before .before .before .before .before .before .body-of .ensures) in
+    rw (c .anew2 .ensures) (substed (forall-does (forall-substed (c .before .before .before .before .before .before .before .before .before .before .before .before .before .before .if1 .left)) b parts (subst-does (c .before .before .before .before .before .before .before .before .before .before .subst-type3 .ensures)) (c .before .before .before .before .before .before .st12 .given .1) (subst-asks (c .before .before .before .before .before .before .before .before .before .before .before .before .before .before .before .before .before .before .before .before .before .before .before .before .before .before .before .pre .1)) (c .before .before .before .forall-made .ensures)))
 
 same-length-9 : (t : ℕ) → lts.Need-same-length-9 (claims t) (asked t) own.Post
 same-length-9 t c = search needs
@@ -226,6 +235,7 @@ pub +subst-type-spec : {M : Type 1} → statement M
     (same-length-3 t)
     (returns-3 t)
     (arrow-made-requires t)
+    (anew-requires t)
     (name-of-requires t)
     (same-length-4 t)
     (returns-4 t)
@@ -236,6 +246,7 @@ pub +subst-type-spec : {M : Type 1} → statement M
     (same-length-5 t)
     (returns-5 t)
     (forall-made-requires t)
+    (anew-requires-2 t)
     (same-length-6 t)
     (returns-6 t)
     (chosen-requires t)
