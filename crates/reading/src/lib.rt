@@ -91,6 +91,16 @@ fn read_within(q: &[u32], p: usize, end: usize, low: u32, high: u32) -> Item
     Item::Past(p + 1)
 }
 
+// The same item, made anew: passed on whole it would be copied with its padding, and the processor waits for that at each level.
+fn anew(item: Item) -> Item
+    ensures { λ r. ⌜ r ≡ item ⌝ }
+{
+    match item {
+        Item::Past(p) => Item::Past(p),
+        Item::Fault(code, at) => Item::Fault(code, at),
+    }
+}
+
 // Reads a type at p.
 fn read_type(q: &[u32], p: usize, end: usize) -> Item
     requires { ⌜ Inside (now q) p end ⌝ }
@@ -118,7 +128,7 @@ fn then_type(q: &[u32], before: Item, end: usize) -> Item
     ensures { λ r. ⌜ TypeThen (now (q .entry)) end before r ⌝ }
 {
     match before {
-        Item::Past(p) => read_type(q, p, end),
+        Item::Past(p) => anew(read_type(q, p, end)),
         Item::Fault(code, at) => Item::Fault(code, at),
     }
 }
@@ -161,7 +171,7 @@ fn then_expr(q: &[u32], before: Item, end: usize) -> Item
     ensures { λ r. ⌜ ExprThen (now (q .entry)) end before r ⌝ }
 {
     match before {
-        Item::Past(p) => read_expr(q, p, end),
+        Item::Past(p) => anew(read_expr(q, p, end)),
         Item::Fault(code, at) => Item::Fault(code, at),
     }
 }

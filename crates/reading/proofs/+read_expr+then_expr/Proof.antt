@@ -13,6 +13,7 @@ use Rattle.reading.proofs.+read_expr+then_expr.Lts-read_expr as read-ex
 use Rattle.reading.proofs.then_expr.Reads as then-expr
 use Rattle.reading.proofs.then_expr.Kinds as then-expr-kinds
 use Rattle.reading.proofs.+read_expr+then_expr.Lts-then_expr as then-expr-lts
+use Rattle.reading.proofs.anew.Reads as anew-reads
 use Rattle.reading.proofs.read_name.Reads as read-name-reads
 use Rattle.reading.proofs.read_within.Reads as read-within-reads
 use Rattle.reading.proofs.then_type.Reads as then-type-reads
@@ -57,6 +58,8 @@ abbrev then-expr-claims : ℕ → then-expr-lts.Claims
 then-expr-claims t = (
   read-expr-below t,
   read-expr.Post,
+  anew-reads.Asked,
+  anew-reads.Learnt,
 )
 
 read-expr-returns : (t : ℕ) → read-expr-lts.Need-returns (read-expr-claims t) (read-expr-at t) read-expr.Post
@@ -186,11 +189,14 @@ then-expr-enum-known-before t c = search needs
 then-expr-read-expr-requires : (t : ℕ) → then-expr-lts.Need-read-expr-requires (then-expr-claims t) (then-expr-at t) then-expr.Post
 then-expr-read-expr-requires t c κs = let f = onward-past (c .before .before2 .given .1) (c .before .before .before .before .pre .1) in (omega arith, f .1)
 
+then-expr-anew-requires : (t : ℕ) → then-expr-lts.Need-anew-requires (then-expr-claims t) (then-expr-at t) then-expr.Post
+then-expr-anew-requires t c κs = tt
+
 then-expr-enum-known-before-2 : (t : ℕ) → then-expr-lts.Need-enum-known-before-2 (then-expr-claims t) (then-expr-at t) then-expr.Post
 then-expr-enum-known-before-2 t c = search needs
 
 then-expr-returns : (t : ℕ) → then-expr-lts.Need-returns (then-expr-claims t) (then-expr-at t) then-expr.Post
-then-expr-returns t c = then-on (c .before .before .before2 .given .1) (c .read-expr .ensures)
+then-expr-returns t c = rw (c .anew .ensures) (then-on (c .before .before .before .before2 .given .1) (c .before .read-expr .ensures))
 
 then-expr-returns-2 : (t : ℕ) → then-expr-lts.Need-returns-2 (then-expr-claims t) (then-expr-at t) then-expr.Post
 then-expr-returns-2 t c = then-off (c .before .before3 .given .1)
@@ -245,6 +251,7 @@ pub +read-expr+then-expr-spec : {M : Type 1} → statement M
     then-expr.Post
     (then-expr-enum-known-before t)
     (then-expr-read-expr-requires t)
+    (then-expr-anew-requires t)
     (then-expr-enum-known-before-2 t)
     (then-expr-returns t)
     (then-expr-returns-2 t)

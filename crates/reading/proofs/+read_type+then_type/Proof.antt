@@ -13,6 +13,7 @@ use Rattle.reading.proofs.+read_type+then_type.Lts-read_type as read-ty
 use Rattle.reading.proofs.then_type.Reads as then-type
 use Rattle.reading.proofs.then_type.Kinds as then-type-kinds
 use Rattle.reading.proofs.+read_type+then_type.Lts-then_type as then-type-lts
+use Rattle.reading.proofs.anew.Reads as anew-reads
 use Rattle.reading.proofs.read_name.Reads as read-name-reads
 use Rattle.reading.proofs.+read_type+then_type.{statement}
 use Rattle.reading.proofs.+read_type+then_type.Tie.{close}
@@ -51,6 +52,8 @@ abbrev then-type-claims : ℕ → then-type-lts.Claims
 then-type-claims t = (
   read-type-below t,
   read-type.Post,
+  anew-reads.Asked,
+  anew-reads.Learnt,
 )
 
 read-type-returns : (t : ℕ) → read-type-lts.Need-returns (read-type-claims t) (read-type-at t) read-type.Post
@@ -111,11 +114,14 @@ then-type-enum-known-before t c = search needs
 then-type-read-type-requires : (t : ℕ) → then-type-lts.Need-read-type-requires (then-type-claims t) (then-type-at t) then-type.Post
 then-type-read-type-requires t c κs = let f = onward-past (c .before .before2 .given .1) (c .before .before .before .before .pre .1) in (omega arith, f .1)
 
+then-type-anew-requires : (t : ℕ) → then-type-lts.Need-anew-requires (then-type-claims t) (then-type-at t) then-type.Post
+then-type-anew-requires t c κs = tt
+
 then-type-enum-known-before-2 : (t : ℕ) → then-type-lts.Need-enum-known-before-2 (then-type-claims t) (then-type-at t) then-type.Post
 then-type-enum-known-before-2 t c = search needs
 
 then-type-returns : (t : ℕ) → then-type-lts.Need-returns (then-type-claims t) (then-type-at t) then-type.Post
-then-type-returns t c = then-on (c .before .before .before2 .given .1) (c .read-type .ensures)
+then-type-returns t c = rw (c .anew .ensures) (then-on (c .before .before .before .before2 .given .1) (c .before .read-type .ensures))
 
 then-type-returns-2 : (t : ℕ) → then-type-lts.Need-returns-2 (then-type-claims t) (then-type-at t) then-type.Post
 then-type-returns-2 t c = then-off (c .before .before3 .given .1)
@@ -147,6 +153,7 @@ pub +read-type+then-type-spec : {M : Type 1} → statement M
     then-type.Post
     (then-type-enum-known-before t)
     (then-type-read-type-requires t)
+    (then-type-anew-requires t)
     (then-type-enum-known-before-2 t)
     (then-type-returns t)
     (then-type-returns-2 t)
