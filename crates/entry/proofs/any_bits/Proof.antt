@@ -1,0 +1,57 @@
+-- `any_bits` meets its contract.
+use native.Mathlib.Omega.{arith}
+use mathlib.Core.Path.{_≡_, refl, ap, _∙_}
+use mathlib.Core.List.{_++_}
+use Prim.Native.Nat.{ℕ, _≤_, _-_}
+use lib.ListN.{length, drop, replicate}
+use Rattle.entry.proofs.Clearing.{no-bits, zero-more, zero-all}
+use Rattle.entry.proofs.any_bits.Statement.{statement}
+use Rattle.entry.proofs.any_bits.Tie as tie
+
+abbrev Inv-loop : tie.InvT-loop
+Inv-loop block bits₀ i₀ bits i = (i ≤ 128) × (bits ≡ 0 → block ≡ replicate i 0 ++ drop i block)
+
+abbrev μ-loop : tie.MeasureT-loop
+μ-loop block bits₀ i₀ bits i = 128 - i
+
+loop-holds : tie.Need-loop-holds Inv-loop μ-loop
+loop-holds c = (omega arith, λ e. refl)
+
+mul-bits : tie.Need-mul-bits Inv-loop μ-loop
+mul-bits c = omega arith
+
+shared-slice-read-bits : tie.Need-shared-slice-read-bits Inv-loop μ-loop
+shared-slice-read-bits c = omega arith
+
+add-i : tie.Need-add-i Inv-loop μ-loop
+add-i c = omega arith
+
+loop-less : tie.Need-loop-less Inv-loop μ-loop
+loop-less c = omega arith
+
+loop-again : tie.Need-loop-again Inv-loop μ-loop
+loop-again c = (
+  omega arith,
+  λ e.
+      let z = no-bits (c .before .before .loop .bits) _ e in
+      zero-more (c .before .before .before .args .block .now) (c .before .before .loop .i) (omega (arith, c .before .before .before .pre)) (z .1) (c .before .before .loop .inv .1 (z .0)),
+)
+
+returns : tie.Need-returns Inv-loop μ-loop
+returns c e =
+    let f : c .before .loop .i ≡ length (c .before .before .args .block .now) = omega (arith, c .before .before .pre) in
+    zero-all (c .before .before .args .block .now) (c .before .before .args .block .now) (c .before .loop .inv .1 e ∙ ap (λ (k : ℕ). replicate k 0 ++ drop k (c .before .before .args .block .now)) f)
+
+pub any-bits-spec : {M : Type 1} → statement M
+any-bits-spec =
+    tie.close
+    (tie.spec
+    Inv-loop
+    μ-loop
+    loop-holds
+    mul-bits
+    shared-slice-read-bits
+    add-i
+    loop-less
+    loop-again
+    returns)
