@@ -1,4 +1,5 @@
 // Words into the report: types with no recursion, sections, contexts; each function writes at a place and returns the next.
+use layout::BASE;
 use layout::Span;
 use layout::put;
 use layout::word;
@@ -9,8 +10,9 @@ use types::right_of;
 use types::tag;
 use types::type_length;
 ghost use mathlib.Core.Path.{_≡_};
-ghost use Prim.Native.Nat.{_+_, _^_, min};
-ghost use Rattle.writing.specs.Spelling.{Section, Long, Spelled, Writable, Writes};
+ghost use Prim.Native.Nat.{_+_, _≤_, _^_, min};
+ghost use lib.ListN.{length};
+ghost use Rattle.writing.specs.Spelling.{Section, Long, Spelled, Copied, Writable, Writes};
 ghost use Rattle.writing.specs.Types.{OfType, OfPart, Waiting, Steps};
 ghost use Rattle.writing.specs.Contexts.{holdsType, OfEntry, OfContext};
 
@@ -65,15 +67,8 @@ fn write_head(q: &[u32], work: &[u32], top: usize, report: &mut [u32], at: usize
     }
 }
 
-// Writes a type. What waits is kept in the part of its words that is not written yet, from its far end.
-pub fn write_type(
-    q: &[u32],
-    work: &[u32],
-    top: usize,
-    r: usize,
-    report: &mut [u32],
-    at: usize,
-) -> usize
+// Writes a type part by part. What waits is kept in the part of its words that is not written yet, from its far end.
+fn walk_type(q: &[u32], work: &[u32], top: usize, r: usize, report: &mut [u32], at: usize) -> usize
     requires { ⌜ Writable (now q) (now work) top (OfType (now q) (now work) top r) (now report) at ⌝ }
     ensures { λ z. ⌜ Writes (OfType (now (q .entry)) (now (work .entry)) top r) (now (report .entry)) (now (report .exit)) at z ⌝ }
 {
@@ -88,6 +83,40 @@ pub fn write_type(
         low = z.low;
     }
     end
+}
+
+// Copies n words of the question, from a place on, to a place of the report.
+fn copy_words(q: &[u32], from: usize, n: usize, report: &mut [u32], at: usize)
+    requires { ⌜ (from + n ≤ length (now q)) × (at + n ≤ length (now report)) ⌝ }
+    ensures { λ _. ⌜ Copied (now (q .entry)) from n (now (report .entry)) (now (report .exit)) at ⌝ }
+{
+    let mut i = 0;
+    while i < n {
+        let x = q[from + i];
+        report[at + i] = x;
+        i += 1;
+    }
+}
+
+// Writes a type. One that stands in the question has its words there, in the same order, and is copied.
+pub fn write_type(
+    q: &[u32],
+    work: &[u32],
+    top: usize,
+    r: usize,
+    report: &mut [u32],
+    at: usize,
+) -> usize
+    requires { ⌜ Writable (now q) (now work) top (OfType (now q) (now work) top r) (now report) at ⌝ }
+    ensures { λ z. ⌜ Writes (OfType (now (q .entry)) (now (work .entry)) top r) (now (report .entry)) (now (report .exit)) at z ⌝ }
+{
+    if r < BASE {
+        let n = type_length(q, work, top, r);
+        let end = at + n;
+        copy_words(q, r, n, report, at);
+        return end;
+    }
+    walk_type(q, work, top, r, report, at)
 }
 
 // The sum of two lengths.

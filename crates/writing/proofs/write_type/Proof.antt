@@ -1,65 +1,44 @@
 -- `write_type` meets its contract.
-use Prim.Native.Nat.{_+_, _-_}
 use native.Mathlib.Omega.{arith}
-use lib.Seq.{getD-set-same}
-use Rattle.writing.proofs.Spelling.{writes-length}
-use Rattle.writing.proofs.Steps.{held-small}
-use Rattle.writing.proofs.Types.{type-held, Writing, writing-again, going-less, going-waiting, far-end, writing-first, writing-now, writing-end}
+use borrow.Author.Needs.{needs}
+use Rattle.writing.proofs.Types.{type-held}
+use Rattle.writing.proofs.Copying.{copied-length, copy-room, writes-copied}
 use Rattle.writing.proofs.write_type.Statement.{statement}
 use Rattle.writing.proofs.write_type.Tie as tie
 
-abbrev Inv-loop : tie.InvT-loop
-Inv-loop q work top r report₀ at n end pen₀ low₀ report pen low = Writing q work top r at end report₀ report pen low
+type-length-requires : tie.Need-type-length-requires
+type-length-requires c κs = type-held (c .before .before .before .before .pre .spelled)
 
-abbrev μ-loop : tie.MeasureT-loop
-μ-loop q work top r report₀ at n end pen₀ low₀ report pen low = end - pen
+add-end : tie.Need-add-end
+add-end c = omega (arith, copy-room (c .type-length .ensures) (c .before .if1 .taken) (c .before .before .before .before .before .pre .spelled .says) (c .before .before .before .before .before .pre .room))
 
-type-length-requires : tie.Need-type-length-requires Inv-loop μ-loop
-type-length-requires c κs = type-held (c .before .before .before .pre .spelled)
+copy-words-requires : tie.Need-copy-words-requires
+copy-words-requires c κs = let f = copy-room (c .before .type-length .ensures) (c .before .before .if1 .taken) (c .before .before .before .before .before .before .pre .spelled .says) (c .before .before .before .before .before .before .pre .room) in (omega (arith, f .0), f .1)
 
-add-end : tie.Need-add-end Inv-loop μ-loop
-add-end c = omega (arith, far-end (c .type-length .ensures) (c .before .before .before .before .pre .spelled .says) (c .before .before .before .before .pre .room), c .before .before .before .before .pre .room .small)
+same-length : tie.Need-same-length
+same-length c = copied-length (c .before .before .copy-words .ensures)
 
-sub-low : tie.Need-sub-low Inv-loop μ-loop
-sub-low c = far-end (c .type-length .ensures) (c .before .before .before .before .pre .spelled .says) (c .before .before .before .before .pre .room) .1
+returns : tie.Need-returns
+returns c = writes-copied (c .before .before .before .before .type-length .ensures) (c .before .before .before .before .before .if1 .taken) (c .before .before .copy-words .ensures)
 
-put-requires : tie.Need-put-requires Inv-loop μ-loop
-put-requires c κs = (far-end (c .before .type-length .ensures) (c .before .before .before .before .before .pre .spelled .says) (c .before .before .before .before .before .pre .room) .3, held-small (type-held (c .before .before .before .before .before .pre .spelled)))
+walk-type-requires : tie.Need-walk-type-requires
+walk-type-requires c κs = search needs
 
-loop-holds : tie.Need-loop-holds Inv-loop μ-loop
-loop-holds c = writing-first (c .before .before .before .before .type-length .ensures)
-    (rw (c .before .before .put .ensures) (getD-set-same (c .before .before .before .before .before .before .before .before .args .report .now) (c .before .before .before .before .before .before .before .before .args .at + c .before .before .before .before .type-length .result - 1) (c .before .before .before .before .before .before .before .before .args .r) 0 (far-end (c .before .before .before .before .type-length .ensures) (c .before .before .before .before .before .before .before .before .pre .spelled .says) (c .before .before .before .before .before .before .before .before .pre .room) .3)))
+same-length-2 : tie.Need-same-length-2
+same-length-2 c = search needs
 
-write-head-requires : tie.Need-write-head-requires Inv-loop μ-loop
-write-head-requires c κs = going-waiting (c .before .before .before .before .before .before .before .before .before .before .before .pre .spelled .ground)
-    (writing-now (c .before .before .before .before .before .before .before .type-length .ensures) (c .before .before .before .before .before .before .before .before .before .before .before .args .report .now) (c .before .before .before .before .before .put .ensures) (c .before .before .loop .inv) (c .before .before .before .before .before .before .before .before .before .before .before .pre .spelled .says) (c .before .before .before .before .before .before .before .before .before .before .before .pre .room)) (c .before .loop-test .taken)
-
-loop-less : tie.Need-loop-less Inv-loop μ-loop
-loop-less c = going-less
-    (writing-now (c .before .before .before .before .before .before .before .before .before .before .type-length .ensures) (c .before .before .before .before .before .before .before .before .before .before .before .before .before .before .args .report .now) (c .before .before .before .before .before .before .before .before .put .ensures) (c .before .before .before .before .before .loop .inv) (c .before .before .before .before .before .before .before .before .before .before .before .before .before .before .pre .spelled .says) (c .before .before .before .before .before .before .before .before .before .before .before .before .before .before .pre .room)) (c .before .before .before .before .loop-test .taken) (c .before .before .write-head .ensures)
-
-loop-again : tie.Need-loop-again Inv-loop μ-loop
-loop-again c = writing-again (c .before .before .before .before .before .loop .inv) (c .before .before .before .before .loop-test .taken) (c .before .before .write-head .ensures)
-
-same-length : tie.Need-same-length Inv-loop μ-loop
-same-length c = writes-length (c .before .before .before .before .before .before .before .before .before .before .pre) (writing-end (c .before .before .before .before .before .before .type-length .ensures) (c .before .before .before .before .before .before .before .before .before .before .args .report .now) (c .before .before .before .before .put .ensures) (c .before .loop .inv) (c .loop-test .left))
-
-returns : tie.Need-returns Inv-loop μ-loop
-returns c = writing-end (c .before .before .before .before .before .before .type-length .ensures) (c .before .before .before .before .before .before .before .before .before .before .args .report .now) (c .before .before .before .before .put .ensures) (c .before .loop .inv) (c .loop-test .left)
+returns-2 : tie.Need-returns-2
+returns-2 c = search needs
 
 pub write-type-spec : {M : Type 1} → statement M
 write-type-spec =
     tie.close
     (tie.spec
-    Inv-loop
-    μ-loop
     type-length-requires
     add-end
-    sub-low
-    put-requires
-    loop-holds
-    write-head-requires
-    loop-less
-    loop-again
+    copy-words-requires
     same-length
-    returns)
+    returns
+    walk-type-requires
+    same-length-2
+    returns-2)
