@@ -69,13 +69,13 @@ module _ {q w : List ℕ} {s : State} {g : Span} {sd : Side} {a t : ℕ} (pre : 
   b₂ = freshName (suc (s .fresh))
 
   module _ {l r : ℕ} {x : TyVar} (lo : LeftOf q w (s .top) t l) (ro : RightOf q w (s .top) t r) (nm : Named q w (s .top) a x) {w₁ : List ℕ} {o : Parted}
-      (in₁ : Parts q w w₁ s g x o) where
+      (in₁ : Parts q w w₁ s g x o) {od : Side} (eo : od ≡ other sd) where
     -- ## The first half, on the other side
 
     asks₁ : {j : Judgement} (k : Asks q w (s .top) g (instAsk sd a t) j)
-        → Asks q w₁ (o .st .top) (o .g) (instAsk (other sd) (o .b) l) (inst (other sd) (split (askd k .x) b₁ b₂ (askd k .Γ)) b₁ (halves k .A))
+        → Asks q w₁ (o .st .top) (o .g) (instAsk od (o .b) l) (inst od (split (askd k .x) b₁ b₂ (askd k .Γ)) b₁ (halves k .A))
     asks₁ k =
-        asks-inst (other sd) (rw (nm .of-etvar (askd k .x) (askd k .unknown)) at (in₁ .run (askd k .Γ) (askd k .run))) (in₁ .first)
+        asks-inst od (rw (nm .of-etvar (askd k .x) (askd k .unknown)) at (in₁ .run (askd k .Γ) (askd k .run))) (in₁ .first)
         (den-frame (in₁ .keep) (in₁ .up) (lo .is _ _ (whole k) .den))
 
     room₁ : Room q w₁ (o .st) 0
@@ -84,30 +84,30 @@ module _ {q w : List ℕ} {s : State} {g : Span} {sd : Side} {a t : ℕ} (pre : 
         let e = in₁ .left in
         built-room (pre .pre .room) 0 (parts-built in₁) (omega arith) (omega (arith, pre .pre .names))
 
-    pub arr-first : JudgePre q w₁ (o .st) (o .g) (instAsk (other sd) (o .b) l)
+    pub arr-first : JudgePre q w₁ (o .st) (o .g) (instAsk od (o .b) l)
     arr-first =
-        inst-pre (other sd) room₁ (in₁ .run _ (askd (pre .pre .asks) .run)) (in₁ .first)
+        inst-pre od room₁ (in₁ .run _ (askd (pre .pre .asks) .run)) (in₁ .first)
         (den-frame (in₁ .keep) (in₁ .up) (lo .is _ _ (whole (pre .pre .asks)) .den))
 
     so₁ : Sofar q w w₁ s (o .st) leaf
     so₁ = built-on begin (parts-built in₁)
 
     says₁ : (m : Mode) {j : Judgement} (k : Asks q w (s .top) g (instAsk sd a t) j) → rule (mode m) (judge (mode m)) j (s .left) (s .fresh)
-        ≡ andThen (judge (mode m) (inst (other sd) (split (askd k .x) b₁ b₂ (askd k .Γ)) b₁ (halves k .A)) (o .st .left) (o .st .fresh))
+        ≡ andThen (judge (mode m) (inst od (split (askd k .x) b₁ b₂ (askd k .Γ)) b₁ (halves k .A)) (o .st .left) (o .st .fresh))
         (λ u l n. andThen (apply (u .1) (halves k .B) l n)
         (λ B l n. andThen (judge (mode m) (inst sd (u .1) b₂ B) l n) (λ v. give (instArr sd, int, v .1, u .2 & v .2 & leaf))))
     says₁ m k =
         ap (λ (i : Judgement). rule (mode m) (judge (mode m)) i (s .left) (s .fresh))
         (askd k .is ∙ ap (λ (T : Ty). inst sd (askd k .Γ) (askd k .x) T) (halves k .is))
-        ∙ rw (in₁ .left, in₁ .fresh) (arr-is (mode m) (judge (mode m)) (askd k .Γ) (askd k .x) (s .left) (s .fresh) sd (halves k .A) (halves k .B))
+        ∙ rw (in₁ .left, in₁ .fresh, eo) (arr-is (mode m) (judge (mode m)) (askd k .Γ) (askd k .x) (s .left) (s .fresh) sd (halves k .A) (halves k .B))
 
-    module _ {w₂ : List ℕ} {z : Step} (call₁ : JudgedBoth q w₁ w₂ (o .st) (o .g) (instAsk (other sd) (o .b) l) z) where
+    module _ {w₂ : List ℕ} {z : Step} (call₁ : JudgedBoth q w₁ w₂ (o .st) (o .g) (instAsk od (o .b) l) z) where
       pub arr-else₁ : NotDone z → FiresBoth q w w₂ s g (instAsk sd a t) z
       arr-else₁ nd = else-fires (λ m j k. record { ts = leaf; so = so₁; i = _; asks = asks₁ k; next = _; says = says₁ m k }) call₁ nd
 
       module _ {u : Answer} (d₁ : z ≡ Done u) where
         c₁ : (m : Mode) {j : Judgement} (k : Asks q w (s .top) g (instAsk sd a t) j)
-            → Came q w₂ (o .st) u (judge (mode m) (inst (other sd) (split (askd k .x) b₁ b₂ (askd k .Γ)) b₁ (halves k .A)) (o .st .left) (o .st .fresh))
+            → Came q w₂ (o .st) u (judge (mode m) (inst od (split (askd k .x) b₁ b₂ (askd k .Γ)) b₁ (halves k .A)) (o .st .left) (o .st .fresh))
         c₁ m k = gave so₁ (call₁ .in-mode m) (asks₁ k) d₁
 
         so₂ : (m : Mode) {j : Judgement} (k : Asks q w (s .top) g (instAsk sd a t) j) → Sofar q w w₂ s (u .st) (c₁ m k .t & leaf)

@@ -2,10 +2,9 @@
 use mathlib.Core.Path.{_≡_, _∙_, ap}
 use mathlib.Core.List.{List}
 use Prim.Native.Nat.{ℕ}
-use Rattle.definition.specs.Syntax
 use Rattle.definition.specs.Syntax.{TyVar, Ty, int, forall, Ctx, Side, onL, onR, Judgement, inst, Rule, leaf, _&_}
 use Rattle.definition.specs.Run.{Out, andThen, give}
-use Rattle.definition.specs.Contexts.{Key, kTVar, kMark, rightOf}
+use Rattle.definition.specs.Contexts.{Key, rightOf}
 use Rattle.definition.specs.Rules.{rule, judge}
 use Rattle.layout.specs.Denotes.{Den}
 use Rattle.layout.specs.Room.{Room}
@@ -15,14 +14,13 @@ use Rattle.layout.proofs.Denotes.{den-frame}
 use Rattle.judging.specs.Asking.{mode, Asks, instAsk, Small}
 use Rattle.judging.specs.declared.Mode.{Mode}
 use Rattle.judging.proofs.Asking.{InstAsked, inst-asked, asks-inst}
-use Rattle.steps.specs.Opening.{ForallPre, Instances, OpensRight, OpensLeft}
-use Rattle.steps.specs.declared.Body.{Body}
+use Rattle.steps.specs.Opening.{ForallPre, Instances}
 use Rattle.steps.specs.declared.Instance.{Instance}
-use Rattle.steps.specs.declared.Instance.the-variants.{Of}
 use Rattle.steps.proofs.Forms.{IsForall, is-forall}
 use Rattle.steps.proofs.Going.{forall-pre, ref-small, small-inst}
 use Rattle.steps.proofs.Under.{Under}
-use Rattle.instantiation.specs.Sides.{FormPre}
+use Rattle.instantiation.specs.Sides.{FormPre, OpensOn, on-left, on-right, binder}
+use Rattle.instantiation.proofs.Sides.{instAll}
 use Rattle.instantiation.proofs.Equations.{all-l-is, all-r-is}
 
 module _ {q w : List ℕ} {s : State} {g : Span} {sd : Side} {a t : ℕ} (pre : FormPre sd q w s g a t 6) where
@@ -66,17 +64,11 @@ module _ {q w : List ℕ} {s : State} {g : Span} {sd : Side} {a t : ℕ} (pre : 
     says = says m k ∙ e;
   }
 
--- on the left
-pub under-l : {q w w₁ : List ℕ} {s : State} {g : Span} {a t : ℕ} {o : Body} → FormPre onL q w s g a t 6 → OpensRight q w w₁ s g t o
-    → (m : Mode) (j : Judgement) → Asks q w (s .top) g (instAsk onL a t) j
-    → Under m q w w₁ s g (λ p. instAsk onL a (p .ty)) kTVar Syntax.InstLAllR (Of o) j
+pub under-on : {q w w₁ : List ℕ} {s : State} {g : Span} {sd : Side} {a t : ℕ} {x : Instance} → FormPre sd q w s g a t 6 → OpensOn q w w₁ s g t sd x
+    → (m : Mode) (j : Judgement) → Asks q w (s .top) g (instAsk sd a t) j
+    → Under m q w w₁ s g (λ p. instAsk sd a (p .ty)) (binder sd) (instAll sd) x j
 unfolding andThen
-under-l pre in₁ m j k =
-    under pre m k kTVar Syntax.InstLAllR (in₁ .opens _ _ _ (askd pre k .run) (whole pre k)) (all-l-is (mode m) (judge (mode m)) _ _ _ _ _ _)
-
--- on the right
-pub under-r : {q w w₁ : List ℕ} {s : State} {g : Span} {a t : ℕ} {x : Instance} → FormPre onR q w s g a t 6 → OpensLeft q w w₁ s g t x
-    → (m : Mode) (j : Judgement) → Asks q w (s .top) g (instAsk onR a t) j
-    → Under m q w w₁ s g (λ p. instAsk onR a (p .ty)) kMark Syntax.InstRAllL x j
-under-r pre in₁ m j k =
-    under pre m k kMark Syntax.InstRAllL (in₁ .opens _ _ _ (askd pre k .run) (whole pre k)) (all-r-is (mode m) (judge (mode m)) _ _ _ _ _ _)
+under-on pre (on-left in₁) m j k =
+    under pre m k (binder onL) (instAll onL) (in₁ .opens _ _ _ (askd pre k .run) (whole pre k)) (all-l-is (mode m) (judge (mode m)) _ _ _ _ _ _)
+under-on pre (on-right in₁) m j k =
+    under pre m k (binder onR) (instAll onR) (in₁ .opens _ _ _ (askd pre k .run) (whole pre k)) (all-r-is (mode m) (judge (mode m)) _ _ _ _ _ _)

@@ -1,4 +1,5 @@
 -- Laws of instantiation.
+pub mod Sides
 pub mod Equations
 pub mod Solving
 pub mod Arrow

@@ -7,7 +7,7 @@ use native.Mathlib.Nat.{le-refl}
 use native.Mathlib.Omega.{arith}
 use lib.ListN.{length}
 use Rattle.definition.specs.Syntax as syntax
-use Rattle.definition.specs.Syntax.{Ty, int, etvar, setvarBnd, Ctx, Side, onL, onR, Judgement, inst, Rule, ruleNumber, leaf, children, occursCheck}
+use Rattle.definition.specs.Syntax.{Ty, int, etvar, setvarBnd, Ctx, Side, Judgement, inst, Rule, ruleNumber, leaf, children, occursCheck}
 use Rattle.definition.specs.Run.{Out, done}
 use Rattle.definition.specs.Contexts.{before, replace}
 use Rattle.definition.specs.Types.{occurs}
@@ -34,6 +34,7 @@ use Rattle.judging.specs.declared.Step.the-variants.{Fail}
 use Rattle.judging.proofs.Asking.{InstAsked, inst-asked}
 use Rattle.judging.proofs.Chain.{begin, built, refuses, room-on, room-within}
 use Rattle.instantiation.specs.Sides.{SidePre, SideFires, Meets, SolvePre, ReachPre, MeetPre, Closed}
+use Rattle.instantiation.proofs.Sides.{in-row}
 use Rattle.instantiation.proofs.Equations.{occurs-is, solved-is, reach-is}
 use Rattle.steps.proofs.Going.{unknown-named, room-space, ref-small, ends}
 
@@ -151,17 +152,6 @@ reach-done {s = s} {g = g} {a = a} {t = t} {n = n} pre nm c = record {
   };
 }
 
--- the rule that reaches has the number after the one that solves
-next-number : {n : ℕ} (sd : Side) → n ≡ ruleNumber (instSolve sd) → n + 1 ≡ ruleNumber (instReach sd)
-unfolding ruleNumber instSolve instReach
-next-number onL e = omega arith
-next-number onR e = omega arith
-
-pub next-fits : {n : ℕ} (sd : Side) → n ≡ ruleNumber (instSolve sd) → n < 38
-unfolding ruleNumber instSolve
-next-fits onL e = omega arith
-next-fits onR e = omega arith
-
 module _ {q w : List ℕ} {s : State} {g : Span} {a t n : ℕ} (pre : MeetPre q w s g a t n) where
   module _ {x y : TyVar} {r : Bool} (nx : Named q w (s .top) a x) (ny : Named q w (s .top) t y) (bf : Before w g (ty x) (ty y) r) where
     meets : {r′ : Bool} → r ≡ r′ → Meets q w s g a t r′
@@ -173,7 +163,7 @@ module _ {q w : List ℕ} {s : State} {g : Span} {a t n : ℕ} (pre : MeetPre q 
 
     pub meet-reach : r ≡ true → ReachPre q w s g a t (n + 1)
     meet-reach e = record {
-      sided = record { side = pre .sided .side; number = next-number (pre .sided .side) (pre .sided .number); pre = pre .sided .pre };
+      sided = record { side = pre .sided .side; number = in-row (pre .sided .side) (pre .sided .number) .reach; pre = pre .sided .pre };
       code = pre .code;
       early = meets e;
     }
@@ -182,4 +172,4 @@ module _ {q w : List ℕ} {s : State} {g : Span} {a t n : ℕ} (pre : MeetPre q 
     meet-solve e = record { sided = pre .sided; plain = λ T d. let c = pre .code T d in omega arith; late = meets e }
 
   pub meet-reached : {w₁ : List ℕ} {z : Step} → SideFires instReach q w w₁ s g a t (n + 1) z → SideFires instSolve q w w₁ s g a t n z
-  meet-reached f = record { on = λ sd e. f .on sd (next-number sd e) }
+  meet-reached f = record { on = λ sd e. f .on sd (in-row sd e .reach) }

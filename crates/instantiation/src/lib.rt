@@ -10,14 +10,83 @@ use layout::Span;
 use layout::State;
 use layout::TyVar;
 use steps::Instance;
+ghost use mathlib.Core.Path.{_≡_};
 ghost use Prim.Native.Nat.{_<_, _^_};
 ghost use Rattle.definition.specs.Syntax.{onL, onR};
 ghost use Rattle.definition.specs.Rules.{instSolve, instReach};
-ghost use Rattle.layout.specs.Names.{ty};
+ghost use Rattle.layout.specs.Names.{ty, key};
 ghost use Rattle.contexts.specs.Build.{Space};
 ghost use Rattle.judging.specs.Asking.{instAsk, JudgePre, RulePre};
 ghost use Rattle.steps.specs.Modes.{JudgedBoth, FiresBoth};
-ghost use Rattle.instantiation.specs.Sides.{FormPre, Closed, SideFires, SolvePre, ReachPre, MeetPre};
+ghost use Rattle.steps.specs.Opening.{ForallPre};
+ghost use Rattle.instantiation.specs.Sides.{side, firstOf, otherOf, binder, FormPre, Closed, SideFires, SolvePre, ReachPre, MeetPre, OpensOn};
+
+// The side on which the unknown stands.
+pub enum Side {
+    L,
+    R,
+}
+
+// The other one.
+fn other(s: Side) -> Side
+    ensures { λ z. ⌜ z ≡ otherOf s ⌝ }
+{
+    match s {
+        Side::L => Side::R,
+        Side::R => Side::L,
+    }
+}
+
+// The number of the rule that solves, the first of the side's four.
+fn first(s: Side) -> usize
+    ensures { λ n. ⌜ n ≡ firstOf s ⌝ }
+{
+    match s {
+        Side::L => 30,
+        Side::R => 34,
+    }
+}
+
+// What is asked: inst_l (5) or inst_r (6).
+fn asked(s: Side, a: usize, ty: usize) -> Ask
+    ensures { λ k. ⌜ k ≡ instAsk (side s) a ty ⌝ }
+{
+    match s {
+        Side::L => Ask {
+            kind: 5,
+            ex: 0,
+            left: a,
+            right: ty,
+        },
+        Side::R => Ask {
+            kind: 6,
+            ex: 0,
+            left: ty,
+            right: a,
+        },
+    }
+}
+
+// Opens the Forall ty: InstLAllR takes its body, InstRAllL an instance of it.
+fn open_on(q: &[u32], work: &mut [u32], st: State, g: Span, s: Side, ty: usize) -> Instance
+    requires { ⌜ ForallPre (now q) (now work) st g ty ⌝ }
+    ensures { λ z. ⌜ OpensOn (now (q .entry)) (now (work .entry)) (now (work .exit)) st g ty (side s) z ⌝ }
+{
+    match s {
+        Side::L => Instance::Of(steps::open_right(q, work, st, g, ty)),
+        Side::R => steps::open_left(q, work, st, g, ty),
+    }
+}
+
+// What opening pushed last, right of which the output stands: the name b, or its mark.
+fn pushed(s: Side, b: TyVar) -> Key
+    ensures { λ k. ⌜ key k ≡ binder (side s) (ty b) ⌝ }
+{
+    match s {
+        Side::L => Key::TVar(b),
+        Side::R => Key::Mark(b),
+    }
+}
 
 // The output context with a solved by the type r, and no children.
 fn solved(work: &mut [u32], st: State, g: Span, a: TyVar, r: usize, rule: usize) -> Step
@@ -88,82 +157,7 @@ pub fn inst_l(q: &[u32], work: &mut [u32], st: State, g: Span, a: usize, ty: usi
     requires { ⌜ JudgePre (now q) (now work) st g (instAsk onL a ty) ⌝ }
     ensures { λ z. ⌜ JudgedBoth (now (q .entry)) (now (work .entry)) (now (work .exit)) st g (instAsk onL a ty) z ⌝ }
 {
-    let Entered::In(inner) = judging::enter(st, g) else {
-        return Step::Spent;
-    };
-    let z = inst_l_rule(q, work, inner, g, a, ty);
-    let Step::Done(r) = z else {
-        return z;
-    };
-    let node = inner.low;
-    let ask = Ask {
-        kind: 5,
-        ex: 0,
-        left: a,
-        right: ty,
-    };
-    judging::leave(work, node, g, ask, r)
-}
-
-// The rule that fits, by the type's code.
-fn inst_l_rule(q: &[u32], work: &mut [u32], st: State, g: Span, a: usize, ty: usize) -> Step
-    requires { ⌜ RulePre (now q) (now work) st g (instAsk onL a ty) ⌝ }
-    ensures { λ z. ⌜ FiresBoth (now (q .entry)) (now (work .entry)) (now (work .exit)) st g (instAsk onL a ty) z ⌝ }
-{
-    let k = types::tag(q, work, st.top, ty);
-    match k {
-        4 => meet(q, work, st, g, a, ty, 30),
-        5 => inst_l_arr(q, work, st, g, a, ty),
-        6 => inst_l_all(q, work, st, g, a, ty),
-        _ => solve(q, work, st, g, a, ty, 30),
-    }
-}
-
-// InstLArr: a becomes an arrow of unknowns, the first to be of the left half on the other side, the second of the right half, applied.
-fn inst_l_arr(q: &[u32], work: &mut [u32], st: State, g: Span, a: usize, ty: usize) -> Step
-    requires { ⌜ FormPre onL (now q) (now work) st g a ty 5 ⌝ }
-    ensures { λ z. ⌜ FiresBoth (now (q .entry)) (now (work .entry)) (now (work .exit)) st g (instAsk onL a ty) z ⌝ }
-{
-    let top = st.top;
-    let left = types::left_of(q, work, top, ty);
-    let right = types::right_of(q, work, top, ty);
-    let x = types::name_of(q, work, top, a);
-    let o = steps::part(q, work, st, g, x);
-    let st1 = o.st;
-    let g1 = o.g;
-    let b = o.b;
-    let c = o.c;
-    let z = inst_r(q, work, st1, g1, left, b);
-    let Step::Done(r) = z else {
-        return z;
-    };
-    let st2 = r.st;
-    let g2 = r.g;
-    let Made::Done(st3, applied) = substitution::apply_ctx_type(q, work, st2, g2, right) else {
-        return Step::Spent;
-    };
-    let y = inst_l(q, work, st3, g2, c, applied);
-    let Step::Done(u) = y else {
-        return y;
-    };
-    steps::through(u, 32, 2)
-}
-
-// InstLAllR: the body, under the name; of the output what stands right of it.
-fn inst_l_all(q: &[u32], work: &mut [u32], st: State, g: Span, a: usize, ty: usize) -> Step
-    requires { ⌜ FormPre onL (now q) (now work) st g a ty 6 ⌝ }
-    ensures { λ z. ⌜ FiresBoth (now (q .entry)) (now (work .entry)) (now (work .exit)) st g (instAsk onL a ty) z ⌝ }
-{
-    let o = steps::open_right(q, work, st, g, ty);
-    let st1 = o.st;
-    let g1 = o.g;
-    let b = o.b;
-    let body = o.ty;
-    let z = inst_l(q, work, st1, g1, a, body);
-    let Step::Done(r) = z else {
-        return z;
-    };
-    steps::right_alone(work, r, Key::TVar(b), 33)
+    inst(q, work, st, g, Side::L, a, ty)
 }
 
 // The unknown a on the right of ty.
@@ -171,42 +165,60 @@ pub fn inst_r(q: &[u32], work: &mut [u32], st: State, g: Span, ty: usize, a: usi
     requires { ⌜ JudgePre (now q) (now work) st g (instAsk onR a ty) ⌝ }
     ensures { λ z. ⌜ JudgedBoth (now (q .entry)) (now (work .entry)) (now (work .exit)) st g (instAsk onR a ty) z ⌝ }
 {
+    inst(q, work, st, g, Side::R, a, ty)
+}
+
+// The one of the two that has the unknown on side s.
+fn on_side(q: &[u32], work: &mut [u32], st: State, g: Span, s: Side, a: usize, ty: usize) -> Step
+    requires { ⌜ JudgePre (now q) (now work) st g (instAsk (side s) a ty) ⌝ }
+    ensures { λ z. ⌜ JudgedBoth (now (q .entry)) (now (work .entry)) (now (work .exit)) st g (instAsk (side s) a ty) z ⌝ }
+{
+    match s {
+        Side::L => inst_l(q, work, st, g, a, ty),
+        Side::R => inst_r(q, work, st, g, ty, a),
+    }
+}
+
+// Both, over the side: enters, asks the rule that fits, leaves.
+fn inst(q: &[u32], work: &mut [u32], st: State, g: Span, s: Side, a: usize, ty: usize) -> Step
+    requires { ⌜ JudgePre (now q) (now work) st g (instAsk (side s) a ty) ⌝ }
+    ensures { λ z. ⌜ JudgedBoth (now (q .entry)) (now (work .entry)) (now (work .exit)) st g (instAsk (side s) a ty) z ⌝ }
+{
     let Entered::In(inner) = judging::enter(st, g) else {
         return Step::Spent;
     };
-    let z = inst_r_rule(q, work, inner, g, ty, a);
+    let z = inst_rule(q, work, inner, g, s, a, ty);
     let Step::Done(r) = z else {
         return z;
     };
     let node = inner.low;
-    let ask = Ask {
-        kind: 6,
-        ex: 0,
-        left: ty,
-        right: a,
-    };
+    let ask = asked(s, a, ty);
     judging::leave(work, node, g, ask, r)
 }
 
 // The rule that fits, by the type's code.
-fn inst_r_rule(q: &[u32], work: &mut [u32], st: State, g: Span, ty: usize, a: usize) -> Step
-    requires { ⌜ RulePre (now q) (now work) st g (instAsk onR a ty) ⌝ }
-    ensures { λ z. ⌜ FiresBoth (now (q .entry)) (now (work .entry)) (now (work .exit)) st g (instAsk onR a ty) z ⌝ }
+fn inst_rule(q: &[u32], work: &mut [u32], st: State, g: Span, s: Side, a: usize, ty: usize) -> Step
+    requires { ⌜ RulePre (now q) (now work) st g (instAsk (side s) a ty) ⌝ }
+    ensures { λ z. ⌜ FiresBoth (now (q .entry)) (now (work .entry)) (now (work .exit)) st g (instAsk (side s) a ty) z ⌝ }
 {
+    let rule = first(s);
     let k = types::tag(q, work, st.top, ty);
     match k {
-        4 => meet(q, work, st, g, a, ty, 34),
-        5 => inst_r_arr(q, work, st, g, ty, a),
-        6 => inst_r_all(q, work, st, g, ty, a),
-        _ => solve(q, work, st, g, a, ty, 34),
+        4 => meet(q, work, st, g, a, ty, rule),
+        5 => inst_arr(q, work, st, g, s, a, ty),
+        6 => inst_all(q, work, st, g, s, a, ty),
+        _ => solve(q, work, st, g, a, ty, rule),
     }
 }
 
-// InstRArr: InstLArr with the sides exchanged.
-fn inst_r_arr(q: &[u32], work: &mut [u32], st: State, g: Span, ty: usize, a: usize) -> Step
-    requires { ⌜ FormPre onR (now q) (now work) st g a ty 5 ⌝ }
-    ensures { λ z. ⌜ FiresBoth (now (q .entry)) (now (work .entry)) (now (work .exit)) st g (instAsk onR a ty) z ⌝ }
+// InstLArr (32), InstRArr (36): a becomes an arrow of unknowns, the first to be of the left half on the other side, the second of the right
+// half, applied.
+fn inst_arr(q: &[u32], work: &mut [u32], st: State, g: Span, s: Side, a: usize, ty: usize) -> Step
+    requires { ⌜ FormPre (side s) (now q) (now work) st g a ty 5 ⌝ }
+    ensures { λ z. ⌜ FiresBoth (now (q .entry)) (now (work .entry)) (now (work .exit)) st g (instAsk (side s) a ty) z ⌝ }
 {
+    let rule = first(s) + 2;
+    let back = other(s);
     let top = st.top;
     let left = types::left_of(q, work, top, ty);
     let right = types::right_of(q, work, top, ty);
@@ -216,7 +228,7 @@ fn inst_r_arr(q: &[u32], work: &mut [u32], st: State, g: Span, ty: usize, a: usi
     let g1 = o.g;
     let b = o.b;
     let c = o.c;
-    let z = inst_l(q, work, st1, g1, b, left);
+    let z = on_side(q, work, st1, g1, back, b, left);
     let Step::Done(r) = z else {
         return z;
     };
@@ -225,28 +237,30 @@ fn inst_r_arr(q: &[u32], work: &mut [u32], st: State, g: Span, ty: usize, a: usi
     let Made::Done(st3, applied) = substitution::apply_ctx_type(q, work, st2, g2, right) else {
         return Step::Spent;
     };
-    let y = inst_r(q, work, st3, g2, applied, c);
+    let y = on_side(q, work, st3, g2, s, c, applied);
     let Step::Done(u) = y else {
         return y;
     };
-    steps::through(u, 36, 2)
+    steps::through(u, rule, 2)
 }
 
-// InstRAllL: an instance of the type; of the output what stands right of the mark.
-fn inst_r_all(q: &[u32], work: &mut [u32], st: State, g: Span, ty: usize, a: usize) -> Step
-    requires { ⌜ FormPre onR (now q) (now work) st g a ty 6 ⌝ }
-    ensures { λ z. ⌜ FiresBoth (now (q .entry)) (now (work .entry)) (now (work .exit)) st g (instAsk onR a ty) z ⌝ }
+// InstLAllR (33), InstRAllL (37): the opened type; of the output what stands right of what opening pushed.
+fn inst_all(q: &[u32], work: &mut [u32], st: State, g: Span, s: Side, a: usize, ty: usize) -> Step
+    requires { ⌜ FormPre (side s) (now q) (now work) st g a ty 6 ⌝ }
+    ensures { λ z. ⌜ FiresBoth (now (q .entry)) (now (work .entry)) (now (work .exit)) st g (instAsk (side s) a ty) z ⌝ }
 {
-    let Instance::Of(o) = steps::open_left(q, work, st, g, ty) else {
+    let rule = first(s) + 3;
+    let Instance::Of(o) = open_on(q, work, st, g, s, ty) else {
         return Step::Spent;
     };
     let st1 = o.st;
     let g1 = o.g;
     let b = o.b;
     let body = o.ty;
-    let z = inst_r(q, work, st1, g1, body, a);
+    let z = on_side(q, work, st1, g1, s, a, body);
     let Step::Done(r) = z else {
         return z;
     };
-    steps::right_alone(work, r, Key::Mark(b), 37)
+    let k = pushed(s, b);
+    steps::right_alone(work, r, k, rule)
 }

@@ -1,6 +1,7 @@
 -- `meet` meets its contract.
 use native.Mathlib.Omega.{arith}
-use Rattle.instantiation.proofs.Solving.{side-unknown, side-run, etvar-named, next-fits, meet-reach, meet-solve, meet-reached}
+use Rattle.instantiation.proofs.Sides.{in-row}
+use Rattle.instantiation.proofs.Solving.{side-unknown, side-run, etvar-named, meet-reach, meet-solve, meet-reached}
 use borrow.Author.Needs.{needs}
 use Rattle.instantiation.proofs.meet.Statement.{statement}
 use Rattle.instantiation.proofs.meet.Tie as tie
@@ -15,7 +16,7 @@ before-requires : tie.Need-before-requires
 before-requires c κs = side-run (c .before .before .before .before .before .before .before .pre .sided)
 
 add-next : tie.Need-add-next
-add-next c = omega (arith, next-fits (c .before .before .before .before .before .before .before .before .before .pre .sided .side) (c .before .before .before .before .before .before .before .before .before .pre .sided .number))
+add-next c = omega (arith, in-row (c .before .before .before .before .before .before .before .before .before .pre .sided .side) (c .before .before .before .before .before .before .before .before .before .pre .sided .number) .fits)
 
 reach-requires : tie.Need-reach-requires
 reach-requires c κs = meet-reach (c .before .before .before .before .before .before .before .before .before .before .pre) (c .before .before .before .before .before .before .name-of .ensures) (c .before .before .before .before .name-of2 .ensures) (c .before .before .before2 .ensures) (c .before .if1 .taken)
