@@ -11,7 +11,7 @@ use Rattle.definition.specs.Syntax.{Ty, int, etvar, setvarBnd, Ctx, Side, Judge
 use Rattle.definition.specs.Run.{Out, done}
 use Rattle.definition.specs.Contexts.{before, replace}
 use Rattle.definition.specs.Types.{occurs}
-use Rattle.definition.specs.Rules.{Fired, tyCode, instSolve, instReach, rule, judge}
+use Rattle.definition.specs.Rules.{Fired, instSolve, instReach, rule, judge}
 use Rattle.definition.specs.Reply.{errorCode, errorAt}
 use Rattle.layout.specs.Names.{ty}
 use Rattle.layout.specs.Words.{Keep}
@@ -22,19 +22,19 @@ use Rattle.layout.specs.declared.State.{State}
 use Rattle.layout.specs.declared.TyVar.{TyVar}
 use Rattle.layout.proofs.Words.{keep-less}
 use Rattle.types.specs.Reading.{Held, HeldNamed, Named}
+use Rattle.steps.specs.Modes.{FiresBoth}
 use Rattle.steps.proofs.Forms.{is-etvar}
 use Rattle.walks.specs.Walks.{Occurs}
 use Rattle.types.proofs.Held.{room-held}
 use Rattle.contexts.specs.Build.{Space}
 use Rattle.contexts.specs.Search.{Before}
-use Rattle.judging.specs.Asking.{mode}
+use Rattle.judging.specs.Asking.{mode, instAsk, RulePre}
 use Rattle.judging.specs.Ending.{e-occurs, Failed, RunsR}
 use Rattle.judging.specs.declared.Step.{Step}
 use Rattle.judging.specs.declared.Step.the-variants.{Fail}
 use Rattle.judging.proofs.Asking.{InstAsked, inst-asked}
 use Rattle.judging.proofs.Chain.{begin, built, refuses, room-on, room-within}
-use Rattle.instantiation.specs.Sides.{SidePre, SideFires, Meets, SolvePre, ReachPre, MeetPre, Closed}
-use Rattle.instantiation.proofs.Sides.{in-row}
+use Rattle.instantiation.specs.Sides.{FormPre, Meets, SolvePre, ReachPre, Closed}
 use Rattle.instantiation.proofs.Equations.{occurs-is, solved-is, reach-is}
 use Rattle.steps.proofs.Going.{unknown-named, room-space, ref-small, ends}
 
@@ -59,32 +59,32 @@ closed {q} {w} {w₁} {s} {g} R e room run d c O eq =
 
 -- ## What the code may read and build
 
-module _ {q w : List ℕ} {s : State} {g : Span} {a t n : ℕ} {R : Side → Rule} (sided : SidePre R q w s g a t n) where
-  asked : InstAsked q w (s .top) g (sided .side) a t (sided .pre .j)
-  asked = inst-asked (sided .side) a t (sided .pre .asks)
+module _ {q w : List ℕ} {s : State} {g : Span} (sd : Side) (a t : ℕ) (pre : RulePre q w s g (instAsk sd a t)) where
+  asked : InstAsked q w (s .top) g sd a t (pre .j)
+  asked = inst-asked sd a t (pre .asks)
 
   pub side-unknown : HeldNamed q w (s .top) a
-  side-unknown = unknown-named (sided .pre .room) (asked .unknown)
+  side-unknown = unknown-named (pre .room) (asked .unknown)
 
   pub side-held : Held q w (s .top) t
-  side-held = room-held (sided .pre .room) (asked .den)
+  side-held = room-held (pre .room) (asked .den)
 
   pub side-run : g .at + 4 * g .n ≤ length w
-  side-run = omega (arith, asked .run .below, sided .pre .room .fits, sided .pre .room .low)
+  side-run = omega (arith, asked .run .below, pre .room .fits, pre .room .low)
 
   space : Space w s g 1
-  space = room-space (sided .pre .room) g 1 (asked .run) (omega arith)
+  space = room-space (pre .room) g 1 (asked .run) (omega arith)
 
   -- to be solved by the type, or by the unknown
   pub space-type : (Space w s g 1) × (t < 2 ^ 32)
-  space-type = (space, ref-small (sided .pre .room) (asked .den))
+  space-type = (space, ref-small (pre .room) (asked .den))
 
   pub space-unknown : (Space w s g 1) × (a < 2 ^ 32)
-  space-unknown = (space, ref-small (sided .pre .room) (asked .unknown))
+  space-unknown = (space, ref-small (pre .room) (asked .unknown))
 
 -- ## The unknown a against a type without parts
 
-module _ {q w : List ℕ} {s : State} {g : Span} {a t n : ℕ} (pre : SolvePre q w s g a t n) {x : TyVar} {b : Bool} (nm : Named q w (s .top) a x)
+module _ {q w : List ℕ} {s : State} {g : Span} {sd : Side} {a t : ℕ} (pre : SolvePre sd q w s g a t) {x : TyVar} {b : Bool} (nm : Named q w (s .top) a x)
     (oc : Occurs q w (s .top) x t b) where
   occurs-so : (v : syntax.TyVar) (T : Ty) → Den q w (s .top) a (etvar v) → Den q w (s .top) t T → occurs v T ≡ b
   occurs-so v T d e = ap (λ (y : syntax.TyVar). occurs y T) (sym (nm .of-etvar v d)) ∙ sym (oc .is T e)
@@ -93,66 +93,44 @@ module _ {q w : List ℕ} {s : State} {g : Span} {a t n : ℕ} (pre : SolvePre q
       → (y : syntax.TyVar) → T ≡ etvar y → before Γ v y ≡ false
   late Γ v T r d e y eq = pre .late .is Γ v y r d (rw eq at e)
 
-  pub solve-occurs : b ≡ true
-      → SideFires instSolve q w w s g a t n (Fail (record { st = s; code = 14; name = x .0; left = t; right = 0 }))
+  pub solve-occurs : b ≡ true → FiresBoth q w w s g (instAsk sd a t) (Fail (record { st = s; code = 14; name = x .0; left = t; right = 0 }))
   unfolding errorCode errorAt
   solve-occurs h = record {
-    on = λ sd e. record {
-      in-mode = λ m. record {
-        run = λ j k.
-            let v = inst-asked sd a t k in
-            let f : Failed q w (record { st = s; code = 14; name = x .0; left = t; right = 0 }) (occursCheck (v .x) (v .T)) (s .left) =
-            record { base = pre .sided .pre .room .base; within = room-within (pre .sided .pre .room); code = refl; name = ap (λ (y : syntax.TyVar). y .number) (nm .of-etvar (v .x) (v .unknown)); types = e-occurs (v .den); left = refl } in
-            refuses begin f _
-            (ap (λ (i : Judgement). rule (mode m) (judge (mode m)) i (s .left) (s .fresh)) (v .is)
-            ∙ occurs-is (mode m) (judge (mode m)) (v .Γ) (v .x) (s .left) (s .fresh) sd (v .T) (pre .plain (v .T) (v .den))
-            (late (v .Γ) (v .x) (v .T) (v .run) (v .unknown) (v .den)) (occurs-so (v .x) (v .T) (v .unknown) (v .den) ∙ h));
-      };
+    in-mode = λ m. record {
+      run = λ j k.
+          let v = inst-asked sd a t k in
+          let f : Failed q w (record { st = s; code = 14; name = x .0; left = t; right = 0 }) (occursCheck (v .x) (v .T)) (s .left) =
+          record { base = pre .pre .room .base; within = room-within (pre .pre .room); code = refl; name = ap (λ (y : syntax.TyVar). y .number) (nm .of-etvar (v .x) (v .unknown)); types = e-occurs (v .den); left = refl } in
+          refuses begin f _
+          (ap (λ (i : Judgement). rule (mode m) (judge (mode m)) i (s .left) (s .fresh)) (v .is)
+          ∙ occurs-is (mode m) (judge (mode m)) (v .Γ) (v .x) (s .left) (s .fresh) sd (v .T) (pre .plain (v .T) (v .den))
+          (late (v .Γ) (v .x) (v .T) (v .run) (v .unknown) (v .den)) (occurs-so (v .x) (v .T) (v .unknown) (v .den) ∙ h));
     };
   }
 
-  pub solve-done : {w₁ : List ℕ} {z : Step} → b ≡ false → Closed w w₁ s g (ty x) t n z → SideFires instSolve q w w₁ s g a t n z
-  solve-done h c = record {
-    on = λ sd e. record {
-      in-mode = λ m. record {
-        run = λ j k.
-            let v = inst-asked sd a t k in
-            let c′ : Closed _ _ s g (v .x) t n _ = rw (nm .of-etvar (v .x) (v .unknown)) at c in
-            closed (instSolve sd) e (pre .sided .pre .room) (v .run) (v .den) c′ _
-            (ap (λ (i : Judgement). rule (mode m) (judge (mode m)) i (s .left) (s .fresh)) (v .is)
-            ∙ solved-is (mode m) (judge (mode m)) (v .Γ) (v .x) (s .left) (s .fresh) sd (v .T) (pre .plain (v .T) (v .den))
-            (late (v .Γ) (v .x) (v .T) (v .run) (v .unknown) (v .den)) (occurs-so (v .x) (v .T) (v .unknown) (v .den) ∙ h));
-      };
+  pub solve-done : {w₁ : List ℕ} {n : ℕ} {z : Step} → b ≡ false → n ≡ ruleNumber (instSolve sd) → Closed w w₁ s g (ty x) t n z
+      → FiresBoth q w w₁ s g (instAsk sd a t) z
+  solve-done {n = n} h e c = record {
+    in-mode = λ m. record {
+      run = λ j k.
+          let v = inst-asked sd a t k in
+          let c′ : Closed _ _ s g (v .x) t n _ = rw (nm .of-etvar (v .x) (v .unknown)) at c in
+          closed (instSolve sd) e (pre .pre .room) (v .run) (v .den) c′ _
+          (ap (λ (i : Judgement). rule (mode m) (judge (mode m)) i (s .left) (s .fresh)) (v .is)
+          ∙ solved-is (mode m) (judge (mode m)) (v .Γ) (v .x) (s .left) (s .fresh) sd (v .T) (pre .plain (v .T) (v .den))
+          (late (v .Γ) (v .x) (v .T) (v .run) (v .unknown) (v .den)) (occurs-so (v .x) (v .T) (v .unknown) (v .den) ∙ h));
     };
   }
 
 -- ## The unknown a against the unknown t
 
-pub etvar-named : {q w : List ℕ} {s : State} {g : Span} {a t n : ℕ} {R : Side → Rule} (sided : SidePre R q w s g a t n)
-    → ((T : Ty) → Den q w (s .top) t T → tyCode T ≡ 4) → HeldNamed q w (s .top) t
-etvar-named sided code =
-    let v = asked sided in
-    let u = is-etvar (v .T) (code (v .T) (v .den)) in
-    unknown-named (sided .pre .room) (rw (u .is) at (v .den))
+module _ {q w : List ℕ} {s : State} {g : Span} {sd : Side} {a t : ℕ} (pre : FormPre sd q w s g a t 4) where
+  pub etvar-named : HeldNamed q w (s .top) t
+  etvar-named =
+      let v = asked sd a t (pre .pre) in
+      let u = is-etvar (v .T) (pre .code (v .T) (v .den)) in
+      unknown-named (pre .pre .room) (rw (u .is) at (v .den))
 
-pub reach-done : {q w w₁ : List ℕ} {s : State} {g : Span} {a t n : ℕ} {y : TyVar} {z : Step} → ReachPre q w s g a t n → Named q w (s .top) t y
-    → Closed w w₁ s g (ty y) a n z → SideFires instReach q w w₁ s g a t n z
-reach-done {s = s} {g = g} {a = a} {t = t} {n = n} pre nm c = record {
-  on = λ sd e. record {
-    in-mode = λ m. record {
-      run = λ j k.
-          let v = inst-asked sd a t k in
-          let u = is-etvar (v .T) (pre .code (v .T) (v .den)) in
-          let d = rw (u .is) at (v .den) in
-          let c′ : Closed _ _ s g (u .a) a n _ = rw (nm .of-etvar (u .a) d) at c in
-          closed (instReach sd) e (pre .sided .pre .room) (v .run) (v .unknown) c′ _
-          (ap (λ (i : Judgement). rule (mode m) (judge (mode m)) i (s .left) (s .fresh)) (v .is ∙ ap (λ (T : Ty). inst sd (v .Γ) (v .x) T) (u .is))
-          ∙ reach-is (mode m) (judge (mode m)) (v .Γ) (v .x) (s .left) (s .fresh) sd (u .a) (pre .early .is (v .Γ) (v .x) (u .a) (v .run) (v .unknown) d));
-    };
-  };
-}
-
-module _ {q w : List ℕ} {s : State} {g : Span} {a t n : ℕ} (pre : MeetPre q w s g a t n) where
   module _ {x y : TyVar} {r : Bool} (nx : Named q w (s .top) a x) (ny : Named q w (s .top) t y) (bf : Before w g (ty x) (ty y) r) where
     meets : {r′ : Bool} → r ≡ r′ → Meets q w s g a t r′
     meets e = record {
@@ -161,15 +139,23 @@ module _ {q w : List ℕ} {s : State} {g : Span} {a t n : ℕ} (pre : MeetPre q 
           ∙ sym (bf .is run) ∙ e;
     }
 
-    pub meet-reach : r ≡ true → ReachPre q w s g a t (n + 1)
-    meet-reach e = record {
-      sided = record { side = pre .sided .side; number = in-row (pre .sided .side) (pre .sided .number) .reach; pre = pre .sided .pre };
-      code = pre .code;
-      early = meets e;
-    }
+    pub meet-reach : r ≡ true → ReachPre sd q w s g a t
+    meet-reach e = record { form = pre; early = meets e }
 
-    pub meet-solve : r ≡ false → SolvePre q w s g a t n
-    meet-solve e = record { sided = pre .sided; plain = λ T d. let c = pre .code T d in omega arith; late = meets e }
+    pub meet-solve : r ≡ false → SolvePre sd q w s g a t
+    meet-solve e = record { pre = pre .pre; plain = λ T d. let c = pre .code T d in omega arith; late = meets e }
 
-  pub meet-reached : {w₁ : List ℕ} {z : Step} → SideFires instReach q w w₁ s g a t (n + 1) z → SideFires instSolve q w w₁ s g a t n z
-  meet-reached f = record { on = λ sd e. f .on sd (in-row sd e .reach) }
+pub reach-done : {q w w₁ : List ℕ} {s : State} {g : Span} {sd : Side} {a t n : ℕ} {y : TyVar} {z : Step} → ReachPre sd q w s g a t → Named q w (s .top) t y
+    → n ≡ ruleNumber (instReach sd) → Closed w w₁ s g (ty y) a n z → FiresBoth q w w₁ s g (instAsk sd a t) z
+reach-done {s = s} {g = g} {sd = sd} {a = a} {t = t} {n = n} pre nm e c = record {
+  in-mode = λ m. record {
+    run = λ j k.
+        let v = inst-asked sd a t k in
+        let u = is-etvar (v .T) (pre .form .code (v .T) (v .den)) in
+        let d = rw (u .is) at (v .den) in
+        let c′ : Closed _ _ s g (u .a) a n _ = rw (nm .of-etvar (u .a) d) at c in
+        closed (instReach sd) e (pre .form .pre .room) (v .run) (v .unknown) c′ _
+        (ap (λ (i : Judgement). rule (mode m) (judge (mode m)) i (s .left) (s .fresh)) (v .is ∙ ap (λ (T : Ty). inst sd (v .Γ) (v .x) T) (u .is))
+        ∙ reach-is (mode m) (judge (mode m)) (v .Γ) (v .x) (s .left) (s .fresh) sd (u .a) (pre .early .is (v .Γ) (v .x) (u .a) (v .run) (v .unknown) d));
+  };
+}

@@ -3,9 +3,9 @@ use mathlib.Core.Path.{_≡_}
 use mathlib.Core.Bool.{Bool, true, false}
 use mathlib.Core.List.{List}
 use Prim.Native.Nat.{ℕ, _<_}
-use Rattle.definition.specs.Syntax.{TyVar, Ty, etvar, Ctx, Side, onL, onR, Rule, ruleNumber}
+use Rattle.definition.specs.Syntax.{TyVar, Ty, etvar, Ctx, Side, onL, onR}
 use Rattle.definition.specs.Contexts.{Key, kTVar, kMark, before}
-use Rattle.definition.specs.Rules.{tyCode, instSolve, instReach}
+use Rattle.definition.specs.Rules.{tyCode}
 use Rattle.layout.specs.Denotes.{Den, Run}
 use Rattle.layout.specs.declared.Span.{Span}
 use Rattle.layout.specs.declared.State.{State}
@@ -14,7 +14,6 @@ use Rattle.judging.specs.declared.Step.{Step}
 use Rattle.judging.specs.declared.Step.the-variants.{Done}
 use Rattle.contexts.specs.Build.{Replaced}
 use Rattle.contexts.specs.declared.Opened.{Opened}
-use Rattle.steps.specs.Modes.{FiresBoth}
 use Rattle.steps.specs.Opening.{OpensRight, OpensLeft}
 use Rattle.steps.specs.declared.Body.{Body}
 use Rattle.steps.specs.declared.Instance.{Instance}
@@ -32,6 +31,7 @@ abbrev pub firstOf : program.Side → ℕ
 firstOf L = 30
 firstOf R = 34
 
+-- the other one
 abbrev pub otherOf : program.Side → program.Side
 otherOf L = R
 otherOf R = L
@@ -41,38 +41,22 @@ pub record FormPre (side : Side) (q w : List ℕ) (s : State) (g : Span) (a t n 
   pub pre : RulePre q w s g (instAsk side a t)
   pub code : (T : Ty) → Den q w (s .top) t T → tyCode T ≡ n
 
--- ## Rules without premises: the rule's number tells the side
-
--- a rule of number n is asked, on the side that it has there
-pub record SidePre (R : Side → Rule) (q w : List ℕ) (s : State) (g : Span) (a ty n : ℕ) : Type 0 where
-  pub side : Side
-  pub number : n ≡ ruleNumber (R side)
-  pub pre : RulePre q w s g (instAsk side a ty)
-
--- it fires on every side that has it
-pub record SideFires (R : Side → Rule) (q w w′ : List ℕ) (s : State) (g : Span) (a ty n : ℕ) (z : Step) : Type 0 where
-  pub on : (side : Side) → n ≡ ruleNumber (R side) → FiresBoth q w w′ s g (instAsk side a ty) z
+-- ## Rules without premises
 
 -- in every context and for all unknowns that are denoted, the first stands before the second or it does not
 pub record Meets (q w : List ℕ) (s : State) (g : Span) (a b : ℕ) (r : Bool) : Type 0 where
   pub is : (Γ : Ctx) (x y : TyVar) → Run q w (s .top) (g .at) (g .n) Γ → Den q w (s .top) a (etvar x) → Den q w (s .top) b (etvar y) → before Γ x y ≡ r
 
 -- the type has no parts, and is no unknown that can be reached
-pub record SolvePre (q w : List ℕ) (s : State) (g : Span) (a ty n : ℕ) : Type 0 where
-  pub sided : SidePre instSolve q w s g a ty n
-  pub plain : (T : Ty) → Den q w (s .top) ty T → tyCode T < 5
-  pub late : Meets q w s g a ty false
+pub record SolvePre (side : Side) (q w : List ℕ) (s : State) (g : Span) (a t : ℕ) : Type 0 where
+  pub pre : RulePre q w s g (instAsk side a t)
+  pub plain : (T : Ty) → Den q w (s .top) t T → tyCode T < 5
+  pub late : Meets q w s g a t false
 
 -- the type is an unknown that can be reached
-pub record ReachPre (q w : List ℕ) (s : State) (g : Span) (a ty n : ℕ) : Type 0 where
-  pub sided : SidePre instReach q w s g a ty n
-  pub code : (T : Ty) → Den q w (s .top) ty T → tyCode T ≡ 4
-  pub early : Meets q w s g a ty true
-
--- the type is an unknown
-pub record MeetPre (q w : List ℕ) (s : State) (g : Span) (a ty n : ℕ) : Type 0 where
-  pub sided : SidePre instSolve q w s g a ty n
-  pub code : (T : Ty) → Den q w (s .top) ty T → tyCode T ≡ 4
+pub record ReachPre (side : Side) (q w : List ℕ) (s : State) (g : Span) (a t : ℕ) : Type 0 where
+  pub form : FormPre side q w s g a t 4
+  pub early : Meets q w s g a t true
 
 -- a context with a solved by the type r was built, and the rule of number n gives it
 pub record Closed (w w′ : List ℕ) (s : State) (g : Span) (a : TyVar) (r n : ℕ) (z : Step) : Type 0 where

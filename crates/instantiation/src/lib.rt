@@ -13,13 +13,12 @@ use steps::Instance;
 ghost use mathlib.Core.Path.{_≡_};
 ghost use Prim.Native.Nat.{_<_, _^_};
 ghost use Rattle.definition.specs.Syntax.{onL, onR};
-ghost use Rattle.definition.specs.Rules.{instSolve, instReach};
 ghost use Rattle.layout.specs.Names.{ty, key};
 ghost use Rattle.contexts.specs.Build.{Space};
 ghost use Rattle.judging.specs.Asking.{instAsk, JudgePre, RulePre};
 ghost use Rattle.steps.specs.Modes.{JudgedBoth, FiresBoth};
 ghost use Rattle.steps.specs.Opening.{ForallPre};
-ghost use Rattle.instantiation.specs.Sides.{side, firstOf, otherOf, binder, FormPre, Closed, SideFires, SolvePre, ReachPre, MeetPre, OpensOn};
+ghost use Rattle.instantiation.specs.Sides.{side, firstOf, otherOf, binder, FormPre, Closed, SolvePre, ReachPre, OpensOn};
 
 // The side on which the unknown stands.
 pub enum Side {
@@ -106,9 +105,9 @@ fn solved(work: &mut [u32], st: State, g: Span, a: TyVar, r: usize, rule: usize)
 }
 
 // InstLSolve (30), InstRSolve (34). Arrow and Forall have rules of their own, so that only monotypes come here: 16 is never given.
-fn solve(q: &[u32], work: &mut [u32], st: State, g: Span, a: usize, ty: usize, rule: usize) -> Step
-    requires { ⌜ SolvePre (now q) (now work) st g a ty rule ⌝ }
-    ensures { λ z. ⌜ SideFires instSolve (now (q .entry)) (now (work .entry)) (now (work .exit)) st g a ty rule z ⌝ }
+fn solve(q: &[u32], work: &mut [u32], st: State, g: Span, s: Side, a: usize, ty: usize) -> Step
+    requires { ⌜ SolvePre (side s) (now q) (now work) st g a ty ⌝ }
+    ensures { λ z. ⌜ FiresBoth (now (q .entry)) (now (work .entry)) (now (work .exit)) st g (instAsk (side s) a ty) z ⌝ }
 {
     let top = st.top;
     let x = types::name_of(q, work, top, a);
@@ -123,33 +122,33 @@ fn solve(q: &[u32], work: &mut [u32], st: State, g: Span, a: usize, ty: usize, r
             right: 0,
         });
     }
+    let rule = first(s);
     solved(work, st, g, x, ty, rule)
 }
 
 // InstLReach (31), InstRReach (35): the unknown ty is solved by a.
-fn reach(q: &[u32], work: &mut [u32], st: State, g: Span, a: usize, ty: usize, rule: usize) -> Step
-    requires { ⌜ ReachPre (now q) (now work) st g a ty rule ⌝ }
-    ensures { λ z. ⌜ SideFires instReach (now (q .entry)) (now (work .entry)) (now (work .exit)) st g a ty rule z ⌝ }
+fn reach(q: &[u32], work: &mut [u32], st: State, g: Span, s: Side, a: usize, ty: usize) -> Step
+    requires { ⌜ ReachPre (side s) (now q) (now work) st g a ty ⌝ }
+    ensures { λ z. ⌜ FiresBoth (now (q .entry)) (now (work .entry)) (now (work .exit)) st g (instAsk (side s) a ty) z ⌝ }
 {
-    let top = st.top;
-    let y = types::name_of(q, work, top, ty);
+    let rule = first(s) + 1;
+    let y = types::name_of(q, work, st.top, ty);
     solved(work, st, g, y, a, rule)
 }
 
-// An unknown against the unknown ty: reached where a stands later, else solved by the rule.
-fn meet(q: &[u32], work: &mut [u32], st: State, g: Span, a: usize, ty: usize, rule: usize) -> Step
-    requires { ⌜ MeetPre (now q) (now work) st g a ty rule ⌝ }
-    ensures { λ z. ⌜ SideFires instSolve (now (q .entry)) (now (work .entry)) (now (work .exit)) st g a ty rule z ⌝ }
+// An unknown against the unknown ty: reached where a stands later, else solved.
+fn meet(q: &[u32], work: &mut [u32], st: State, g: Span, s: Side, a: usize, ty: usize) -> Step
+    requires { ⌜ FormPre (side s) (now q) (now work) st g a ty 4 ⌝ }
+    ensures { λ z. ⌜ FiresBoth (now (q .entry)) (now (work .entry)) (now (work .exit)) st g (instAsk (side s) a ty) z ⌝ }
 {
     let top = st.top;
     let x = types::name_of(q, work, top, a);
     let y = types::name_of(q, work, top, ty);
     let reaches = contexts::before(work, g, x, y);
     if reaches {
-        let next = rule + 1;
-        return reach(q, work, st, g, a, ty, next);
+        return reach(q, work, st, g, s, a, ty);
     }
-    solve(q, work, st, g, a, ty, rule)
+    solve(q, work, st, g, s, a, ty)
 }
 
 // The unknown a on the left of ty.
@@ -201,13 +200,12 @@ fn inst_rule(q: &[u32], work: &mut [u32], st: State, g: Span, s: Side, a: usize,
     requires { ⌜ RulePre (now q) (now work) st g (instAsk (side s) a ty) ⌝ }
     ensures { λ z. ⌜ FiresBoth (now (q .entry)) (now (work .entry)) (now (work .exit)) st g (instAsk (side s) a ty) z ⌝ }
 {
-    let rule = first(s);
     let k = types::tag(q, work, st.top, ty);
     match k {
-        4 => meet(q, work, st, g, a, ty, rule),
+        4 => meet(q, work, st, g, s, a, ty),
         5 => inst_arr(q, work, st, g, s, a, ty),
         6 => inst_all(q, work, st, g, s, a, ty),
-        _ => solve(q, work, st, g, a, ty, rule),
+        _ => solve(q, work, st, g, s, a, ty),
     }
 }
 

@@ -110,7 +110,6 @@ pub +inst+inst-all+inst-arr+inst-l+inst-r+inst-rule+on-side-spec : {M : Type 1} 
     (λ t. inst-rule-lts.spec (inst-rule-claims t)
     (inst-rule-at t)
     inst-rule.Post
-    (inst-rule-first-requires t)
     (inst-rule-tag-requires t)
     (inst-rule-meet-requires t)
     (inst-rule-inst-arr-requires t)

@@ -1,22 +1,18 @@
 -- `meet` meets its contract.
-use native.Mathlib.Omega.{arith}
-use Rattle.instantiation.proofs.Sides.{in-row}
-use Rattle.instantiation.proofs.Solving.{side-unknown, side-run, etvar-named, meet-reach, meet-solve, meet-reached}
+use Rattle.instantiation.specs.Sides.{side}
+use Rattle.instantiation.proofs.Solving.{side-unknown, side-run, etvar-named, meet-reach, meet-solve}
 use borrow.Author.Needs.{needs}
 use Rattle.instantiation.proofs.meet.Statement.{statement}
 use Rattle.instantiation.proofs.meet.Tie as tie
 
 name-of-requires : tie.Need-name-of-requires
-name-of-requires c κs = side-unknown (c .before .before .before .pre .sided)
+name-of-requires c κs = side-unknown (side (c .before .before .before .args .s)) _ _ (c .before .before .before .pre .pre)
 
 name-of-requires-2 : tie.Need-name-of-requires-2
-name-of-requires-2 c κs = etvar-named (c .before .before .before .before .before .pre .sided) (c .before .before .before .before .before .pre .code)
+name-of-requires-2 c κs = etvar-named (c .before .before .before .before .before .pre)
 
 before-requires : tie.Need-before-requires
-before-requires c κs = side-run (c .before .before .before .before .before .before .before .pre .sided)
-
-add-next : tie.Need-add-next
-add-next c = omega (arith, in-row (c .before .before .before .before .before .before .before .before .before .pre .sided .side) (c .before .before .before .before .before .before .before .before .before .pre .sided .number) .fits)
+before-requires c κs = side-run (side (c .before .before .before .before .before .before .before .args .s)) _ _ (c .before .before .before .before .before .before .before .pre .pre)
 
 reach-requires : tie.Need-reach-requires
 reach-requires c κs = meet-reach (c .before .before .before .before .before .before .before .before .before .before .pre) (c .before .before .before .before .before .before .name-of .ensures) (c .before .before .before .before .name-of2 .ensures) (c .before .before .before2 .ensures) (c .before .if1 .taken)
@@ -25,7 +21,7 @@ same-length : tie.Need-same-length
 same-length c = search needs
 
 returns : tie.Need-returns
-returns c = meet-reached (c .before .before .before .before .before .before .before .before .before .before .before .before .before .pre) (c .before .before .reach .ensures)
+returns c = search needs
 
 solve-requires : tie.Need-solve-requires
 solve-requires c κs = meet-solve (c .before .before .before .before .before .before .before .before .before .before .pre) (c .before .before .before .before .before .before .name-of .ensures) (c .before .before .before .before .name-of2 .ensures) (c .before .before .before2 .ensures) (c .before .if1 .left)
@@ -43,7 +39,6 @@ meet-spec =
     name-of-requires
     name-of-requires-2
     before-requires
-    add-next
     reach-requires
     same-length
     returns

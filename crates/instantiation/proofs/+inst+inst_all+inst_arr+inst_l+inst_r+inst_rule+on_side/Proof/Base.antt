@@ -163,8 +163,6 @@ inst-r-claims t = (inst-below t, inst.Post)
 
 abbrev pub inst-rule-claims : ℕ → inst-rule-lts.Claims
 inst-rule-claims t = (
-  first-reads.Asked,
-  first-reads.Learnt,
   tag-reads.Asked,
   tag-reads.Learnt,
   meet-reads.Asked,

@@ -1,37 +1,33 @@
 -- What `inst_rule` needs.
 use native.Mathlib.Omega.{arith}
-use borrow.Author.Needs.{needs}
 use Rattle.instantiation.specs.Sides.{side}
-use Rattle.instantiation.proofs.Sides.{first-is}
-use Rattle.instantiation.proofs.Choosing.{choose-held, choose-form, choose-meet, choose-solve}
+use Rattle.instantiation.proofs.Solving.{side-held}
+use Rattle.instantiation.proofs.Choosing.{choose-form, choose-solve}
 use Prim.Native.Nat.{ℕ}
 use Rattle.instantiation.proofs.inst_rule.Reads as inst-rule
 use Rattle.instantiation.proofs.+inst+inst_all+inst_arr+inst_l+inst_r+inst_rule+on_side.Lts-inst_rule as inst-rule-lts
 use Rattle.instantiation.proofs.+inst+inst_all+inst_arr+inst_l+inst_r+inst_rule+on_side.Proof.Base.{inst-rule-at, inst-rule-claims}
 
-pub inst-rule-first-requires : (t : ℕ) → inst-rule-lts.Need-first-requires (inst-rule-claims t) (inst-rule-at t) inst-rule.Post
-inst-rule-first-requires t c κs = search needs
-
 pub inst-rule-tag-requires : (t : ℕ) → inst-rule-lts.Need-tag-requires (inst-rule-claims t) (inst-rule-at t) inst-rule.Post
-inst-rule-tag-requires t c κs = choose-held (side (c .before .before .before .before .args .s)) _ _ (c .before .before .before .before .pre .1)
+inst-rule-tag-requires t c κs = side-held (side (c .before .before .before .args .s)) _ _ (c .before .before .before .pre .1)
 
 pub inst-rule-meet-requires : (t : ℕ) → inst-rule-lts.Need-meet-requires (inst-rule-claims t) (inst-rule-at t) inst-rule.Post
-inst-rule-meet-requires t c κs = choose-meet (side (c .before .before .before .before .before .before .before .args .s)) _ _ (c .before .before .before .before .before .before .before .pre .1) (c .before .before .tag .ensures) (first-is (c .before .before .before .before .before .before .before .args .s) (c .before .before .before .before .first .ensures)) (c .before .match .keys1)
+inst-rule-meet-requires t c κs = choose-form (side (c .before .before .before .before .before .before .args .s)) _ _ (c .before .before .before .before .before .before .pre .1) (c .before .before .tag .ensures) (c .before .match .keys1)
 
 pub inst-rule-inst-arr-requires : (t : ℕ) → inst-rule-lts.Need-inst-arr-requires (inst-rule-claims t) (inst-rule-at t) inst-rule.Post
-inst-rule-inst-arr-requires t c κs = (omega (arith, c .before .before .before .before .before .before .before .pre .0), choose-form (side (c .before .before .before .before .before .before .before .args .s)) _ _ (c .before .before .before .before .before .before .before .pre .1) (c .before .before .tag .ensures) (c .before .match .keys2))
+inst-rule-inst-arr-requires t c κs = (omega (arith, c .before .before .before .before .before .before .pre .0), choose-form (side (c .before .before .before .before .before .before .args .s)) _ _ (c .before .before .before .before .before .before .pre .1) (c .before .before .tag .ensures) (c .before .match .keys2))
 
 pub inst-rule-inst-all-requires : (t : ℕ) → inst-rule-lts.Need-inst-all-requires (inst-rule-claims t) (inst-rule-at t) inst-rule.Post
-inst-rule-inst-all-requires t c κs = (omega (arith, c .before .before .before .before .before .before .before .pre .0), choose-form (side (c .before .before .before .before .before .before .before .args .s)) _ _ (c .before .before .before .before .before .before .before .pre .1) (c .before .before .tag .ensures) (c .before .match .keys3))
+inst-rule-inst-all-requires t c κs = (omega (arith, c .before .before .before .before .before .before .pre .0), choose-form (side (c .before .before .before .before .before .before .args .s)) _ _ (c .before .before .before .before .before .before .pre .1) (c .before .before .tag .ensures) (c .before .match .keys3))
 
 pub inst-rule-solve-requires : (t : ℕ) → inst-rule-lts.Need-solve-requires (inst-rule-claims t) (inst-rule-at t) inst-rule.Post
-inst-rule-solve-requires t c κs = choose-solve (side (c .before .before .before .before .before .before .before .args .s)) _ _ (c .before .before .before .before .before .before .before .pre .1) (c .before .before .tag .ensures) (first-is (c .before .before .before .before .before .before .before .args .s) (c .before .before .before .before .first .ensures)) (c .before .match .rest .0 .0 .1) (c .before .match .rest .0 .1) (c .before .match .rest .1)
+inst-rule-solve-requires t c κs = choose-solve (side (c .before .before .before .before .before .before .args .s)) _ _ (c .before .before .before .before .before .before .pre .1) (c .before .before .tag .ensures) (c .before .match .rest .0 .0 .1) (c .before .match .rest .0 .1) (c .before .match .rest .1)
 
 pub inst-rule-same-length : (t : ℕ) → inst-rule-lts.Need-same-length (inst-rule-claims t) (inst-rule-at t) inst-rule.Post
 inst-rule-same-length t c = c .before .before .meet .kept .1 .0
 
 pub inst-rule-returns : (t : ℕ) → inst-rule-lts.Need-returns (inst-rule-claims t) (inst-rule-at t) inst-rule.Post
-inst-rule-returns t c = c .before .before .meet .ensures .on (side (c .before .before .before .before .before .before .before .before .before .before .args .s)) (first-is (c .before .before .before .before .before .before .before .before .before .before .args .s) (c .before .before .before .before .before .before .before .first .ensures))
+inst-rule-returns t c = c .before .before .meet .ensures
 
 pub inst-rule-same-length-2 : (t : ℕ) → inst-rule-lts.Need-same-length-2 (inst-rule-claims t) (inst-rule-at t) inst-rule.Post
 inst-rule-same-length-2 t c = c .before .before .inst-arr .kept .1 .0
@@ -49,4 +45,4 @@ pub inst-rule-same-length-4 : (t : ℕ) → inst-rule-lts.Need-same-length-4 (in
 inst-rule-same-length-4 t c = c .before .before .solve .kept .1 .0
 
 pub inst-rule-returns-4 : (t : ℕ) → inst-rule-lts.Need-returns-4 (inst-rule-claims t) (inst-rule-at t) inst-rule.Post
-inst-rule-returns-4 t c = c .before .before .solve .ensures .on (side (c .before .before .before .before .before .before .before .before .before .before .args .s)) (first-is (c .before .before .before .before .before .before .before .before .before .before .args .s) (c .before .before .before .before .before .before .before .first .ensures))
+inst-rule-returns-4 t c = c .before .before .solve .ensures
