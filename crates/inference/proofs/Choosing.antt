@@ -1,13 +1,14 @@
 -- The dispatchers: what the code's choice tells the rule that it calls.
 use mathlib.Core.Path.{_≡_, refl, sym, _∙_}
+use mathlib.Core.Bool.{true, false}
 use mathlib.Core.List.{List}
 use Prim.Native.Nat.{ℕ, _+_, _≤_, _<_}
 use native.Mathlib.Omega.{arith}
 use borrow.Author.Tests.{le-leb, lt-leb}
 use lib.ListN.{length, getD}
 use Rattle.definition.specs.Syntax
-use Rattle.definition.specs.Syntax.{pick, Expr, evar, app, abs, tapp, tabs, ann, litInt, litBool, letIn, ifThenElse, binOp, Ctx, ruleNumber}
-use Rattle.definition.specs.Rules.{Judge, when, exprCode, infBoth, infEq, infBinOp, _orElse_}
+use Rattle.definition.specs.Syntax.{pick, Expr, evar, app, abs, tapp, tabs, ann, litInt, litBool, letIn, ifThenElse, binOp, ruleNumber}
+use Rattle.definition.specs.Rules.{when, exprCode, infBoth, infEq, infBinOp, _orElse_}
 use Rattle.layout.specs.declared.Span.{Span}
 use Rattle.layout.specs.declared.State.{State}
 use Rattle.layout.proofs.Places.{expr-code}
@@ -17,8 +18,7 @@ use Rattle.types.proofs.Held.{room-held}
 use Rattle.judging.specs.Asking.{inferAsk, checkAsk, appAsk, RulePre}
 use Rattle.judging.proofs.Asking.{infer-asked, check-asked, app-asked}
 use Rattle.rules.specs.Taking.{InferPre, Choice, lit-int, lit-bool, lam, all, sub, CheckPre, AppPre, RefusePre}
-use Rattle.inference.specs.Rules.{BothPre, EqPre}
-use Rattle.inference.proofs.InferTwo.{op}
+use Rattle.inference.specs.Rules.{Operates}
 
 -- ## infer
 
@@ -65,44 +65,22 @@ module _ {q w : List ℕ} {s : State} {g : Span} {ex : ℕ} (pre : RulePre q w s
 
 -- ## Operators
 
-module _ (judge : Judge) (Γ : Ctx) {o : ℕ} (e e′ : Expr) where
-  is-arith : o ≤ 4 → infBinOp judge Γ o e e′ ≡ infBoth judge Syntax.InfArith Syntax.int Syntax.int Γ e e′
-  unfolding infBinOp when pick _orElse_
-  is-arith h = rw (le-leb o 4 h) refl
+module _ {o : ℕ} where
+  pub is-arith : o ≤ 4 → Operates o (false, 2048, 2048, 8)
+  unfolding ruleNumber infBinOp infBoth when pick _orElse_
+  is-arith u = record { r = Syntax.InfArith; A = _; C = _; number = refl; side = int-den; gives = int-den; is = λ i judge Γ e e′. rw (le-leb o 4 u) refl }
 
-  is-bool : 4 < o → o ≤ 6 → infBinOp judge Γ o e e′ ≡ infBoth judge Syntax.InfBool Syntax.bool Syntax.bool Γ e e′
-  unfolding infBinOp when pick _orElse_
-  is-bool l h = rw (lt-leb o 4 l, le-leb o 6 h) refl
+  pub is-bool : 4 < o → o ≤ 6 → Operates o (false, 2049, 2049, 9)
+  unfolding ruleNumber infBinOp infBoth when pick _orElse_
+  is-bool l u = record { r = Syntax.InfBool; A = _; C = _; number = refl; side = bool-den; gives = bool-den; is = λ i judge Γ e e′. rw (lt-leb o 4 l, le-leb o 6 u) refl }
 
-  is-eq : 6 < o → o ≤ 8 → infBinOp judge Γ o e e′ ≡ infEq judge Γ e e′
-  unfolding infBinOp when pick _orElse_
-  is-eq l h = let i : 4 < o = omega arith in rw (lt-leb o 4 i, lt-leb o 6 l, le-leb o 8 h) refl
+  pub is-eq : 6 < o → o ≤ 8 → Operates o (true, 2048, 2049, 11)
+  unfolding ruleNumber infBinOp infEq when pick _orElse_
+  is-eq l u = record { r = Syntax.InfEq; A = _; C = _; number = refl; side = int-den; gives = bool-den; is = λ i judge Γ e e′. let j : 4 < o = omega arith in rw (lt-leb o 4 j, lt-leb o 6 l, le-leb o 8 u) refl }
 
-  is-cmp : 8 < o → infBinOp judge Γ o e e′ ≡ infBoth judge Syntax.InfCmp Syntax.int Syntax.bool Γ e e′
-  unfolding infBinOp when pick _orElse_
-  is-cmp l = let i : 4 < o = omega arith in let j : 6 < o = omega arith in rw (lt-leb o 4 i, lt-leb o 6 j, lt-leb o 8 l) refl
-
-module _ {q w : List ℕ} {s : State} {g : Span} {ex k : ℕ} (pre : InferPre q w s g ex 26) (h : k ≡ getD q (ex + 1) 0) where
-  pub op-some : 1 ≤ k
-  op-some = let v = op pre (pre .rule .asks) in let i = v .op .is in omega (arith, v .some)
-
-  pub arith-pre : k ≤ 4 → BothPre q w s g ex 2048 2048 8
-  unfolding ruleNumber
-  arith-pre u = let b = pre .rule .room .base in
-      record { pre = pre; r = Syntax.InfArith; A = _; C = _; number = refl; left = int-den b; right = int-den b; is = λ judge Γ e e′. is-arith judge Γ e e′ (omega arith) }
-
-  pub bool-pre : 4 < k → k ≤ 6 → BothPre q w s g ex 2049 2049 9
-  unfolding ruleNumber
-  bool-pre l u = let b = pre .rule .room .base in
-      record { pre = pre; r = Syntax.InfBool; A = _; C = _; number = refl; left = bool-den b; right = bool-den b; is = λ judge Γ e e′. is-bool judge Γ e e′ (omega arith) (omega arith) }
-
-  pub eq-pre : 6 < k → k ≤ 8 → EqPre q w s g ex
-  eq-pre l u = record { pre = pre; is = λ judge Γ e e′. is-eq judge Γ e e′ (omega arith) (omega arith) }
-
-  pub cmp-pre : 8 < k → BothPre q w s g ex 2048 2049 10
-  unfolding ruleNumber
-  cmp-pre l = let b = pre .rule .room .base in
-      record { pre = pre; r = Syntax.InfCmp; A = _; C = _; number = refl; left = int-den b; right = bool-den b; is = λ judge Γ e e′. is-cmp judge Γ e e′ (omega arith) }
+  pub is-cmp : (1 ≤ o → 8 < o) → Operates o (false, 2048, 2049, 10)
+  unfolding ruleNumber infBinOp infBoth when pick _orElse_
+  is-cmp l = record { r = Syntax.InfCmp; A = _; C = _; number = refl; side = int-den; gives = bool-den; is = λ i judge Γ e e′. let h : 4 < o = omega (arith, l i) in let j : 6 < o = omega (arith, l i) in rw (lt-leb o 4 h, lt-leb o 6 j, lt-leb o 8 (l i)) refl }
 
 -- ## check
 

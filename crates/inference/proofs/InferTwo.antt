@@ -1,29 +1,31 @@
 -- The rules of infer that ask two judgements: InfApp, InfLet, and the operators.
 use mathlib.Core.Path.{_≡_, refl, _∙_}
-use mathlib.Core.Bool.{true}
+use mathlib.Core.Bool.{Bool, true, false}
+use mathlib.Core.Logic.{_⊎_, ⊎-elim}
 use mathlib.Core.List.{List}
 use Prim.Native.Nat.{ℕ, _+_, _*_, _≤_, _<_, _^_}
 use native.Mathlib.Omega.{arith}
 use lib.ListN.{length, getD}
 use Rattle.definition.specs.Syntax
-use Rattle.definition.specs.Syntax.{TmVar, bool, Judgement, infer, check, inferApp, ruleNumber, leaf, _&_, children, varBnd}
+use Rattle.definition.specs.Syntax.{pick, TmVar, Ty, Expr, Ctx, Judgement, infer, check, inferApp, ruleNumber, leaf, _&_, children, varBnd}
 use Rattle.definition.specs.Run.{_>>=_, give}
 use Rattle.definition.specs.Contexts.{kVar, _▹_, solvedAndRight}
 use Rattle.definition.specs.Types.{apply}
-use Rattle.definition.specs.Rules.{rule, judge, inferRule, infApp, infLet, infBoth, infEq}
+use Rattle.definition.specs.Rules.{rule, judge, inferRule, infApp, infLet}
 use Rattle.layout.specs.Names.{tm, ty}
 use Rattle.layout.specs.Places.{ExprAt}
+use Rattle.layout.specs.Denotes.{Den, Run}
 use Rattle.layout.specs.declared.Span.{Span}
 use Rattle.layout.specs.declared.State.{State}
 use Rattle.layout.specs.declared.TmVar as tmvar
 use Rattle.layout.specs.declared.Made.{Made}
 use Rattle.layout.specs.declared.Made.the-variants as made
 use Rattle.layout.proofs.Places.{expr-code}
-use Rattle.layout.proofs.Denotes.{bool-den}
 use Rattle.contexts.specs.Build.{Space, Pushed}
 use Rattle.contexts.specs.declared.Opened.{Opened}
 use Rattle.substitution.specs.Calls.{ApplyPre, Applied}
 use Rattle.judging.specs.declared.Answer.{Answer}
+use Rattle.judging.specs.declared.Ask.{Ask}
 use Rattle.judging.specs.declared.Mode.{Mode}
 use Rattle.judging.specs.declared.Step.{Step}
 use Rattle.judging.specs.declared.Step.the-variants.{Done, Spent}
@@ -36,8 +38,9 @@ use Rattle.rules.specs.Taking.{InferPre}
 use Rattle.rules.specs.Going.{PlainOut, kept, KeepOut}
 use Rattle.rules.proofs.Forms.{App, Let, BinOp}
 use Rattle.rules.proofs.Before.{var-entry}
-use Rattle.rules.proofs.Ways.{Way, asks-infer, asks-check, asks-app, den-on, otherwise, Back, back, grown, apply-pre, AppliedTo, apply-spent, apply-done, finish}
-use Rattle.inference.specs.Rules.{BothPre, EqPre}
+use Rattle.rules.proofs.Ways.{Way, asks-infer, asks-check, asks-app, otherwise, Back, back, grown, apply-pre, AppliedTo, apply-spent, apply-done, finish}
+use Rattle.inference.specs.declared.Sides.{Sides}
+use Rattle.inference.specs.Rules.{infSides, Operates}
 use Rattle.inference.proofs.Starting.{outcome, begin-infer, shape, after-expr, in-table}
 
 -- ## InfApp
@@ -195,9 +198,29 @@ module _ (m : Mode) {q w : List ℕ} {s : State} {g : Span} {ex : ℕ} (pre : In
 
 -- ## Operators
 
--- both sides of an operator stand in the question
-module _ {q w : List ℕ} {s : State} {g : Span} {ex : ℕ} (pre : InferPre q w s g ex 26) where
-  pub op : {j : Judgement} (k : Asks q w (s .top) g (inferAsk ex) j) → BinOp q ex (infer-asked ex k .e)
+-- the left side, as the code asks it and as the definition does
+abbrev pub leftAsk : Bool → ℕ → ℕ → Ask
+leftAsk b e a = pick b (inferAsk e) (checkAsk e a)
+
+left-asks : (b : Bool) {q w : List ℕ} {t : ℕ} {g : Span} {e a : ℕ} {Γ : Ctx} {f : Expr} {A : Ty} → Run q w t (g .at) (g .n) Γ → ExprAt q e f → Den q w t a A
+    → Asks q w t g (leftAsk b e a) (pick b (infer Γ f) (check Γ f A))
+unfolding pick
+left-asks true n x d = as-infer refl n x
+left-asks false n x d = as-check refl n x d
+
+-- the type that the right side is checked against: u is x or y, as b says
+abbrev pub Picks : Bool → ℕ → ℕ → ℕ → Type 0
+Picks b x y u = ((b ≡ true) × (u ≡ x)) ⊎ ((b ≡ false) × (u ≡ y))
+
+right-den : {b : Bool} {q w : List ℕ} {t x y u : ℕ} {X Y : Ty} → Picks b x y u → Den q w t x X → Den q w t y Y → Den q w t u (pick b X Y)
+unfolding pick
+right-den h d e = ⊎-elim (λ i. rw (i .0, i .1) d) (λ i. rw (i .0, i .1) e) h
+
+module _ (m : Mode) {q w : List ℕ} {s : State} {g : Span} {ex : ℕ} (pre : InferPre q w s g ex 26) where
+  abbrev AsksOp : Judgement → Type 0
+  AsksOp j = Asks q w (s .top) g (inferAsk ex) j
+
+  op : {j : Judgement} (k : AsksOp j) → BinOp q ex (infer-asked ex k .e)
   op k = shape pre k
 
   pub op-word : ex + 1 < length q
@@ -206,105 +229,60 @@ module _ {q w : List ℕ} {s : State} {g : Span} {ex : ℕ} (pre : InferPre q w 
   pub op-table : 16 + (ex + 2) < length w
   op-table = in-table (pre .rule .room) (expr-code (op (pre .rule .asks) .first) .inside)
 
-  op-right : {p : ℕ} → p ≡ getD w (16 + (ex + 2)) 0 → {j : Judgement} (k : Asks q w (s .top) g (inferAsk ex) j) → ExprAt q p (op k .d)
-  op-right h k = rw (after-expr (pre .rule .room .base) h (op k .first)) (op k .second)
+  pub op-infer : JudgePre q w s g (inferAsk (ex + 2))
+  op-infer = let k = pre .rule .asks in asks-infer (pre .rule .room) (as-infer refl (infer-asked ex k .run) (op k .first))
 
--- InfArith, InfBool, InfCmp
-module _ (m : Mode) {q w : List ℕ} {s : State} {g : Span} {ex a c n : ℕ} (pre : BothPre q w s g ex a c n) where
-  abbrev AsksBoth : Judgement → Type 0
-  AsksBoth j = Asks q w (s .top) g (inferAsk ex) j
+  module _ {n : ℕ} {o : Sides} (h : n ≡ getD q (ex + 1) 0) (by : Operates n o) where
+    op-side : Den q w (s .top) (o .1) (by .A)
+    op-side = by .side (pre .rule .room .base)
 
-  both-way : {j : Judgement} (k : AsksBoth j)
-      → Way q w w s s leaf (20 + 28 * g .n) (outcome m s j)
-      (judge (mode m) (check (infer-asked ex k .Γ) (op (pre .pre) k .f) (pre .A)) >>= λ r. judge (mode m) (check (r .1) (op (pre .pre) k .d) (pre .A))
-      >>= λ u. give (pre .r, pre .C, u .1, r .2 & u .2 & leaf))
-  unfolding inferRule infBoth
-  both-way k =
-      let v = op (pre .pre) k in
-      begin-infer m (pre .pre .rule) (infer-asked ex k .is) (v .is) (rw (← v .op .is) (pre .is (judge (mode m)) (infer-asked ex k .Γ) (v .f) (v .d)))
+    pub op-check : JudgePre q w s g (checkAsk (ex + 2) (o .1))
+    op-check = let k = pre .rule .asks in asks-check (pre .rule .room) (as-check refl (infer-asked ex k .run) (op k .first) op-side)
 
-  both-asks : {j : Judgement} (k : AsksBoth j) → Asks q w (s .top) g (checkAsk (ex + 2) a) (check (infer-asked ex k .Γ) (op (pre .pre) k .f) (pre .A))
-  both-asks k = as-check refl (infer-asked ex k .run) (op (pre .pre) k .first) (pre .left)
+    op-way : {j : Judgement} (k : AsksOp j)
+        → Way q w w s s leaf (20 + 28 * g .n) (outcome m s j)
+        (infSides (judge (mode m)) (o .0) (by .r) (by .A) (by .C) (infer-asked ex k .Γ) (op k .f) (op k .d))
+    unfolding inferRule
+    op-way k =
+        let v = op k in
+        let i : n ≡ v .o = h ∙ v .op .is in
+        begin-infer m (pre .rule) (infer-asked ex k .is) (v .is) (rw (← i) (by .is (omega (arith, v .some)) (judge (mode m)) (infer-asked ex k .Γ) (v .f) (v .d)))
 
-  pub both-ask : JudgePre q w s g (checkAsk (ex + 2) a)
-  both-ask = asks-check (pre .pre .rule .room) (both-asks (pre .pre .rule .asks))
+    op-asks : {j : Judgement} (k : AsksOp j)
+        → Asks q w (s .top) g (leftAsk (o .0) (ex + 2) (o .1)) (pick (o .0) (infer (infer-asked ex k .Γ) (op k .f)) (check (infer-asked ex k .Γ) (op k .f) (by .A)))
+    op-asks k = left-asks (o .0) (infer-asked ex k .run) (op k .first) op-side
 
-  module _ {w₁ : List ℕ} {z : Step} (call : Judged m q w w₁ s g (checkAsk (ex + 2) a) z) where
-    pub both-else : NotDone z → Fires m q w w₁ s g (inferAsk ex) z
-    both-else nd = record { run = λ j k. otherwise _ _ (both-way k) (call .run _ (both-asks k)) nd }
+    module _ {w₁ : List ℕ} {z : Step} (call : Judged m q w w₁ s g (leftAsk (o .0) (ex + 2) (o .1)) z) where
+      pub op-else : NotDone z → Fires m q w w₁ s g (inferAsk ex) z
+      op-else nd = record { run = λ j k. otherwise _ _ (op-way k) (call .run _ (op-asks k)) nd }
 
-    module _ {r : Answer} (d : z ≡ Done r) {p : ℕ} (h : p ≡ getD w (16 + (ex + 2)) 0) where
-      both-back : {j : Judgement} (k : AsksBoth j) → Back _ _ (both-way k) (call .run _ (both-asks k)) r
-      both-back k = back _ _ (both-way k) (call .run _ (both-asks k)) d
+      module _ {r : Answer} (d : z ≡ Done r) {p t : ℕ} (i : p ≡ getD w (16 + (ex + 2)) 0)
+          (u : Picks (o .0) (r .ty) (o .1) t) where
+        op-back : {j : Judgement} (k : AsksOp j) → Back _ _ (op-way k) (call .run _ (op-asks k)) r
+        op-back k = back _ _ (op-way k) (call .run _ (op-asks k)) d
 
-      both-asks₂ : {j : Judgement} (k : AsksBoth j) → Asks q w₁ (r .st .top) (r .g) (checkAsk p a) (check (both-back k .Δ) (op (pre .pre) k .d) (pre .A))
-      both-asks₂ k = let b = both-back k in as-check refl (b .run) (op-right (pre .pre) h k) (b .stays (pre .left))
+        op-asks₂ : {j : Judgement} (k : AsksOp j)
+            → Asks q w₁ (r .st .top) (r .g) (checkAsk p t) (check (op-back k .Δ) (op k .d) (pick (o .0) (op-back k .C) (by .A)))
+        op-asks₂ k =
+            let b = op-back k in
+            let e : ExprAt q p (op k .d) = rw (after-expr (pre .rule .room .base) i (op k .first)) (op k .second) in
+            as-check refl (b .run) e (right-den u (b .den) (b .stays op-side))
 
-      pub both-ask₂ : JudgePre q w₁ (r .st) (r .g) (checkAsk p a)
-      both-ask₂ = let k = pre .pre .rule .asks in asks-check (both-back k .way .room) (both-asks₂ k)
+        pub op-ask₂ : JudgePre q w₁ (r .st) (r .g) (checkAsk p t)
+        op-ask₂ = let k = pre .rule .asks in asks-check (op-back k .way .room) (op-asks₂ k)
 
-      pub both-falls : r .st .left ≤ s .left
-      both-falls = both-back (pre .pre .rule .asks) .less
+        pub op-falls : r .st .left ≤ s .left
+        op-falls = op-back (pre .rule .asks) .less
 
-      module _ {w₂ : List ℕ} {y : Step} (call₂ : Judged m q w₁ w₂ (r .st) (r .g) (checkAsk p a) y) where
-        pub both-else₂ : NotDone y → Fires m q w w₂ s g (inferAsk ex) y
-        both-else₂ nd = record { run = λ j k. otherwise _ _ (both-back k .way) (call₂ .run _ (both-asks₂ k)) nd }
+        module _ {w₂ : List ℕ} {y : Step} (call₂ : Judged m q w₁ w₂ (r .st) (r .g) (checkAsk p t) y) where
+          pub op-else₂ : NotDone y → Fires m q w w₂ s g (inferAsk ex) y
+          op-else₂ nd = record { run = λ j k. otherwise _ _ (op-back k .way) (call₂ .run _ (op-asks₂ k)) nd }
 
-        pub both-done : {u : Answer} {o : Step} → y ≡ Done u
-            → PlainOut (u .st) (u .g) c n 2 o → Fires m q w w₂ s g (inferAsk ex) o
-        unfolding children
-        both-done d₂ fin = record {
-          run = λ j k.
-              let b = back _ _ (both-back k .way) (call₂ .run _ (both-asks₂ k)) d₂ in
-              finish (pre .r) (fin .finished q w₂) (b .run) (den-on (b .way) (pre .right)) (b .way) (omega arith) (pre .number) refl (omega arith);
-        }
-
--- InfEq
-module _ (m : Mode) {q w : List ℕ} {s : State} {g : Span} {ex : ℕ} (pre : EqPre q w s g ex) where
-  abbrev AsksEq : Judgement → Type 0
-  AsksEq j = Asks q w (s .top) g (inferAsk ex) j
-
-  eq-way : {j : Judgement} (k : AsksEq j)
-      → Way q w w s s leaf (20 + 28 * g .n) (outcome m s j)
-      (judge (mode m) (infer (infer-asked ex k .Γ) (op (pre .pre) k .f)) >>= λ r. judge (mode m) (check (r .1) (op (pre .pre) k .d) (r .0))
-      >>= λ u. give (Syntax.InfEq, bool, u .1, r .2 & u .2 & leaf))
-  unfolding inferRule infEq
-  eq-way k =
-      let v = op (pre .pre) k in
-      begin-infer m (pre .pre .rule) (infer-asked ex k .is) (v .is) (rw (← v .op .is) (pre .is (judge (mode m)) (infer-asked ex k .Γ) (v .f) (v .d)))
-
-  eq-asks : {j : Judgement} (k : AsksEq j) → Asks q w (s .top) g (inferAsk (ex + 2)) (infer (infer-asked ex k .Γ) (op (pre .pre) k .f))
-  eq-asks k = as-infer refl (infer-asked ex k .run) (op (pre .pre) k .first)
-
-  pub eq-ask : JudgePre q w s g (inferAsk (ex + 2))
-  eq-ask = asks-infer (pre .pre .rule .room) (eq-asks (pre .pre .rule .asks))
-
-  module _ {w₁ : List ℕ} {z : Step} (call : Judged m q w w₁ s g (inferAsk (ex + 2)) z) where
-    pub eq-else : NotDone z → Fires m q w w₁ s g (inferAsk ex) z
-    eq-else nd = record { run = λ j k. otherwise _ _ (eq-way k) (call .run _ (eq-asks k)) nd }
-
-    module _ {r : Answer} (d : z ≡ Done r) {p : ℕ} (h : p ≡ getD w (16 + (ex + 2)) 0) where
-      eq-back : {j : Judgement} (k : AsksEq j) → Back _ _ (eq-way k) (call .run _ (eq-asks k)) r
-      eq-back k = back _ _ (eq-way k) (call .run _ (eq-asks k)) d
-
-      eq-asks₂ : {j : Judgement} (k : AsksEq j) → Asks q w₁ (r .st .top) (r .g) (checkAsk p (r .ty)) (check (eq-back k .Δ) (op (pre .pre) k .d) (eq-back k .C))
-      eq-asks₂ k = let b = eq-back k in as-check refl (b .run) (op-right (pre .pre) h k) (b .den)
-
-      pub eq-ask₂ : JudgePre q w₁ (r .st) (r .g) (checkAsk p (r .ty))
-      eq-ask₂ = let k = pre .pre .rule .asks in asks-check (eq-back k .way .room) (eq-asks₂ k)
-
-      pub eq-falls : r .st .left ≤ s .left
-      eq-falls = eq-back (pre .pre .rule .asks) .less
-
-      module _ {w₂ : List ℕ} {y : Step} (call₂ : Judged m q w₁ w₂ (r .st) (r .g) (checkAsk p (r .ty)) y) where
-        pub eq-else₂ : NotDone y → Fires m q w w₂ s g (inferAsk ex) y
-        eq-else₂ nd = record { run = λ j k. otherwise _ _ (eq-back k .way) (call₂ .run _ (eq-asks₂ k)) nd }
-
-        pub eq-done : {u : Answer} {o : Step} → y ≡ Done u
-            → PlainOut (u .st) (u .g) 2049 11 2 o → Fires m q w w₂ s g (inferAsk ex) o
-        unfolding ruleNumber children
-        eq-done d₂ fin = record {
-          run = λ j k.
-              let b = back _ _ (eq-back k .way) (call₂ .run _ (eq-asks₂ k)) d₂ in
-              finish Syntax.InfEq (fin .finished q w₂) (b .run) (bool-den (b .way .room .base)) (b .way) (omega arith) refl refl (omega arith);
-        }
+          pub op-done : {v : Answer} {x : Step} → y ≡ Done v
+              → PlainOut (v .st) (v .g) (o .2) (o .3) 2 x → Fires m q w w₂ s g (inferAsk ex) x
+          unfolding children
+          op-done d₂ fin = record {
+            run = λ j k.
+                let b = back _ _ (op-back k .way) (call₂ .run _ (op-asks₂ k)) d₂ in
+                finish (by .r) (fin .finished q w₂) (b .run) (by .gives (b .way .room .base)) (b .way) (omega arith) (by .number) refl (omega arith);
+          }

@@ -2,36 +2,34 @@
 use mathlib.Core.Path.{_≡_}
 use mathlib.Core.Bool.{Bool}
 use mathlib.Core.List.{List}
-use Prim.Native.Nat.{ℕ, _+_}
-use lib.ListN.{getD}
-use Rattle.definition.specs.Syntax.{Ty, Expr, Ctx, subtype, Rule, ruleNumber}
-use Rattle.definition.specs.Run.{M, _>>=_}
-use Rattle.definition.specs.Rules.{Result, Judge, infBoth, infEq, infBinOp, judge}
-use Rattle.layout.specs.Denotes.{Den, Run}
+use Prim.Native.Nat.{ℕ, _≤_}
+use Rattle.definition.specs.Syntax.{pick, Ty, Expr, Ctx, infer, check, subtype, Rule, ruleNumber, leaf, _&_}
+use Rattle.definition.specs.Run.{M, _>>=_, give}
+use Rattle.definition.specs.Rules.{Fired, Result, Judge, infBinOp, judge}
+use Rattle.layout.specs.Denotes.{Base, Den, Run}
 use Rattle.layout.specs.declared.Span.{Span}
 use Rattle.layout.specs.declared.State.{State}
 use Rattle.judging.specs.declared.Mode.{Mode}
 use Rattle.judging.specs.declared.Step.{Step}
 use Rattle.judging.specs.Asking.{mode}
 use Rattle.judging.specs.Ending.{RunsJ}
-use Rattle.rules.specs.Taking.{InferPre}
 use Rattle.rules.specs.Going.{applyBoth}
+use Rattle.inference.specs.declared.Sides.{Sides}
 
--- the operator's rule r checks both sides against A and gives C
-pub record BothPre (q w : List ℕ) (s : State) (g : Span) (ex a c n : ℕ) : Type 0 where
-  pub pre : InferPre q w s g ex 26
+-- InfEq infers its left side (b), the other operators check it against A; the right side is checked against the same type
+abbrev pub infSides : Judge → Bool → Rule → Ty → Ty → Ctx → Expr → Expr → M Fired
+infSides judge b r A C Γ e e′ = judge (pick b (infer Γ e) (check Γ e A)) >>= λ x. judge (check (x .1) e′ (pick b (x .0) A))
+    >>= λ y. give (r, C, y .1, x .2 & y .2 & leaf)
+
+-- what the rule for the operator k asks
+pub record Operates (k : ℕ) (o : Sides) : Type 0 where
   pub r : Rule
   pub A : Ty
   pub C : Ty
-  pub number : n ≡ ruleNumber r
-  pub left : Den q w (s .top) a A
-  pub right : Den q w (s .top) c C
-  pub is : (judge : Judge) (Γ : Ctx) (e e′ : Expr) → infBinOp judge Γ (getD q (ex + 1) 0) e e′ ≡ infBoth judge r A C Γ e e′
-
--- the operator compares any two values
-pub record EqPre (q w : List ℕ) (s : State) (g : Span) (ex : ℕ) : Type 0 where
-  pub pre : InferPre q w s g ex 26
-  pub is : (judge : Judge) (Γ : Ctx) (e e′ : Expr) → infBinOp judge Γ (getD q (ex + 1) 0) e e′ ≡ infEq judge Γ e e′
+  pub number : o .3 ≡ ruleNumber r
+  pub side : {q w : List ℕ} {t : ℕ} → Base q w t → Den q w t (o .1) A
+  pub gives : {q w : List ℕ} {t : ℕ} → Base q w t → Den q w t (o .2) C
+  pub is : 1 ≤ k → (judge : Judge) (Γ : Ctx) (e e′ : Expr) → infBinOp judge Γ k e e′ ≡ infSides judge (o .0) r A C Γ e e′
 
 -- the context is applied to both types, where b says so, and then the first is below the second
 abbrev pub relate : Mode → Bool → Ctx → Ty → Ty → M Result

@@ -18,7 +18,7 @@ ghost use Rattle.judging.specs.Asking.{inferAsk, checkAsk, appAsk, JudgePre, Ru
 ghost use Rattle.judging.specs.Ending.{Judged, Fires};
 ghost use Rattle.rules.specs.Taking.{InferPre, CheckPre, AppPre};
 ghost use Rattle.rules.specs.Going.{TwoIn};
-ghost use Rattle.inference.specs.Rules.{BothPre, EqPre, Related};
+ghost use Rattle.inference.specs.Rules.{Operates, Related};
 
 // ---- infer
 
@@ -242,74 +242,49 @@ fn infer_if(q: &[u32], work: &mut [u32], m: Mode, st: State, g: Span, ex: usize)
     rules::plain_out(st4, g4, a, 7, 4)
 }
 
-// The rule for the operator.
+// What an operator's rule asks: whether its left side is inferred, or else the type that it is checked against; the result; the rule's number.
+struct Sides(bool, usize, usize, usize);
+
+// InfArith, InfBool, InfEq or InfCmp, as 000's infer_binop matches.
+fn operator(op: usize) -> Sides
+    ensures { λ o. ⌜ Operates op o ⌝ }
+{
+    match op {
+        1..=4 => Sides(false, INT, INT, 8),
+        5..=6 => Sides(false, BOOL, BOOL, 9),
+        7..=8 => Sides(true, INT, BOOL, 11),
+        _ => Sides(false, INT, BOOL, 10),
+    }
+}
+
+// The operator's rule: the left side is inferred or checked, then the right side is checked against the same type.
 fn infer_binop(q: &[u32], work: &mut [u32], m: Mode, st: State, g: Span, ex: usize) -> Step
     requires { ⌜ InferPre (now q) (now work) st g ex 26 ⌝ }
     ensures { λ z. ⌜ Fires m (now (q .entry)) (now (work .entry)) (now (work .exit)) st g (inferAsk ex) z ⌝ }
 {
     let at = ex + 1;
-    let op = word(q, at);
-    match op {
-        1..=4 => both(q, work, m, st, g, ex, INT, INT, 8),
-        5..=6 => both(q, work, m, st, g, ex, BOOL, BOOL, 9),
-        7..=8 => equal(q, work, m, st, g, ex),
-        _ => both(q, work, m, st, g, ex, INT, BOOL, 10),
-    }
-}
-
-// InfArith, InfBool and InfCmp: both sides are checked against a; the result is c.
-fn both(
-    q: &[u32],
-    work: &mut [u32],
-    m: Mode,
-    st: State,
-    g: Span,
-    ex: usize,
-    a: usize,
-    c: usize,
-    rule: usize,
-) -> Step
-    requires { ⌜ BothPre (now q) (now work) st g ex a c rule ⌝ }
-    ensures { λ z. ⌜ Fires m (now (q .entry)) (now (work .entry)) (now (work .exit)) st g (inferAsk ex) z ⌝ }
-{
     let e = ex + 2;
+    let k = word(q, at);
     let d = word(work, ENDS + e);
-    let z = check(q, work, m, st, g, e, a);
+    let Sides(infers, a, c, rule) = operator(k);
+    let z = if infers {
+        infer(q, work, m, st, g, e)
+    } else {
+        check(q, work, m, st, g, e, a)
+    };
     let Step::Done(r) = z else {
         return z;
     };
     let st1 = r.st;
     let g1 = r.g;
-    let y = check(q, work, m, st1, g1, d, a);
+    let b = if infers { r.ty } else { a };
+    let y = check(q, work, m, st1, g1, d, b);
     let Step::Done(u) = y else {
         return y;
     };
     let st2 = u.st;
     let g2 = u.g;
     rules::plain_out(st2, g2, c, rule, 2)
-}
-
-// InfEq: the right side is checked against the left side's type.
-fn equal(q: &[u32], work: &mut [u32], m: Mode, st: State, g: Span, ex: usize) -> Step
-    requires { ⌜ EqPre (now q) (now work) st g ex ⌝ }
-    ensures { λ z. ⌜ Fires m (now (q .entry)) (now (work .entry)) (now (work .exit)) st g (inferAsk ex) z ⌝ }
-{
-    let e = ex + 2;
-    let d = word(work, ENDS + e);
-    let z = infer(q, work, m, st, g, e);
-    let Step::Done(r) = z else {
-        return z;
-    };
-    let st1 = r.st;
-    let g1 = r.g;
-    let a = r.ty;
-    let y = check(q, work, m, st1, g1, d, a);
-    let Step::Done(u) = y else {
-        return y;
-    };
-    let st2 = u.st;
-    let g2 = u.g;
-    rules::plain_out(st2, g2, BOOL, 11, 2)
 }
 
 // ---- check

@@ -5,8 +5,8 @@ use Rattle.judging.proofs.Whole.{whole-spent, whole-rule, whole-less, whole-els
 use Rattle.judging.proofs.Judgements.{may-enter}
 use native.Mathlib.Omega.{arith}
 use Rattle.inference.proofs.check.Reads as check
-use Rattle.inference.proofs.+app_arr+app_etvar+app_rule+both+check+chk_all+chk_lam+chk_rule+chk_sub+equal+inf_rule+infer+infer_abs+infer_ann+infer_app+infer_application+infer_binop+infer_if+infer_let+infer_tabs+infer_tapp.Lts-check as check-lts
-use Rattle.inference.proofs.+app_arr+app_etvar+app_rule+both+check+chk_all+chk_lam+chk_rule+chk_sub+equal+inf_rule+infer+infer_abs+infer_ann+infer_app+infer_application+infer_binop+infer_if+infer_let+infer_tabs+infer_tapp.Proof.Base.{check-at, check-claims}
+use Rattle.inference.proofs.+app_arr+app_etvar+app_rule+check+chk_all+chk_lam+chk_rule+chk_sub+inf_rule+infer+infer_abs+infer_ann+infer_app+infer_application+infer_binop+infer_if+infer_let+infer_tabs+infer_tapp.Lts-check as check-lts
+use Rattle.inference.proofs.+app_arr+app_etvar+app_rule+check+chk_all+chk_lam+chk_rule+chk_sub+inf_rule+infer+infer_abs+infer_ann+infer_app+infer_application+infer_binop+infer_if+infer_let+infer_tabs+infer_tapp.Proof.Base.{check-at, check-claims}
 
 pub check-enter-requires : (t : ℕ) → check-lts.Need-enter-requires (check-claims t) (check-at t) check.Post
 check-enter-requires t c κs = may-enter (c .before .before .pre .1)

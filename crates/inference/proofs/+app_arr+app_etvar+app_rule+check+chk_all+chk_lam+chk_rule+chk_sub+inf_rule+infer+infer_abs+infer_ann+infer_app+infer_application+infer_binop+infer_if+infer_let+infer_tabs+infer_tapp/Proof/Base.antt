@@ -1,72 +1,67 @@
--- What falls from call to call: four times the budget left, and one more for each step from a judgement to its rule (3), its operator's rule
--- (2) and the rule's own function (1); and what each member claims of its callees.
+-- What falls from call to call: three times the budget left, and one more for each step from a judgement to its rule (2) and the rule's own
+-- function (1); and what each member claims of its callees.
 use Prim.Native.Nat.{ℕ, _<_, _+_, _*_}
 use borrow.Fn.Kinds.{In}
 use borrow.Fn.PlainCycle.{Measures, is, falls, and}
 use Rattle.inference.proofs.app_arr.Reads as app-arr
 use Rattle.inference.proofs.app_arr.Kinds as app-arr-kinds
-use Rattle.inference.proofs.+app_arr+app_etvar+app_rule+both+check+chk_all+chk_lam+chk_rule+chk_sub+equal+inf_rule+infer+infer_abs+infer_ann+infer_app+infer_application+infer_binop+infer_if+infer_let+infer_tabs+infer_tapp.Lts-app_arr as app-arr-lts
+use Rattle.inference.proofs.+app_arr+app_etvar+app_rule+check+chk_all+chk_lam+chk_rule+chk_sub+inf_rule+infer+infer_abs+infer_ann+infer_app+infer_application+infer_binop+infer_if+infer_let+infer_tabs+infer_tapp.Lts-app_arr as app-arr-lts
 use Rattle.inference.proofs.app_etvar.Reads as app-etvar
 use Rattle.inference.proofs.app_etvar.Kinds as app-etvar-kinds
-use Rattle.inference.proofs.+app_arr+app_etvar+app_rule+both+check+chk_all+chk_lam+chk_rule+chk_sub+equal+inf_rule+infer+infer_abs+infer_ann+infer_app+infer_application+infer_binop+infer_if+infer_let+infer_tabs+infer_tapp.Lts-app_etvar as app-etvar-lts
+use Rattle.inference.proofs.+app_arr+app_etvar+app_rule+check+chk_all+chk_lam+chk_rule+chk_sub+inf_rule+infer+infer_abs+infer_ann+infer_app+infer_application+infer_binop+infer_if+infer_let+infer_tabs+infer_tapp.Lts-app_etvar as app-etvar-lts
 use Rattle.inference.proofs.app_rule.Reads as app-rule
 use Rattle.inference.proofs.app_rule.Kinds as app-rule-kinds
-use Rattle.inference.proofs.+app_arr+app_etvar+app_rule+both+check+chk_all+chk_lam+chk_rule+chk_sub+equal+inf_rule+infer+infer_abs+infer_ann+infer_app+infer_application+infer_binop+infer_if+infer_let+infer_tabs+infer_tapp.Lts-app_rule as app-rule-lts
+use Rattle.inference.proofs.+app_arr+app_etvar+app_rule+check+chk_all+chk_lam+chk_rule+chk_sub+inf_rule+infer+infer_abs+infer_ann+infer_app+infer_application+infer_binop+infer_if+infer_let+infer_tabs+infer_tapp.Lts-app_rule as app-rule-lts
 use Rattle.inference.proofs.check.Reads as check
 use Rattle.inference.proofs.check.Kinds as check-kinds
-use Rattle.inference.proofs.+app_arr+app_etvar+app_rule+both+check+chk_all+chk_lam+chk_rule+chk_sub+equal+inf_rule+infer+infer_abs+infer_ann+infer_app+infer_application+infer_binop+infer_if+infer_let+infer_tabs+infer_tapp.Lts-check as check-lts
+use Rattle.inference.proofs.+app_arr+app_etvar+app_rule+check+chk_all+chk_lam+chk_rule+chk_sub+inf_rule+infer+infer_abs+infer_ann+infer_app+infer_application+infer_binop+infer_if+infer_let+infer_tabs+infer_tapp.Lts-check as check-lts
 use Rattle.inference.proofs.chk_all.Reads as chk-all
 use Rattle.inference.proofs.chk_all.Kinds as chk-all-kinds
-use Rattle.inference.proofs.+app_arr+app_etvar+app_rule+both+check+chk_all+chk_lam+chk_rule+chk_sub+equal+inf_rule+infer+infer_abs+infer_ann+infer_app+infer_application+infer_binop+infer_if+infer_let+infer_tabs+infer_tapp.Lts-chk_all as chk-all-lts
+use Rattle.inference.proofs.+app_arr+app_etvar+app_rule+check+chk_all+chk_lam+chk_rule+chk_sub+inf_rule+infer+infer_abs+infer_ann+infer_app+infer_application+infer_binop+infer_if+infer_let+infer_tabs+infer_tapp.Lts-chk_all as chk-all-lts
 use Rattle.inference.proofs.chk_lam.Reads as chk-lam
 use Rattle.inference.proofs.chk_lam.Kinds as chk-lam-kinds
-use Rattle.inference.proofs.+app_arr+app_etvar+app_rule+both+check+chk_all+chk_lam+chk_rule+chk_sub+equal+inf_rule+infer+infer_abs+infer_ann+infer_app+infer_application+infer_binop+infer_if+infer_let+infer_tabs+infer_tapp.Lts-chk_lam as chk-lam-lts
+use Rattle.inference.proofs.+app_arr+app_etvar+app_rule+check+chk_all+chk_lam+chk_rule+chk_sub+inf_rule+infer+infer_abs+infer_ann+infer_app+infer_application+infer_binop+infer_if+infer_let+infer_tabs+infer_tapp.Lts-chk_lam as chk-lam-lts
 use Rattle.inference.proofs.chk_rule.Reads as chk-rule
 use Rattle.inference.proofs.chk_rule.Kinds as chk-rule-kinds
-use Rattle.inference.proofs.+app_arr+app_etvar+app_rule+both+check+chk_all+chk_lam+chk_rule+chk_sub+equal+inf_rule+infer+infer_abs+infer_ann+infer_app+infer_application+infer_binop+infer_if+infer_let+infer_tabs+infer_tapp.Lts-chk_rule as chk-rule-lts
+use Rattle.inference.proofs.+app_arr+app_etvar+app_rule+check+chk_all+chk_lam+chk_rule+chk_sub+inf_rule+infer+infer_abs+infer_ann+infer_app+infer_application+infer_binop+infer_if+infer_let+infer_tabs+infer_tapp.Lts-chk_rule as chk-rule-lts
 use Rattle.inference.proofs.chk_sub.Reads as chk-sub
 use Rattle.inference.proofs.chk_sub.Kinds as chk-sub-kinds
-use Rattle.inference.proofs.+app_arr+app_etvar+app_rule+both+check+chk_all+chk_lam+chk_rule+chk_sub+equal+inf_rule+infer+infer_abs+infer_ann+infer_app+infer_application+infer_binop+infer_if+infer_let+infer_tabs+infer_tapp.Lts-chk_sub as chk-sub-lts
+use Rattle.inference.proofs.+app_arr+app_etvar+app_rule+check+chk_all+chk_lam+chk_rule+chk_sub+inf_rule+infer+infer_abs+infer_ann+infer_app+infer_application+infer_binop+infer_if+infer_let+infer_tabs+infer_tapp.Lts-chk_sub as chk-sub-lts
 use Rattle.inference.proofs.infer.Reads as infer
 use Rattle.inference.proofs.infer.Kinds as infer-kinds
-use Rattle.inference.proofs.+app_arr+app_etvar+app_rule+both+check+chk_all+chk_lam+chk_rule+chk_sub+equal+inf_rule+infer+infer_abs+infer_ann+infer_app+infer_application+infer_binop+infer_if+infer_let+infer_tabs+infer_tapp.Lts-infer as infer-lts
+use Rattle.inference.proofs.+app_arr+app_etvar+app_rule+check+chk_all+chk_lam+chk_rule+chk_sub+inf_rule+infer+infer_abs+infer_ann+infer_app+infer_application+infer_binop+infer_if+infer_let+infer_tabs+infer_tapp.Lts-infer as infer-lts
 use Rattle.inference.proofs.infer_abs.Reads as infer-abs
 use Rattle.inference.proofs.infer_abs.Kinds as infer-abs-kinds
-use Rattle.inference.proofs.+app_arr+app_etvar+app_rule+both+check+chk_all+chk_lam+chk_rule+chk_sub+equal+inf_rule+infer+infer_abs+infer_ann+infer_app+infer_application+infer_binop+infer_if+infer_let+infer_tabs+infer_tapp.Lts-infer_abs as infer-abs-lts
+use Rattle.inference.proofs.+app_arr+app_etvar+app_rule+check+chk_all+chk_lam+chk_rule+chk_sub+inf_rule+infer+infer_abs+infer_ann+infer_app+infer_application+infer_binop+infer_if+infer_let+infer_tabs+infer_tapp.Lts-infer_abs as infer-abs-lts
 use Rattle.inference.proofs.infer_ann.Reads as infer-ann
 use Rattle.inference.proofs.infer_ann.Kinds as infer-ann-kinds
-use Rattle.inference.proofs.+app_arr+app_etvar+app_rule+both+check+chk_all+chk_lam+chk_rule+chk_sub+equal+inf_rule+infer+infer_abs+infer_ann+infer_app+infer_application+infer_binop+infer_if+infer_let+infer_tabs+infer_tapp.Lts-infer_ann as infer-ann-lts
+use Rattle.inference.proofs.+app_arr+app_etvar+app_rule+check+chk_all+chk_lam+chk_rule+chk_sub+inf_rule+infer+infer_abs+infer_ann+infer_app+infer_application+infer_binop+infer_if+infer_let+infer_tabs+infer_tapp.Lts-infer_ann as infer-ann-lts
 use Rattle.inference.proofs.infer_app.Reads as infer-app
 use Rattle.inference.proofs.infer_app.Kinds as infer-app-kinds
-use Rattle.inference.proofs.+app_arr+app_etvar+app_rule+both+check+chk_all+chk_lam+chk_rule+chk_sub+equal+inf_rule+infer+infer_abs+infer_ann+infer_app+infer_application+infer_binop+infer_if+infer_let+infer_tabs+infer_tapp.Lts-infer_app as infer-app-lts
+use Rattle.inference.proofs.+app_arr+app_etvar+app_rule+check+chk_all+chk_lam+chk_rule+chk_sub+inf_rule+infer+infer_abs+infer_ann+infer_app+infer_application+infer_binop+infer_if+infer_let+infer_tabs+infer_tapp.Lts-infer_app as infer-app-lts
 use Rattle.inference.proofs.infer_application.Reads as infer-application
 use Rattle.inference.proofs.infer_application.Kinds as infer-application-kinds
-use Rattle.inference.proofs.+app_arr+app_etvar+app_rule+both+check+chk_all+chk_lam+chk_rule+chk_sub+equal+inf_rule+infer+infer_abs+infer_ann+infer_app+infer_application+infer_binop+infer_if+infer_let+infer_tabs+infer_tapp.Lts-infer_application as infer-application-lts
+use Rattle.inference.proofs.+app_arr+app_etvar+app_rule+check+chk_all+chk_lam+chk_rule+chk_sub+inf_rule+infer+infer_abs+infer_ann+infer_app+infer_application+infer_binop+infer_if+infer_let+infer_tabs+infer_tapp.Lts-infer_application as infer-application-lts
 use Rattle.inference.proofs.infer_binop.Reads as infer-binop
 use Rattle.inference.proofs.infer_binop.Kinds as infer-binop-kinds
-use Rattle.inference.proofs.+app_arr+app_etvar+app_rule+both+check+chk_all+chk_lam+chk_rule+chk_sub+equal+inf_rule+infer+infer_abs+infer_ann+infer_app+infer_application+infer_binop+infer_if+infer_let+infer_tabs+infer_tapp.Lts-infer_binop as infer-binop-lts
-use Rattle.inference.proofs.both.Reads as both
-use Rattle.inference.proofs.both.Kinds as both-kinds
-use Rattle.inference.proofs.+app_arr+app_etvar+app_rule+both+check+chk_all+chk_lam+chk_rule+chk_sub+equal+inf_rule+infer+infer_abs+infer_ann+infer_app+infer_application+infer_binop+infer_if+infer_let+infer_tabs+infer_tapp.Lts-both as both-lts
-use Rattle.inference.proofs.equal.Reads as equal
-use Rattle.inference.proofs.equal.Kinds as equal-kinds
-use Rattle.inference.proofs.+app_arr+app_etvar+app_rule+both+check+chk_all+chk_lam+chk_rule+chk_sub+equal+inf_rule+infer+infer_abs+infer_ann+infer_app+infer_application+infer_binop+infer_if+infer_let+infer_tabs+infer_tapp.Lts-equal as equal-lts
+use Rattle.inference.proofs.+app_arr+app_etvar+app_rule+check+chk_all+chk_lam+chk_rule+chk_sub+inf_rule+infer+infer_abs+infer_ann+infer_app+infer_application+infer_binop+infer_if+infer_let+infer_tabs+infer_tapp.Lts-infer_binop as infer-binop-lts
 use Rattle.inference.proofs.infer_if.Reads as infer-if
 use Rattle.inference.proofs.infer_if.Kinds as infer-if-kinds
-use Rattle.inference.proofs.+app_arr+app_etvar+app_rule+both+check+chk_all+chk_lam+chk_rule+chk_sub+equal+inf_rule+infer+infer_abs+infer_ann+infer_app+infer_application+infer_binop+infer_if+infer_let+infer_tabs+infer_tapp.Lts-infer_if as infer-if-lts
+use Rattle.inference.proofs.+app_arr+app_etvar+app_rule+check+chk_all+chk_lam+chk_rule+chk_sub+inf_rule+infer+infer_abs+infer_ann+infer_app+infer_application+infer_binop+infer_if+infer_let+infer_tabs+infer_tapp.Lts-infer_if as infer-if-lts
 use Rattle.inference.proofs.infer_let.Reads as infer-let
 use Rattle.inference.proofs.infer_let.Kinds as infer-let-kinds
-use Rattle.inference.proofs.+app_arr+app_etvar+app_rule+both+check+chk_all+chk_lam+chk_rule+chk_sub+equal+inf_rule+infer+infer_abs+infer_ann+infer_app+infer_application+infer_binop+infer_if+infer_let+infer_tabs+infer_tapp.Lts-infer_let as infer-let-lts
+use Rattle.inference.proofs.+app_arr+app_etvar+app_rule+check+chk_all+chk_lam+chk_rule+chk_sub+inf_rule+infer+infer_abs+infer_ann+infer_app+infer_application+infer_binop+infer_if+infer_let+infer_tabs+infer_tapp.Lts-infer_let as infer-let-lts
 use Rattle.inference.proofs.inf_rule.Reads as inf-rule
 use Rattle.inference.proofs.inf_rule.Kinds as inf-rule-kinds
-use Rattle.inference.proofs.+app_arr+app_etvar+app_rule+both+check+chk_all+chk_lam+chk_rule+chk_sub+equal+inf_rule+infer+infer_abs+infer_ann+infer_app+infer_application+infer_binop+infer_if+infer_let+infer_tabs+infer_tapp.Lts-inf_rule as inf-rule-lts
+use Rattle.inference.proofs.+app_arr+app_etvar+app_rule+check+chk_all+chk_lam+chk_rule+chk_sub+inf_rule+infer+infer_abs+infer_ann+infer_app+infer_application+infer_binop+infer_if+infer_let+infer_tabs+infer_tapp.Lts-inf_rule as inf-rule-lts
 use Rattle.inference.proofs.infer_tabs.Reads as infer-tabs
 use Rattle.inference.proofs.infer_tabs.Kinds as infer-tabs-kinds
-use Rattle.inference.proofs.+app_arr+app_etvar+app_rule+both+check+chk_all+chk_lam+chk_rule+chk_sub+equal+inf_rule+infer+infer_abs+infer_ann+infer_app+infer_application+infer_binop+infer_if+infer_let+infer_tabs+infer_tapp.Lts-infer_tabs as infer-tabs-lts
+use Rattle.inference.proofs.+app_arr+app_etvar+app_rule+check+chk_all+chk_lam+chk_rule+chk_sub+inf_rule+infer+infer_abs+infer_ann+infer_app+infer_application+infer_binop+infer_if+infer_let+infer_tabs+infer_tapp.Lts-infer_tabs as infer-tabs-lts
 use Rattle.inference.proofs.infer_tapp.Reads as infer-tapp
 use Rattle.inference.proofs.infer_tapp.Kinds as infer-tapp-kinds
-use Rattle.inference.proofs.+app_arr+app_etvar+app_rule+both+check+chk_all+chk_lam+chk_rule+chk_sub+equal+inf_rule+infer+infer_abs+infer_ann+infer_app+infer_application+infer_binop+infer_if+infer_let+infer_tabs+infer_tapp.Lts-infer_tapp as infer-tapp-lts
+use Rattle.inference.proofs.+app_arr+app_etvar+app_rule+check+chk_all+chk_lam+chk_rule+chk_sub+inf_rule+infer+infer_abs+infer_ann+infer_app+infer_application+infer_binop+infer_if+infer_let+infer_tabs+infer_tapp.Lts-infer_tapp as infer-tapp-lts
 use Rattle.contexts.proofs.push.Reads as push-reads
+use Rattle.inference.proofs.operator.Reads as operator-reads
 use Rattle.inference.proofs.subtype_applied.Reads as subtype-applied-reads
 use Rattle.judging.proofs.enter.Reads as enter-reads
 use Rattle.judging.proofs.leave.Reads as leave-reads
@@ -92,67 +87,61 @@ use Rattle.types.proofs.right_of.Reads as right-of-reads
 use Rattle.types.proofs.tag.Reads as tag-reads
 
 abbrev pub μ-app-arr : Measures 2 app-arr-kinds.ps ℕ
-μ-app-arr κs a = 4 * a .1 .1 .1 .0 .left + 1
+μ-app-arr κs a = 3 * a .1 .1 .1 .0 .left + 1
 
 abbrev pub μ-app-etvar : Measures 2 app-etvar-kinds.ps ℕ
-μ-app-etvar κs a = 4 * a .1 .1 .1 .0 .left + 1
+μ-app-etvar κs a = 3 * a .1 .1 .1 .0 .left + 1
 
 abbrev pub μ-app-rule : Measures 2 app-rule-kinds.ps ℕ
-μ-app-rule κs a = 4 * a .1 .1 .1 .0 .left + 3
+μ-app-rule κs a = 3 * a .1 .1 .1 .0 .left + 2
 
 abbrev pub μ-check : Measures 2 check-kinds.ps ℕ
-μ-check κs a = 4 * a .1 .1 .1 .0 .left
+μ-check κs a = 3 * a .1 .1 .1 .0 .left
 
 abbrev pub μ-chk-all : Measures 2 chk-all-kinds.ps ℕ
-μ-chk-all κs a = 4 * a .1 .1 .1 .0 .left + 1
+μ-chk-all κs a = 3 * a .1 .1 .1 .0 .left + 1
 
 abbrev pub μ-chk-lam : Measures 2 chk-lam-kinds.ps ℕ
-μ-chk-lam κs a = 4 * a .1 .1 .1 .0 .left + 1
+μ-chk-lam κs a = 3 * a .1 .1 .1 .0 .left + 1
 
 abbrev pub μ-chk-rule : Measures 2 chk-rule-kinds.ps ℕ
-μ-chk-rule κs a = 4 * a .1 .1 .1 .0 .left + 3
+μ-chk-rule κs a = 3 * a .1 .1 .1 .0 .left + 2
 
 abbrev pub μ-chk-sub : Measures 2 chk-sub-kinds.ps ℕ
-μ-chk-sub κs a = 4 * a .1 .1 .1 .0 .left + 1
+μ-chk-sub κs a = 3 * a .1 .1 .1 .0 .left + 1
 
 abbrev pub μ-infer : Measures 2 infer-kinds.ps ℕ
-μ-infer κs a = 4 * a .1 .1 .1 .0 .left
+μ-infer κs a = 3 * a .1 .1 .1 .0 .left
 
 abbrev pub μ-infer-abs : Measures 2 infer-abs-kinds.ps ℕ
-μ-infer-abs κs a = 4 * a .1 .1 .1 .0 .left + 1
+μ-infer-abs κs a = 3 * a .1 .1 .1 .0 .left + 1
 
 abbrev pub μ-infer-ann : Measures 2 infer-ann-kinds.ps ℕ
-μ-infer-ann κs a = 4 * a .1 .1 .1 .0 .left + 1
+μ-infer-ann κs a = 3 * a .1 .1 .1 .0 .left + 1
 
 abbrev pub μ-infer-app : Measures 2 infer-app-kinds.ps ℕ
-μ-infer-app κs a = 4 * a .1 .1 .1 .0 .left
+μ-infer-app κs a = 3 * a .1 .1 .1 .0 .left
 
 abbrev pub μ-infer-application : Measures 2 infer-application-kinds.ps ℕ
-μ-infer-application κs a = 4 * a .1 .1 .1 .0 .left + 1
+μ-infer-application κs a = 3 * a .1 .1 .1 .0 .left + 1
 
 abbrev pub μ-infer-binop : Measures 2 infer-binop-kinds.ps ℕ
-μ-infer-binop κs a = 4 * a .1 .1 .1 .0 .left + 2
-
-abbrev pub μ-both : Measures 2 both-kinds.ps ℕ
-μ-both κs a = 4 * a .1 .1 .1 .0 .left + 1
-
-abbrev pub μ-equal : Measures 2 equal-kinds.ps ℕ
-μ-equal κs a = 4 * a .1 .1 .1 .0 .left + 1
+μ-infer-binop κs a = 3 * a .1 .1 .1 .0 .left + 1
 
 abbrev pub μ-infer-if : Measures 2 infer-if-kinds.ps ℕ
-μ-infer-if κs a = 4 * a .1 .1 .1 .0 .left + 1
+μ-infer-if κs a = 3 * a .1 .1 .1 .0 .left + 1
 
 abbrev pub μ-infer-let : Measures 2 infer-let-kinds.ps ℕ
-μ-infer-let κs a = 4 * a .1 .1 .1 .0 .left + 1
+μ-infer-let κs a = 3 * a .1 .1 .1 .0 .left + 1
 
 abbrev pub μ-inf-rule : Measures 2 inf-rule-kinds.ps ℕ
-μ-inf-rule κs a = 4 * a .1 .1 .1 .0 .left + 3
+μ-inf-rule κs a = 3 * a .1 .1 .1 .0 .left + 2
 
 abbrev pub μ-infer-tabs : Measures 2 infer-tabs-kinds.ps ℕ
-μ-infer-tabs κs a = 4 * a .1 .1 .1 .0 .left + 1
+μ-infer-tabs κs a = 3 * a .1 .1 .1 .0 .left + 1
 
 abbrev pub μ-infer-tapp : Measures 2 infer-tapp-kinds.ps ℕ
-μ-infer-tapp κs a = 4 * a .1 .1 .1 .0 .left + 1
+μ-infer-tapp κs a = 3 * a .1 .1 .1 .0 .left + 1
 
 abbrev pub app-arr-at : ℕ → In 2 app-arr-kinds.ps
 app-arr-at t = and 2 app-arr-kinds.ps (is 2 app-arr-kinds.ps μ-app-arr t) app-arr.Pre
@@ -259,21 +248,6 @@ infer-binop-at t =
 abbrev pub infer-binop-below : ℕ → In 2 infer-binop-kinds.ps
 infer-binop-below t =
     and 2 infer-binop-kinds.ps (falls 2 infer-binop-kinds.ps _<_ μ-infer-binop t) infer-binop.Pre
-
-abbrev pub both-at : ℕ → In 2 both-kinds.ps
-both-at t =
-    and 2 both-kinds.ps (is 2 both-kinds.ps μ-both t) both.Pre
-
-abbrev pub both-below : ℕ → In 2 both-kinds.ps
-both-below t =
-    and 2 both-kinds.ps (falls 2 both-kinds.ps _<_ μ-both t) both.Pre
-
-abbrev pub equal-at : ℕ → In 2 equal-kinds.ps
-equal-at t = and 2 equal-kinds.ps (is 2 equal-kinds.ps μ-equal t) equal.Pre
-
-abbrev pub equal-below : ℕ → In 2 equal-kinds.ps
-equal-below t =
-    and 2 equal-kinds.ps (falls 2 equal-kinds.ps _<_ μ-equal t) equal.Pre
 
 abbrev pub infer-if-at : ℕ → In 2 infer-if-kinds.ps
 infer-if-at t = and 2 infer-if-kinds.ps (is 2 infer-if-kinds.ps μ-infer-if t) infer-if.Pre
@@ -475,26 +449,8 @@ abbrev pub infer-binop-claims : ℕ → infer-binop-lts.Claims
 infer-binop-claims t = (
   word-reads.Asked,
   word-reads.Learnt,
-  both-below t,
-  both.Post,
-  equal-below t,
-  equal.Post,
-)
-
-abbrev pub both-claims : ℕ → both-lts.Claims
-both-claims t = (
-  word-reads.Asked,
-  word-reads.Learnt,
-  check-below t,
-  check.Post,
-  plain-out-reads.Asked,
-  plain-out-reads.Learnt,
-)
-
-abbrev pub equal-claims : ℕ → equal-lts.Claims
-equal-claims t = (
-  word-reads.Asked,
-  word-reads.Learnt,
+  operator-reads.Asked,
+  operator-reads.Learnt,
   infer-below t,
   infer.Post,
   check-below t,

@@ -4,8 +4,8 @@ use Prim.Native.Nat.{ℕ}
 use Rattle.inference.proofs.Choosing.{app-held, app-arm, app-refuse}
 use native.Mathlib.Omega.{arith}
 use Rattle.inference.proofs.app_rule.Reads as app-rule
-use Rattle.inference.proofs.+app_arr+app_etvar+app_rule+both+check+chk_all+chk_lam+chk_rule+chk_sub+equal+inf_rule+infer+infer_abs+infer_ann+infer_app+infer_application+infer_binop+infer_if+infer_let+infer_tabs+infer_tapp.Lts-app_rule as app-rule-lts
-use Rattle.inference.proofs.+app_arr+app_etvar+app_rule+both+check+chk_all+chk_lam+chk_rule+chk_sub+equal+inf_rule+infer+infer_abs+infer_ann+infer_app+infer_application+infer_binop+infer_if+infer_let+infer_tabs+infer_tapp.Proof.Base.{app-rule-at, app-rule-claims}
+use Rattle.inference.proofs.+app_arr+app_etvar+app_rule+check+chk_all+chk_lam+chk_rule+chk_sub+inf_rule+infer+infer_abs+infer_ann+infer_app+infer_application+infer_binop+infer_if+infer_let+infer_tabs+infer_tapp.Lts-app_rule as app-rule-lts
+use Rattle.inference.proofs.+app_arr+app_etvar+app_rule+check+chk_all+chk_lam+chk_rule+chk_sub+inf_rule+infer+infer_abs+infer_ann+infer_app+infer_application+infer_binop+infer_if+infer_let+infer_tabs+infer_tapp.Proof.Base.{app-rule-at, app-rule-claims}
 
 pub app-rule-tag-requires : (t : ℕ) → app-rule-lts.Need-tag-requires (app-rule-claims t) (app-rule-at t) app-rule.Post
 app-rule-tag-requires t c κs = app-held (c .before .before .before .pre .1)

@@ -4,8 +4,8 @@ use Prim.Native.Nat.{ℕ}
 use Rattle.inference.proofs.Choosing.{infer-within, infer-arm, infer-last}
 use native.Mathlib.Omega.{arith}
 use Rattle.inference.proofs.inf_rule.Reads as inf-rule
-use Rattle.inference.proofs.+app_arr+app_etvar+app_rule+both+check+chk_all+chk_lam+chk_rule+chk_sub+equal+inf_rule+infer+infer_abs+infer_ann+infer_app+infer_application+infer_binop+infer_if+infer_let+infer_tabs+infer_tapp.Lts-inf_rule as inf-rule-lts
-use Rattle.inference.proofs.+app_arr+app_etvar+app_rule+both+check+chk_all+chk_lam+chk_rule+chk_sub+equal+inf_rule+infer+infer_abs+infer_ann+infer_app+infer_application+infer_binop+infer_if+infer_let+infer_tabs+infer_tapp.Proof.Base.{inf-rule-at, inf-rule-claims}
+use Rattle.inference.proofs.+app_arr+app_etvar+app_rule+check+chk_all+chk_lam+chk_rule+chk_sub+inf_rule+infer+infer_abs+infer_ann+infer_app+infer_application+infer_binop+infer_if+infer_let+infer_tabs+infer_tapp.Lts-inf_rule as inf-rule-lts
+use Rattle.inference.proofs.+app_arr+app_etvar+app_rule+check+chk_all+chk_lam+chk_rule+chk_sub+inf_rule+infer+infer_abs+infer_ann+infer_app+infer_application+infer_binop+infer_if+infer_let+infer_tabs+infer_tapp.Proof.Base.{inf-rule-at, inf-rule-claims}
 
 pub inf-rule-word-requires : (t : ℕ) → inf-rule-lts.Need-word-requires (inf-rule-claims t) (inf-rule-at t) inf-rule.Post
 inf-rule-word-requires t c κs = infer-within (c .before .before .pre .1)

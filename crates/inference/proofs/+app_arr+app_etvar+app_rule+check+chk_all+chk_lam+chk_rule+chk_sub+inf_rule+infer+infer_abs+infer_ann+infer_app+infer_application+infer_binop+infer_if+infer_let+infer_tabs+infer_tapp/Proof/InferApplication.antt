@@ -6,8 +6,8 @@ use Rattle.inference.proofs.InferTwo.{app-table, app-ask, app-else, app
 use Rattle.inference.proofs.Starting.{place}
 use native.Mathlib.Omega.{arith}
 use Rattle.inference.proofs.infer_application.Reads as infer-application
-use Rattle.inference.proofs.+app_arr+app_etvar+app_rule+both+check+chk_all+chk_lam+chk_rule+chk_sub+equal+inf_rule+infer+infer_abs+infer_ann+infer_app+infer_application+infer_binop+infer_if+infer_let+infer_tabs+infer_tapp.Lts-infer_application as infer-application-lts
-use Rattle.inference.proofs.+app_arr+app_etvar+app_rule+both+check+chk_all+chk_lam+chk_rule+chk_sub+equal+inf_rule+infer+infer_abs+infer_ann+infer_app+infer_application+infer_binop+infer_if+infer_let+infer_tabs+infer_tapp.Proof.Base.{infer-application-at, infer-application-claims}
+use Rattle.inference.proofs.+app_arr+app_etvar+app_rule+check+chk_all+chk_lam+chk_rule+chk_sub+inf_rule+infer+infer_abs+infer_ann+infer_app+infer_application+infer_binop+infer_if+infer_let+infer_tabs+infer_tapp.Lts-infer_application as infer-application-lts
+use Rattle.inference.proofs.+app_arr+app_etvar+app_rule+check+chk_all+chk_lam+chk_rule+chk_sub+inf_rule+infer+infer_abs+infer_ann+infer_app+infer_application+infer_binop+infer_if+infer_let+infer_tabs+infer_tapp.Proof.Base.{infer-application-at, infer-application-claims}
 
 pub infer-application-add-e : (t : ℕ) → infer-application-lts.Need-add-e (infer-application-claims t) (infer-application-at t) infer-application.Post
 infer-application-add-e t c = omega (arith, place (c .before .before .pre .1))

@@ -6,8 +6,8 @@ use Rattle.inference.proofs.Starting.{check-place}
 use mathlib.Core.Path.{refl, _∙_}
 use native.Mathlib.Omega.{arith}
 use Rattle.inference.proofs.chk_lam.Reads as chk-lam
-use Rattle.inference.proofs.+app_arr+app_etvar+app_rule+both+check+chk_all+chk_lam+chk_rule+chk_sub+equal+inf_rule+infer+infer_abs+infer_ann+infer_app+infer_application+infer_binop+infer_if+infer_let+infer_tabs+infer_tapp.Lts-chk_lam as chk-lam-lts
-use Rattle.inference.proofs.+app_arr+app_etvar+app_rule+both+check+chk_all+chk_lam+chk_rule+chk_sub+equal+inf_rule+infer+infer_abs+infer_ann+infer_app+infer_application+infer_binop+infer_if+infer_let+infer_tabs+infer_tapp.Proof.Base.{chk-lam-at, chk-lam-claims}
+use Rattle.inference.proofs.+app_arr+app_etvar+app_rule+check+chk_all+chk_lam+chk_rule+chk_sub+inf_rule+infer+infer_abs+infer_ann+infer_app+infer_application+infer_binop+infer_if+infer_let+infer_tabs+infer_tapp.Lts-chk_lam as chk-lam-lts
+use Rattle.inference.proofs.+app_arr+app_etvar+app_rule+check+chk_all+chk_lam+chk_rule+chk_sub+inf_rule+infer+infer_abs+infer_ann+infer_app+infer_application+infer_binop+infer_if+infer_let+infer_tabs+infer_tapp.Proof.Base.{chk-lam-at, chk-lam-claims}
 
 pub chk-lam-add-at : (t : ℕ) → chk-lam-lts.Need-add-at (chk-lam-claims t) (chk-lam-at t) chk-lam.Post
 chk-lam-add-at t c = omega (arith, check-place (c .before .before .pre .1 .rule))

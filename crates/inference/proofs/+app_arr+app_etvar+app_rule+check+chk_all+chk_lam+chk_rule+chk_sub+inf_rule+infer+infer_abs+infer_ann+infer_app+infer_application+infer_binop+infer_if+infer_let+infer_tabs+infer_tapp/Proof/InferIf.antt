@@ -6,8 +6,8 @@ use Rattle.inference.proofs.InferIf.{if-table, if-ask, if-place, if-tab
 use Rattle.inference.proofs.Starting.{place}
 use native.Mathlib.Omega.{arith}
 use Rattle.inference.proofs.infer_if.Reads as infer-if
-use Rattle.inference.proofs.+app_arr+app_etvar+app_rule+both+check+chk_all+chk_lam+chk_rule+chk_sub+equal+inf_rule+infer+infer_abs+infer_ann+infer_app+infer_application+infer_binop+infer_if+infer_let+infer_tabs+infer_tapp.Lts-infer_if as infer-if-lts
-use Rattle.inference.proofs.+app_arr+app_etvar+app_rule+both+check+chk_all+chk_lam+chk_rule+chk_sub+equal+inf_rule+infer+infer_abs+infer_ann+infer_app+infer_application+infer_binop+infer_if+infer_let+infer_tabs+infer_tapp.Proof.Base.{infer-if-at, infer-if-claims}
+use Rattle.inference.proofs.+app_arr+app_etvar+app_rule+check+chk_all+chk_lam+chk_rule+chk_sub+inf_rule+infer+infer_abs+infer_ann+infer_app+infer_application+infer_binop+infer_if+infer_let+infer_tabs+infer_tapp.Lts-infer_if as infer-if-lts
+use Rattle.inference.proofs.+app_arr+app_etvar+app_rule+check+chk_all+chk_lam+chk_rule+chk_sub+inf_rule+infer+infer_abs+infer_ann+infer_app+infer_application+infer_binop+infer_if+infer_let+infer_tabs+infer_tapp.Proof.Base.{infer-if-at, infer-if-claims}
 
 pub infer-if-add-e : (t : ℕ) → infer-if-lts.Need-add-e (infer-if-claims t) (infer-if-at t) infer-if.Post
 infer-if-add-e t c = omega (arith, place (c .before .before .pre .1))

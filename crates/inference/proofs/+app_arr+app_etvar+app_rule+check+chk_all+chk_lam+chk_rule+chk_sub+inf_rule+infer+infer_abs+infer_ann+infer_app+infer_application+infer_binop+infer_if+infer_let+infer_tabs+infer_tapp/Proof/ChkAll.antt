@@ -4,8 +4,8 @@ use Prim.Native.Nat.{ℕ}
 use Rattle.inference.proofs.Checking.{all-pre, all-ask, all-falls, all-else, all-space, all-done}
 use native.Mathlib.Omega.{arith}
 use Rattle.inference.proofs.chk_all.Reads as chk-all
-use Rattle.inference.proofs.+app_arr+app_etvar+app_rule+both+check+chk_all+chk_lam+chk_rule+chk_sub+equal+inf_rule+infer+infer_abs+infer_ann+infer_app+infer_application+infer_binop+infer_if+infer_let+infer_tabs+infer_tapp.Lts-chk_all as chk-all-lts
-use Rattle.inference.proofs.+app_arr+app_etvar+app_rule+both+check+chk_all+chk_lam+chk_rule+chk_sub+equal+inf_rule+infer+infer_abs+infer_ann+infer_app+infer_application+infer_binop+infer_if+infer_let+infer_tabs+infer_tapp.Proof.Base.{chk-all-at, chk-all-claims}
+use Rattle.inference.proofs.+app_arr+app_etvar+app_rule+check+chk_all+chk_lam+chk_rule+chk_sub+inf_rule+infer+infer_abs+infer_ann+infer_app+infer_application+infer_binop+infer_if+infer_let+infer_tabs+infer_tapp.Lts-chk_all as chk-all-lts
+use Rattle.inference.proofs.+app_arr+app_etvar+app_rule+check+chk_all+chk_lam+chk_rule+chk_sub+inf_rule+infer+infer_abs+infer_ann+infer_app+infer_application+infer_binop+infer_if+infer_let+infer_tabs+infer_tapp.Proof.Base.{chk-all-at, chk-all-claims}
 
 pub chk-all-open-right-requires : (t : ℕ) → chk-all-lts.Need-open-right-requires (chk-all-claims t) (chk-all-at t) chk-all.Post
 chk-all-open-right-requires t c κs = all-pre (c .before .before .before .args .m) (c .before .before .before .pre .1)

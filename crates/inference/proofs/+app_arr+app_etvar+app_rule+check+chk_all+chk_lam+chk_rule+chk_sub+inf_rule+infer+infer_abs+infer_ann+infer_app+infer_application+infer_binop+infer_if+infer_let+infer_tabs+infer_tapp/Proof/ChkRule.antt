@@ -6,8 +6,8 @@ use mathlib.Core.Logic.{⊎-elim}
 use mathlib.Core.Path.{refl}
 use native.Mathlib.Omega.{arith}
 use Rattle.inference.proofs.chk_rule.Reads as chk-rule
-use Rattle.inference.proofs.+app_arr+app_etvar+app_rule+both+check+chk_all+chk_lam+chk_rule+chk_sub+equal+inf_rule+infer+infer_abs+infer_ann+infer_app+infer_application+infer_binop+infer_if+infer_let+infer_tabs+infer_tapp.Lts-chk_rule as chk-rule-lts
-use Rattle.inference.proofs.+app_arr+app_etvar+app_rule+both+check+chk_all+chk_lam+chk_rule+chk_sub+equal+inf_rule+infer+infer_abs+infer_ann+infer_app+infer_application+infer_binop+infer_if+infer_let+infer_tabs+infer_tapp.Proof.Base.{chk-rule-at, chk-rule-claims}
+use Rattle.inference.proofs.+app_arr+app_etvar+app_rule+check+chk_all+chk_lam+chk_rule+chk_sub+inf_rule+infer+infer_abs+infer_ann+infer_app+infer_application+infer_binop+infer_if+infer_let+infer_tabs+infer_tapp.Lts-chk_rule as chk-rule-lts
+use Rattle.inference.proofs.+app_arr+app_etvar+app_rule+check+chk_all+chk_lam+chk_rule+chk_sub+inf_rule+infer+infer_abs+infer_ann+infer_app+infer_application+infer_binop+infer_if+infer_let+infer_tabs+infer_tapp.Proof.Base.{chk-rule-at, chk-rule-claims}
 
 pub chk-rule-word-requires : (t : ℕ) → chk-rule-lts.Need-word-requires (chk-rule-claims t) (chk-rule-at t) chk-rule.Post
 chk-rule-word-requires t c κs = check-within (c .before .before .pre .1)

@@ -4,8 +4,8 @@ use Prim.Native.Nat.{ℕ}
 use Rattle.inference.proofs.Applying.{arr-held, arr-ask, arr-else, arr-done}
 use native.Mathlib.Omega.{arith}
 use Rattle.inference.proofs.app_arr.Reads as app-arr
-use Rattle.inference.proofs.+app_arr+app_etvar+app_rule+both+check+chk_all+chk_lam+chk_rule+chk_sub+equal+inf_rule+infer+infer_abs+infer_ann+infer_app+infer_application+infer_binop+infer_if+infer_let+infer_tabs+infer_tapp.Lts-app_arr as app-arr-lts
-use Rattle.inference.proofs.+app_arr+app_etvar+app_rule+both+check+chk_all+chk_lam+chk_rule+chk_sub+equal+inf_rule+infer+infer_abs+infer_ann+infer_app+infer_application+infer_binop+infer_if+infer_let+infer_tabs+infer_tapp.Proof.Base.{app-arr-at, app-arr-claims}
+use Rattle.inference.proofs.+app_arr+app_etvar+app_rule+check+chk_all+chk_lam+chk_rule+chk_sub+inf_rule+infer+infer_abs+infer_ann+infer_app+infer_application+infer_binop+infer_if+infer_let+infer_tabs+infer_tapp.Lts-app_arr as app-arr-lts
+use Rattle.inference.proofs.+app_arr+app_etvar+app_rule+check+chk_all+chk_lam+chk_rule+chk_sub+inf_rule+infer+infer_abs+infer_ann+infer_app+infer_application+infer_binop+infer_if+infer_let+infer_tabs+infer_tapp.Proof.Base.{app-arr-at, app-arr-claims}
 
 pub app-arr-left-of-requires : (t : ℕ) → app-arr-lts.Need-left-of-requires (app-arr-claims t) (app-arr-at t) app-arr.Post
 app-arr-left-of-requires t c κs = arr-held (c .before .before .before .args .m) (c .before .before .before .pre .1)

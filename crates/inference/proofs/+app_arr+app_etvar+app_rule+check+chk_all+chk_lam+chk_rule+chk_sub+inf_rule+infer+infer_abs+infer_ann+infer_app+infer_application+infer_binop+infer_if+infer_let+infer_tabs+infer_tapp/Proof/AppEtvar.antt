@@ -4,8 +4,8 @@ use Prim.Native.Nat.{ℕ}
 use Rattle.inference.proofs.Applying.{etvar-held, etvar-part, etvar-ask, etvar-else, etvar-done}
 use native.Mathlib.Omega.{arith}
 use Rattle.inference.proofs.app_etvar.Reads as app-etvar
-use Rattle.inference.proofs.+app_arr+app_etvar+app_rule+both+check+chk_all+chk_lam+chk_rule+chk_sub+equal+inf_rule+infer+infer_abs+infer_ann+infer_app+infer_application+infer_binop+infer_if+infer_let+infer_tabs+infer_tapp.Lts-app_etvar as app-etvar-lts
-use Rattle.inference.proofs.+app_arr+app_etvar+app_rule+both+check+chk_all+chk_lam+chk_rule+chk_sub+equal+inf_rule+infer+infer_abs+infer_ann+infer_app+infer_application+infer_binop+infer_if+infer_let+infer_tabs+infer_tapp.Proof.Base.{app-etvar-at, app-etvar-claims}
+use Rattle.inference.proofs.+app_arr+app_etvar+app_rule+check+chk_all+chk_lam+chk_rule+chk_sub+inf_rule+infer+infer_abs+infer_ann+infer_app+infer_application+infer_binop+infer_if+infer_let+infer_tabs+infer_tapp.Lts-app_etvar as app-etvar-lts
+use Rattle.inference.proofs.+app_arr+app_etvar+app_rule+check+chk_all+chk_lam+chk_rule+chk_sub+inf_rule+infer+infer_abs+infer_ann+infer_app+infer_application+infer_binop+infer_if+infer_let+infer_tabs+infer_tapp.Proof.Base.{app-etvar-at, app-etvar-claims}
 
 pub app-etvar-name-of-requires : (t : ℕ) → app-etvar-lts.Need-name-of-requires (app-etvar-claims t) (app-etvar-at t) app-etvar.Post
 app-etvar-name-of-requires t c κs = etvar-held (c .before .before .before .args .m) (c .before .before .before .pre .1)

@@ -4,8 +4,8 @@ use Prim.Native.Nat.{ℕ}
 use Rattle.inference.proofs.Checking.{sub-ask, sub-else, sub-two, sub-else₂, sub-done}
 use native.Mathlib.Omega.{arith}
 use Rattle.inference.proofs.chk_sub.Reads as chk-sub
-use Rattle.inference.proofs.+app_arr+app_etvar+app_rule+both+check+chk_all+chk_lam+chk_rule+chk_sub+equal+inf_rule+infer+infer_abs+infer_ann+infer_app+infer_application+infer_binop+infer_if+infer_let+infer_tabs+infer_tapp.Lts-chk_sub as chk-sub-lts
-use Rattle.inference.proofs.+app_arr+app_etvar+app_rule+both+check+chk_all+chk_lam+chk_rule+chk_sub+equal+inf_rule+infer+infer_abs+infer_ann+infer_app+infer_application+infer_binop+infer_if+infer_let+infer_tabs+infer_tapp.Proof.Base.{chk-sub-at, chk-sub-claims}
+use Rattle.inference.proofs.+app_arr+app_etvar+app_rule+check+chk_all+chk_lam+chk_rule+chk_sub+inf_rule+infer+infer_abs+infer_ann+infer_app+infer_application+infer_binop+infer_if+infer_let+infer_tabs+infer_tapp.Lts-chk_sub as chk-sub-lts
+use Rattle.inference.proofs.+app_arr+app_etvar+app_rule+check+chk_all+chk_lam+chk_rule+chk_sub+inf_rule+infer+infer_abs+infer_ann+infer_app+infer_application+infer_binop+infer_if+infer_let+infer_tabs+infer_tapp.Proof.Base.{chk-sub-at, chk-sub-claims}
 
 pub chk-sub-infer-requires : (t : ℕ) → chk-sub-lts.Need-infer-requires (chk-sub-claims t) (chk-sub-at t) chk-sub.Post
 chk-sub-infer-requires t c κs = (omega (arith, c .before .before .before .pre .0), sub-ask (c .before .before .before .args .m) (c .before .before .before .pre .1))

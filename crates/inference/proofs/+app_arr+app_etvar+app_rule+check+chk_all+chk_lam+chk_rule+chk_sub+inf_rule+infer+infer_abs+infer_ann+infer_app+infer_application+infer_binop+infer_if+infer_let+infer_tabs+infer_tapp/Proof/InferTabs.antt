@@ -6,8 +6,8 @@ use Rattle.inference.proofs.Starting.{place}
 use mathlib.Core.Path.{refl, _∙_}
 use native.Mathlib.Omega.{arith}
 use Rattle.inference.proofs.infer_tabs.Reads as infer-tabs
-use Rattle.inference.proofs.+app_arr+app_etvar+app_rule+both+check+chk_all+chk_lam+chk_rule+chk_sub+equal+inf_rule+infer+infer_abs+infer_ann+infer_app+infer_application+infer_binop+infer_if+infer_let+infer_tabs+infer_tapp.Lts-infer_tabs as infer-tabs-lts
-use Rattle.inference.proofs.+app_arr+app_etvar+app_rule+both+check+chk_all+chk_lam+chk_rule+chk_sub+equal+inf_rule+infer+infer_abs+infer_ann+infer_app+infer_application+infer_binop+infer_if+infer_let+infer_tabs+infer_tapp.Proof.Base.{infer-tabs-at, infer-tabs-claims}
+use Rattle.inference.proofs.+app_arr+app_etvar+app_rule+check+chk_all+chk_lam+chk_rule+chk_sub+inf_rule+infer+infer_abs+infer_ann+infer_app+infer_application+infer_binop+infer_if+infer_let+infer_tabs+infer_tapp.Lts-infer_tabs as infer-tabs-lts
+use Rattle.inference.proofs.+app_arr+app_etvar+app_rule+check+chk_all+chk_lam+chk_rule+chk_sub+inf_rule+infer+infer_abs+infer_ann+infer_app+infer_application+infer_binop+infer_if+infer_let+infer_tabs+infer_tapp.Proof.Base.{infer-tabs-at, infer-tabs-claims}
 
 pub infer-tabs-add-at : (t : ℕ) → infer-tabs-lts.Need-add-at (infer-tabs-claims t) (infer-tabs-at t) infer-tabs.Post
 infer-tabs-add-at t c = omega (arith, place (c .before .before .pre .1))

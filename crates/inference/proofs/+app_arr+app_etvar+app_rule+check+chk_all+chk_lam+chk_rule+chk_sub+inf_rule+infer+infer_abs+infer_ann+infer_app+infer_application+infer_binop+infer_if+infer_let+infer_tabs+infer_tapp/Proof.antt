@@ -1,48 +1,44 @@
 -- The cycle of infer, check and infer_app meets its contracts.
 use Rattle.inference.proofs.app_arr.Reads as app-arr
-use Rattle.inference.proofs.+app_arr+app_etvar+app_rule+both+check+chk_all+chk_lam+chk_rule+chk_sub+equal+inf_rule+infer+infer_abs+infer_ann+infer_app+infer_application+infer_binop+infer_if+infer_let+infer_tabs+infer_tapp.Lts-app_arr as app-arr-lts
+use Rattle.inference.proofs.+app_arr+app_etvar+app_rule+check+chk_all+chk_lam+chk_rule+chk_sub+inf_rule+infer+infer_abs+infer_ann+infer_app+infer_application+infer_binop+infer_if+infer_let+infer_tabs+infer_tapp.Lts-app_arr as app-arr-lts
 use Rattle.inference.proofs.app_etvar.Reads as app-etvar
-use Rattle.inference.proofs.+app_arr+app_etvar+app_rule+both+check+chk_all+chk_lam+chk_rule+chk_sub+equal+inf_rule+infer+infer_abs+infer_ann+infer_app+infer_application+infer_binop+infer_if+infer_let+infer_tabs+infer_tapp.Lts-app_etvar as app-etvar-lts
+use Rattle.inference.proofs.+app_arr+app_etvar+app_rule+check+chk_all+chk_lam+chk_rule+chk_sub+inf_rule+infer+infer_abs+infer_ann+infer_app+infer_application+infer_binop+infer_if+infer_let+infer_tabs+infer_tapp.Lts-app_etvar as app-etvar-lts
 use Rattle.inference.proofs.app_rule.Reads as app-rule
-use Rattle.inference.proofs.+app_arr+app_etvar+app_rule+both+check+chk_all+chk_lam+chk_rule+chk_sub+equal+inf_rule+infer+infer_abs+infer_ann+infer_app+infer_application+infer_binop+infer_if+infer_let+infer_tabs+infer_tapp.Lts-app_rule as app-rule-lts
+use Rattle.inference.proofs.+app_arr+app_etvar+app_rule+check+chk_all+chk_lam+chk_rule+chk_sub+inf_rule+infer+infer_abs+infer_ann+infer_app+infer_application+infer_binop+infer_if+infer_let+infer_tabs+infer_tapp.Lts-app_rule as app-rule-lts
 use Rattle.inference.proofs.check.Reads as check
-use Rattle.inference.proofs.+app_arr+app_etvar+app_rule+both+check+chk_all+chk_lam+chk_rule+chk_sub+equal+inf_rule+infer+infer_abs+infer_ann+infer_app+infer_application+infer_binop+infer_if+infer_let+infer_tabs+infer_tapp.Lts-check as check-lts
+use Rattle.inference.proofs.+app_arr+app_etvar+app_rule+check+chk_all+chk_lam+chk_rule+chk_sub+inf_rule+infer+infer_abs+infer_ann+infer_app+infer_application+infer_binop+infer_if+infer_let+infer_tabs+infer_tapp.Lts-check as check-lts
 use Rattle.inference.proofs.chk_all.Reads as chk-all
-use Rattle.inference.proofs.+app_arr+app_etvar+app_rule+both+check+chk_all+chk_lam+chk_rule+chk_sub+equal+inf_rule+infer+infer_abs+infer_ann+infer_app+infer_application+infer_binop+infer_if+infer_let+infer_tabs+infer_tapp.Lts-chk_all as chk-all-lts
+use Rattle.inference.proofs.+app_arr+app_etvar+app_rule+check+chk_all+chk_lam+chk_rule+chk_sub+inf_rule+infer+infer_abs+infer_ann+infer_app+infer_application+infer_binop+infer_if+infer_let+infer_tabs+infer_tapp.Lts-chk_all as chk-all-lts
 use Rattle.inference.proofs.chk_lam.Reads as chk-lam
-use Rattle.inference.proofs.+app_arr+app_etvar+app_rule+both+check+chk_all+chk_lam+chk_rule+chk_sub+equal+inf_rule+infer+infer_abs+infer_ann+infer_app+infer_application+infer_binop+infer_if+infer_let+infer_tabs+infer_tapp.Lts-chk_lam as chk-lam-lts
+use Rattle.inference.proofs.+app_arr+app_etvar+app_rule+check+chk_all+chk_lam+chk_rule+chk_sub+inf_rule+infer+infer_abs+infer_ann+infer_app+infer_application+infer_binop+infer_if+infer_let+infer_tabs+infer_tapp.Lts-chk_lam as chk-lam-lts
 use Rattle.inference.proofs.chk_rule.Reads as chk-rule
-use Rattle.inference.proofs.+app_arr+app_etvar+app_rule+both+check+chk_all+chk_lam+chk_rule+chk_sub+equal+inf_rule+infer+infer_abs+infer_ann+infer_app+infer_application+infer_binop+infer_if+infer_let+infer_tabs+infer_tapp.Lts-chk_rule as chk-rule-lts
+use Rattle.inference.proofs.+app_arr+app_etvar+app_rule+check+chk_all+chk_lam+chk_rule+chk_sub+inf_rule+infer+infer_abs+infer_ann+infer_app+infer_application+infer_binop+infer_if+infer_let+infer_tabs+infer_tapp.Lts-chk_rule as chk-rule-lts
 use Rattle.inference.proofs.chk_sub.Reads as chk-sub
-use Rattle.inference.proofs.+app_arr+app_etvar+app_rule+both+check+chk_all+chk_lam+chk_rule+chk_sub+equal+inf_rule+infer+infer_abs+infer_ann+infer_app+infer_application+infer_binop+infer_if+infer_let+infer_tabs+infer_tapp.Lts-chk_sub as chk-sub-lts
+use Rattle.inference.proofs.+app_arr+app_etvar+app_rule+check+chk_all+chk_lam+chk_rule+chk_sub+inf_rule+infer+infer_abs+infer_ann+infer_app+infer_application+infer_binop+infer_if+infer_let+infer_tabs+infer_tapp.Lts-chk_sub as chk-sub-lts
 use Rattle.inference.proofs.infer.Reads as infer
-use Rattle.inference.proofs.+app_arr+app_etvar+app_rule+both+check+chk_all+chk_lam+chk_rule+chk_sub+equal+inf_rule+infer+infer_abs+infer_ann+infer_app+infer_application+infer_binop+infer_if+infer_let+infer_tabs+infer_tapp.Lts-infer as infer-lts
+use Rattle.inference.proofs.+app_arr+app_etvar+app_rule+check+chk_all+chk_lam+chk_rule+chk_sub+inf_rule+infer+infer_abs+infer_ann+infer_app+infer_application+infer_binop+infer_if+infer_let+infer_tabs+infer_tapp.Lts-infer as infer-lts
 use Rattle.inference.proofs.infer_abs.Reads as infer-abs
-use Rattle.inference.proofs.+app_arr+app_etvar+app_rule+both+check+chk_all+chk_lam+chk_rule+chk_sub+equal+inf_rule+infer+infer_abs+infer_ann+infer_app+infer_application+infer_binop+infer_if+infer_let+infer_tabs+infer_tapp.Lts-infer_abs as infer-abs-lts
+use Rattle.inference.proofs.+app_arr+app_etvar+app_rule+check+chk_all+chk_lam+chk_rule+chk_sub+inf_rule+infer+infer_abs+infer_ann+infer_app+infer_application+infer_binop+infer_if+infer_let+infer_tabs+infer_tapp.Lts-infer_abs as infer-abs-lts
 use Rattle.inference.proofs.infer_ann.Reads as infer-ann
-use Rattle.inference.proofs.+app_arr+app_etvar+app_rule+both+check+chk_all+chk_lam+chk_rule+chk_sub+equal+inf_rule+infer+infer_abs+infer_ann+infer_app+infer_application+infer_binop+infer_if+infer_let+infer_tabs+infer_tapp.Lts-infer_ann as infer-ann-lts
+use Rattle.inference.proofs.+app_arr+app_etvar+app_rule+check+chk_all+chk_lam+chk_rule+chk_sub+inf_rule+infer+infer_abs+infer_ann+infer_app+infer_application+infer_binop+infer_if+infer_let+infer_tabs+infer_tapp.Lts-infer_ann as infer-ann-lts
 use Rattle.inference.proofs.infer_app.Reads as infer-app
-use Rattle.inference.proofs.+app_arr+app_etvar+app_rule+both+check+chk_all+chk_lam+chk_rule+chk_sub+equal+inf_rule+infer+infer_abs+infer_ann+infer_app+infer_application+infer_binop+infer_if+infer_let+infer_tabs+infer_tapp.Lts-infer_app as infer-app-lts
+use Rattle.inference.proofs.+app_arr+app_etvar+app_rule+check+chk_all+chk_lam+chk_rule+chk_sub+inf_rule+infer+infer_abs+infer_ann+infer_app+infer_application+infer_binop+infer_if+infer_let+infer_tabs+infer_tapp.Lts-infer_app as infer-app-lts
 use Rattle.inference.proofs.infer_application.Reads as infer-application
-use Rattle.inference.proofs.+app_arr+app_etvar+app_rule+both+check+chk_all+chk_lam+chk_rule+chk_sub+equal+inf_rule+infer+infer_abs+infer_ann+infer_app+infer_application+infer_binop+infer_if+infer_let+infer_tabs+infer_tapp.Lts-infer_application as infer-application-lts
+use Rattle.inference.proofs.+app_arr+app_etvar+app_rule+check+chk_all+chk_lam+chk_rule+chk_sub+inf_rule+infer+infer_abs+infer_ann+infer_app+infer_application+infer_binop+infer_if+infer_let+infer_tabs+infer_tapp.Lts-infer_application as infer-application-lts
 use Rattle.inference.proofs.infer_binop.Reads as infer-binop
-use Rattle.inference.proofs.+app_arr+app_etvar+app_rule+both+check+chk_all+chk_lam+chk_rule+chk_sub+equal+inf_rule+infer+infer_abs+infer_ann+infer_app+infer_application+infer_binop+infer_if+infer_let+infer_tabs+infer_tapp.Lts-infer_binop as infer-binop-lts
-use Rattle.inference.proofs.both.Reads as both
-use Rattle.inference.proofs.+app_arr+app_etvar+app_rule+both+check+chk_all+chk_lam+chk_rule+chk_sub+equal+inf_rule+infer+infer_abs+infer_ann+infer_app+infer_application+infer_binop+infer_if+infer_let+infer_tabs+infer_tapp.Lts-both as both-lts
-use Rattle.inference.proofs.equal.Reads as equal
-use Rattle.inference.proofs.+app_arr+app_etvar+app_rule+both+check+chk_all+chk_lam+chk_rule+chk_sub+equal+inf_rule+infer+infer_abs+infer_ann+infer_app+infer_application+infer_binop+infer_if+infer_let+infer_tabs+infer_tapp.Lts-equal as equal-lts
+use Rattle.inference.proofs.+app_arr+app_etvar+app_rule+check+chk_all+chk_lam+chk_rule+chk_sub+inf_rule+infer+infer_abs+infer_ann+infer_app+infer_application+infer_binop+infer_if+infer_let+infer_tabs+infer_tapp.Lts-infer_binop as infer-binop-lts
 use Rattle.inference.proofs.infer_if.Reads as infer-if
-use Rattle.inference.proofs.+app_arr+app_etvar+app_rule+both+check+chk_all+chk_lam+chk_rule+chk_sub+equal+inf_rule+infer+infer_abs+infer_ann+infer_app+infer_application+infer_binop+infer_if+infer_let+infer_tabs+infer_tapp.Lts-infer_if as infer-if-lts
+use Rattle.inference.proofs.+app_arr+app_etvar+app_rule+check+chk_all+chk_lam+chk_rule+chk_sub+inf_rule+infer+infer_abs+infer_ann+infer_app+infer_application+infer_binop+infer_if+infer_let+infer_tabs+infer_tapp.Lts-infer_if as infer-if-lts
 use Rattle.inference.proofs.infer_let.Reads as infer-let
-use Rattle.inference.proofs.+app_arr+app_etvar+app_rule+both+check+chk_all+chk_lam+chk_rule+chk_sub+equal+inf_rule+infer+infer_abs+infer_ann+infer_app+infer_application+infer_binop+infer_if+infer_let+infer_tabs+infer_tapp.Lts-infer_let as infer-let-lts
+use Rattle.inference.proofs.+app_arr+app_etvar+app_rule+check+chk_all+chk_lam+chk_rule+chk_sub+inf_rule+infer+infer_abs+infer_ann+infer_app+infer_application+infer_binop+infer_if+infer_let+infer_tabs+infer_tapp.Lts-infer_let as infer-let-lts
 use Rattle.inference.proofs.inf_rule.Reads as inf-rule
-use Rattle.inference.proofs.+app_arr+app_etvar+app_rule+both+check+chk_all+chk_lam+chk_rule+chk_sub+equal+inf_rule+infer+infer_abs+infer_ann+infer_app+infer_application+infer_binop+infer_if+infer_let+infer_tabs+infer_tapp.Lts-inf_rule as inf-rule-lts
+use Rattle.inference.proofs.+app_arr+app_etvar+app_rule+check+chk_all+chk_lam+chk_rule+chk_sub+inf_rule+infer+infer_abs+infer_ann+infer_app+infer_application+infer_binop+infer_if+infer_let+infer_tabs+infer_tapp.Lts-inf_rule as inf-rule-lts
 use Rattle.inference.proofs.infer_tabs.Reads as infer-tabs
-use Rattle.inference.proofs.+app_arr+app_etvar+app_rule+both+check+chk_all+chk_lam+chk_rule+chk_sub+equal+inf_rule+infer+infer_abs+infer_ann+infer_app+infer_application+infer_binop+infer_if+infer_let+infer_tabs+infer_tapp.Lts-infer_tabs as infer-tabs-lts
+use Rattle.inference.proofs.+app_arr+app_etvar+app_rule+check+chk_all+chk_lam+chk_rule+chk_sub+inf_rule+infer+infer_abs+infer_ann+infer_app+infer_application+infer_binop+infer_if+infer_let+infer_tabs+infer_tapp.Lts-infer_tabs as infer-tabs-lts
 use Rattle.inference.proofs.infer_tapp.Reads as infer-tapp
-use Rattle.inference.proofs.+app_arr+app_etvar+app_rule+both+check+chk_all+chk_lam+chk_rule+chk_sub+equal+inf_rule+infer+infer_abs+infer_ann+infer_app+infer_application+infer_binop+infer_if+infer_let+infer_tabs+infer_tapp.Lts-infer_tapp as infer-tapp-lts
-use Rattle.inference.proofs.+app_arr+app_etvar+app_rule+both+check+chk_all+chk_lam+chk_rule+chk_sub+equal+inf_rule+infer+infer_abs+infer_ann+infer_app+infer_application+infer_binop+infer_if+infer_let+infer_tabs+infer_tapp.{statement}
-use Rattle.inference.proofs.+app_arr+app_etvar+app_rule+both+check+chk_all+chk_lam+chk_rule+chk_sub+equal+inf_rule+infer+infer_abs+infer_ann+infer_app+infer_application+infer_binop+infer_if+infer_let+infer_tabs+infer_tapp.Tie.{close}
+use Rattle.inference.proofs.+app_arr+app_etvar+app_rule+check+chk_all+chk_lam+chk_rule+chk_sub+inf_rule+infer+infer_abs+infer_ann+infer_app+infer_application+infer_binop+infer_if+infer_let+infer_tabs+infer_tapp.Lts-infer_tapp as infer-tapp-lts
+use Rattle.inference.proofs.+app_arr+app_etvar+app_rule+check+chk_all+chk_lam+chk_rule+chk_sub+inf_rule+infer+infer_abs+infer_ann+infer_app+infer_application+infer_binop+infer_if+infer_let+infer_tabs+infer_tapp.{statement}
+use Rattle.inference.proofs.+app_arr+app_etvar+app_rule+check+chk_all+chk_lam+chk_rule+chk_sub+inf_rule+infer+infer_abs+infer_ann+infer_app+infer_application+infer_binop+infer_if+infer_let+infer_tabs+infer_tapp.Tie.{close}
 mod Base
 mod AppArr
 mod AppEtvar
@@ -58,8 +54,6 @@ mod InferAnn
 mod InferApp
 mod InferApplication
 mod InferBinop
-mod Both
-mod Equal
 mod InferIf
 mod InferLet
 mod InfRule
@@ -80,18 +74,16 @@ use InferAnn.*
 use InferApp.*
 use InferApplication.*
 use InferBinop.*
-use Both.*
-use Equal.*
 use InferIf.*
 use InferLet.*
 use InfRule.*
 use InferTabs.*
 use InferTapp.*
 
-pub +app-arr+app-etvar+app-rule+both+check+chk-all+chk-lam+chk-rule+chk-sub+equal+inf-rule+infer+infer-abs+infer-ann+infer-app+infer-application+infer-binop+infer-if+infer-let+infer-tabs+infer-tapp-spec :
+pub +app-arr+app-etvar+app-rule+check+chk-all+chk-lam+chk-rule+chk-sub+inf-rule+infer+infer-abs+infer-ann+infer-app+infer-application+infer-binop+infer-if+infer-let+infer-tabs+infer-tapp-spec :
     {M : Type 1} → statement M
-+app-arr+app-etvar+app-rule+both+check+chk-all+chk-lam+chk-rule+chk-sub+equal+inf-rule+infer+infer-abs+infer-ann+infer-app+infer-application+infer-binop+infer-if+infer-let+infer-tabs+infer-tapp-spec =
-    close μ-app-arr μ-app-etvar μ-app-rule μ-both μ-check μ-chk-all μ-chk-lam μ-chk-rule μ-chk-sub μ-equal μ-inf-rule μ-infer μ-infer-abs μ-infer-ann μ-infer-app μ-infer-application μ-infer-binop μ-infer-if μ-infer-let μ-infer-tabs μ-infer-tapp
++app-arr+app-etvar+app-rule+check+chk-all+chk-lam+chk-rule+chk-sub+inf-rule+infer+infer-abs+infer-ann+infer-app+infer-application+infer-binop+infer-if+infer-let+infer-tabs+infer-tapp-spec =
+    close μ-app-arr μ-app-etvar μ-app-rule μ-check μ-chk-all μ-chk-lam μ-chk-rule μ-chk-sub μ-inf-rule μ-infer μ-infer-abs μ-infer-ann μ-infer-app μ-infer-application μ-infer-binop μ-infer-if μ-infer-let μ-infer-tabs μ-infer-tapp
     (λ t. app-arr-lts.spec (app-arr-claims t)
     (app-arr-at t)
     app-arr.Post
@@ -129,23 +121,6 @@ pub +app-arr+app-etvar+app-rule+both+check+chk-all+chk-lam+chk-rule+chk-sub+equa
     (app-rule-returns-2 t)
     (app-rule-same-length-3 t)
     (app-rule-returns-3 t))
-    (λ t. both-lts.spec (infer-ann-claims t)
-    (both-at t)
-    both.Post
-    (both-add-e t)
-    (both-add-word t)
-    (both-word-requires t)
-    (both-check-requires t)
-    (both-enum-known-z t)
-    (both-same-length t)
-    (both-returns t)
-    (both-check-requires-2 t)
-    (both-enum-known-y t)
-    (both-same-length-2 t)
-    (both-returns-2 t)
-    (both-plain-out-requires t)
-    (both-same-length-3 t)
-    (both-returns-3 t))
     (λ t. check-lts.spec (check-claims t)
     (check-at t)
     check.Post
@@ -227,23 +202,6 @@ pub +app-arr+app-etvar+app-rule+both+check+chk-all+chk-lam+chk-rule+chk-sub+equa
     (chk-sub-plain-out-requires t)
     (chk-sub-same-length-3 t)
     (chk-sub-returns-3 t))
-    (λ t. equal-lts.spec (equal-claims t)
-    (equal-at t)
-    equal.Post
-    (equal-add-e t)
-    (equal-add-word t)
-    (equal-word-requires t)
-    (equal-infer-requires t)
-    (equal-enum-known-z t)
-    (equal-same-length t)
-    (equal-returns t)
-    (equal-check-requires t)
-    (equal-enum-known-y t)
-    (equal-same-length-2 t)
-    (equal-returns-2 t)
-    (equal-plain-out-requires t)
-    (equal-same-length-3 t)
-    (equal-returns-3 t))
     (λ t. inf-rule-lts.spec (inf-rule-claims t)
     (inf-rule-at t)
     inf-rule.Post
@@ -365,19 +323,23 @@ pub +app-arr+app-etvar+app-rule+both+check+chk-all+chk-lam+chk-rule+chk-sub+equa
     (infer-binop-at t)
     infer-binop.Post
     (infer-binop-add-at t)
+    (infer-binop-add-e t)
     (infer-binop-word-requires t)
-    (infer-binop-both-requires t)
-    (infer-binop-both-requires-2 t)
-    (infer-binop-equal-requires t)
-    (infer-binop-both-requires-3 t)
+    (infer-binop-add-word t)
+    (infer-binop-word-requires-2 t)
+    (infer-binop-operator-requires t)
+    (infer-binop-infer-requires t)
+    (infer-binop-check-requires t)
+    (infer-binop-enum-known-z t)
     (infer-binop-same-length t)
     (infer-binop-returns t)
+    (infer-binop-check-requires-2 t)
+    (infer-binop-enum-known-y t)
     (infer-binop-same-length-2 t)
     (infer-binop-returns-2 t)
+    (infer-binop-plain-out-requires t)
     (infer-binop-same-length-3 t)
-    (infer-binop-returns-3 t)
-    (infer-binop-same-length-4 t)
-    (infer-binop-returns-4 t))
+    (infer-binop-returns-3 t))
     (λ t. infer-if-lts.spec (infer-if-claims t)
     (infer-if-at t)
     infer-if.Post

@@ -5,8 +5,8 @@ use Rattle.inference.proofs.InferOne.{tapp-table, tapp-ask, tapp-else, 
 use Rattle.inference.proofs.Starting.{place}
 use native.Mathlib.Omega.{arith}
 use Rattle.inference.proofs.infer_tapp.Reads as infer-tapp
-use Rattle.inference.proofs.+app_arr+app_etvar+app_rule+both+check+chk_all+chk_lam+chk_rule+chk_sub+equal+inf_rule+infer+infer_abs+infer_ann+infer_app+infer_application+infer_binop+infer_if+infer_let+infer_tabs+infer_tapp.Lts-infer_tapp as infer-tapp-lts
-use Rattle.inference.proofs.+app_arr+app_etvar+app_rule+both+check+chk_all+chk_lam+chk_rule+chk_sub+equal+inf_rule+infer+infer_abs+infer_ann+infer_app+infer_application+infer_binop+infer_if+infer_let+infer_tabs+infer_tapp.Proof.Base.{infer-tapp-at, infer-tapp-claims}
+use Rattle.inference.proofs.+app_arr+app_etvar+app_rule+check+chk_all+chk_lam+chk_rule+chk_sub+inf_rule+infer+infer_abs+infer_ann+infer_app+infer_application+infer_binop+infer_if+infer_let+infer_tabs+infer_tapp.Lts-infer_tapp as infer-tapp-lts
+use Rattle.inference.proofs.+app_arr+app_etvar+app_rule+check+chk_all+chk_lam+chk_rule+chk_sub+inf_rule+infer+infer_abs+infer_ann+infer_app+infer_application+infer_binop+infer_if+infer_let+infer_tabs+infer_tapp.Proof.Base.{infer-tapp-at, infer-tapp-claims}
 
 pub infer-tapp-add-e : (t : ℕ) → infer-tapp-lts.Need-add-e (infer-tapp-claims t) (infer-tapp-at t) infer-tapp.Post
 infer-tapp-add-e t c = omega (arith, place (c .before .before .pre .1))

@@ -5,8 +5,8 @@ use Rattle.judging.proofs.Whole.{whole-spent, whole-rule, whole-less, whole-els
 use Rattle.judging.proofs.Judgements.{may-enter}
 use native.Mathlib.Omega.{arith}
 use Rattle.inference.proofs.infer_app.Reads as infer-app
-use Rattle.inference.proofs.+app_arr+app_etvar+app_rule+both+check+chk_all+chk_lam+chk_rule+chk_sub+equal+inf_rule+infer+infer_abs+infer_ann+infer_app+infer_application+infer_binop+infer_if+infer_let+infer_tabs+infer_tapp.Lts-infer_app as infer-app-lts
-use Rattle.inference.proofs.+app_arr+app_etvar+app_rule+both+check+chk_all+chk_lam+chk_rule+chk_sub+equal+inf_rule+infer+infer_abs+infer_ann+infer_app+infer_application+infer_binop+infer_if+infer_let+infer_tabs+infer_tapp.Proof.Base.{infer-app-at, infer-app-claims}
+use Rattle.inference.proofs.+app_arr+app_etvar+app_rule+check+chk_all+chk_lam+chk_rule+chk_sub+inf_rule+infer+infer_abs+infer_ann+infer_app+infer_application+infer_binop+infer_if+infer_let+infer_tabs+infer_tapp.Lts-infer_app as infer-app-lts
+use Rattle.inference.proofs.+app_arr+app_etvar+app_rule+check+chk_all+chk_lam+chk_rule+chk_sub+inf_rule+infer+infer_abs+infer_ann+infer_app+infer_application+infer_binop+infer_if+infer_let+infer_tabs+infer_tapp.Proof.Base.{infer-app-at, infer-app-claims}
 
 pub infer-app-enter-requires : (t : ℕ) → infer-app-lts.Need-enter-requires (infer-app-claims t) (infer-app-at t) infer-app.Post
 infer-app-enter-requires t c κs = may-enter (c .before .before .pre .1)
