@@ -18,70 +18,58 @@ use Rattle.judging.specs.declared.Answer.{Answer}
 use Rattle.judging.specs.declared.Mode.{Mode}
 use Rattle.judging.specs.declared.Step.{Step}
 use Rattle.judging.specs.declared.Step.the-variants.{Done}
-use Rattle.judging.specs.Asking.{mode, Asks, as-check, checkAsk, appAsk, JudgePre}
+use Rattle.judging.specs.Asking.{mode, checkAsk, appAsk}
 use Rattle.judging.specs.Ending.{Judged, Fires}
 use Rattle.judging.proofs.Asking.{app-asked}
-use Rattle.judging.proofs.Steps.{NotDone}
 use Rattle.steps.specs.declared.Parted.{Parted}
 use Rattle.steps.specs.Parting.{freshName, PartPre, Parts}
 use Rattle.steps.proofs.Forms.{IsArrow, is-arrow, IsETVar, is-etvar}
 use Rattle.steps.proofs.Going.{unknown-named}
 use Rattle.rules.specs.Taking.{AppPre}
 use Rattle.rules.specs.Going.{PlainOut}
-use Rattle.rules.proofs.Ways.{Way, asks-check, otherwise, back, went, finish}
+use Rattle.rules.proofs.Ways.{Way, went, finish}
 use Rattle.inference.proofs.Starting.{outcome, begin-app}
+use Rattle.inference.proofs.Premise.{At, Premise, ask-check, returns}
 
 -- ## InfAppArr
 
 module _ (m : Mode) {q w : List ℕ} {s : State} {g : Span} {r ex : ℕ} (pre : AppPre q w s g r ex 5) where
-  abbrev AsksArr : Judgement → Type 0
-  AsksArr j = Asks q w (s .top) g (appAsk r ex) j
-
-  arr : {j : Judgement} (k : AsksArr j) → IsArrow (app-asked r ex k .A)
+  pub arr : {j : Judgement} (k : At (pre .rule) j) → IsArrow (app-asked r ex k .A)
   arr k = let v = app-asked r ex k in is-arrow (v .A) (sym (pre .tag .is (v .A) (v .den)))
 
-  arr-den : {j : Judgement} (k : AsksArr j) → Den q w (s .top) r (arrow (arr k .A) (arr k .B))
+  arr-den : {j : Judgement} (k : At (pre .rule) j) → Den q w (s .top) r (arrow (arr k .A) (arr k .B))
   arr-den k = rw (arr k .is) at (app-asked r ex k .den)
 
   pub arr-held : HeldAs q w (s .top) r 5
   arr-held = held-as (room-held (pre .rule .room) (app-asked r ex (pre .rule .asks) .den)) (pre .tag) 5 refl
 
-  arr-way : {j : Judgement} (k : AsksArr j)
+  pub arr-way : {j : Judgement} (k : At (pre .rule) j)
       → Way q w w s s leaf (20 + 28 * g .n) (outcome m s j)
       (judge (mode m) (check (app-asked r ex k .Γ) (app-asked r ex k .e) (arr k .A)) >>= λ u. give (Syntax.InfAppArr, arr k .B, u .1, u .2 & leaf))
   unfolding inferAppRule on asArrow _orElse_ infAppArr
   arr-way k = begin-app m (pre .rule) (app-asked r ex k .is) (arr k .is) refl
 
   module _ {a c : ℕ} (lf : LeftOf q w (s .top) r a) (rt : RightOf q w (s .top) r c) where
-    arr-asks : {j : Judgement} (k : AsksArr j) → Asks q w (s .top) g (checkAsk ex a) (check (app-asked r ex k .Γ) (app-asked r ex k .e) (arr k .A))
-    arr-asks k = let v = app-asked r ex k in as-check refl (v .run) (v .at) (lf .is _ _ (arr-den k) .den)
-
-    pub arr-ask : JudgePre q w s g (checkAsk ex a)
-    arr-ask = asks-check (pre .rule .room) (arr-asks (pre .rule .asks))
+    pub arr-asks : Premise m (pre .rule) _ _ (λ j k. arr-way k) g (checkAsk ex a)
+    arr-asks = record { at = λ j k. let v = app-asked r ex k in ask-check (v .run) (v .at) (lf .is _ _ (arr-den k) .den) }
 
     module _ {w₁ : List ℕ} {z : Step} (call : Judged m q w w₁ s g (checkAsk ex a) z) where
-      pub arr-else : NotDone z → Fires m q w w₁ s g (appAsk r ex) z
-      arr-else nd = record { run = λ j k. otherwise _ _ (arr-way k) (call .run _ (arr-asks k)) nd }
-
       pub arr-done : {t : Answer} {y : Step} → z ≡ Done t
           → PlainOut (t .st) (t .g) c 15 1 y → Fires m q w w₁ s g (appAsk r ex) y
       unfolding ruleNumber children
       arr-done d fin = record {
         run = λ j k.
-            let b = back _ _ (arr-way k) (call .run _ (arr-asks k)) d in
+            let b = returns arr-asks call d k in
             finish Syntax.InfAppArr (fin .finished q w₁) (b .run) (b .stays (rt .is _ _ (arr-den k) .den)) (b .way) (omega arith) refl refl (omega arith);
       }
 
 -- ## InfAppETVar
 
 module _ (m : Mode) {q w : List ℕ} {s : State} {g : Span} {r ex : ℕ} (pre : AppPre q w s g r ex 4) where
-  abbrev AsksUnknown : Judgement → Type 0
-  AsksUnknown j = Asks q w (s .top) g (appAsk r ex) j
-
-  unknown : {j : Judgement} (k : AsksUnknown j) → IsETVar (app-asked r ex k .A)
+  pub unknown : {j : Judgement} (k : At (pre .rule) j) → IsETVar (app-asked r ex k .A)
   unknown k = let v = app-asked r ex k in is-etvar (v .A) (sym (pre .tag .is (v .A) (v .den)))
 
-  unknown-den : {j : Judgement} (k : AsksUnknown j) → Den q w (s .top) r (etvar (unknown k .a))
+  unknown-den : {j : Judgement} (k : At (pre .rule) j) → Den q w (s .top) r (etvar (unknown k .a))
   unknown-den k = rw (unknown k .is) at (app-asked r ex k .den)
 
   pub etvar-held : HeldNamed q w (s .top) r
@@ -100,10 +88,10 @@ module _ (m : Mode) {q w : List ℕ} {s : State} {g : Span} {r ex : ℕ} (pre : 
       }
 
   module _ {a : tyvar.TyVar} (n : Named q w (s .top) r a) {w₁ : List ℕ} {o : Parted} (i : Parts q w w₁ s g a o) where
-    etvar-name : {j : Judgement} (k : AsksUnknown j) → ty a ≡ unknown k .a
+    etvar-name : {j : Judgement} (k : At (pre .rule) j) → ty a ≡ unknown k .a
     etvar-name k = n .of-etvar (unknown k .a) (unknown-den k)
 
-    etvar-way : {j : Judgement} (k : AsksUnknown j)
+    pub etvar-way : {j : Judgement} (k : At (pre .rule) j)
         → Way q w w₁ s (o .st) leaf 0 (outcome m s j)
         (judge (mode m) (check (split (unknown k .a) (freshName (s .fresh)) (freshName (suc (s .fresh))) (app-asked r ex k .Γ)) (app-asked r ex k .e) (etvar (freshName (s .fresh))))
         >>= λ u. give (Syntax.InfAppETVar, etvar (freshName (suc (s .fresh))), u .1, u .2 & leaf))
@@ -115,22 +103,15 @@ module _ (m : Mode) {q w : List ℕ} {s : State} {g : Span} {r ex : ℕ} (pre : 
         went (begin-app m (pre .rule) (app-asked r ex k .is) (unknown k .is) refl) (o .st) 0 (i .keep) (i .up) (i .low) (i .left) (omega (arith, i .built))
         (omega (arith, pre .rule .names)) (rw (l, f) refl)
 
-    etvar-asks : {j : Judgement} (k : AsksUnknown j) → Asks q w₁ (o .st .top) (o .g) (checkAsk ex (o .b))
-        (check (split (unknown k .a) (freshName (s .fresh)) (freshName (suc (s .fresh))) (app-asked r ex k .Γ)) (app-asked r ex k .e) (etvar (freshName (s .fresh))))
-    etvar-asks k = let v = app-asked r ex k in as-check refl (rw (etvar-name k) at (i .run (v .Γ) (v .run))) (v .at) (i .first)
-
-    pub etvar-ask : JudgePre q w₁ (o .st) (o .g) (checkAsk ex (o .b))
-    etvar-ask = let k = pre .rule .asks in asks-check (etvar-way k .room) (etvar-asks k)
+    pub etvar-asks : Premise m (pre .rule) _ _ (λ j k. etvar-way k) (o .g) (checkAsk ex (o .b))
+    etvar-asks = record { at = λ j k. let v = app-asked r ex k in ask-check (rw (etvar-name k) at (i .run (v .Γ) (v .run))) (v .at) (i .first) }
 
     module _ {w₂ : List ℕ} {z : Step} (call : Judged m q w₁ w₂ (o .st) (o .g) (checkAsk ex (o .b)) z) where
-      pub etvar-else : NotDone z → Fires m q w w₂ s g (appAsk r ex) z
-      etvar-else nd = record { run = λ j k. otherwise _ _ (etvar-way k) (call .run _ (etvar-asks k)) nd }
-
       pub etvar-done : {t : Answer} {y : Step} → z ≡ Done t
           → PlainOut (t .st) (t .g) (o .c) 16 1 y → Fires m q w w₂ s g (appAsk r ex) y
       unfolding ruleNumber children
       etvar-done d fin = record {
         run = λ j k.
-            let b = back _ _ (etvar-way k) (call .run _ (etvar-asks k)) d in
+            let b = returns etvar-asks call d k in
             finish Syntax.InfAppETVar (fin .finished q w₂) (b .run) (b .stays (i .second)) (b .way) (omega arith) refl refl (omega arith);
       }

@@ -2,7 +2,7 @@
 use mathlib.Core.Path.{_≡_, refl, sym, _∙_}
 use mathlib.Core.Bool.{true, false}
 use mathlib.Core.List.{List}
-use Prim.Native.Nat.{ℕ, _+_, _*_, _≤_, _<_, _^_}
+use Prim.Native.Nat.{ℕ, _+_, _*_, _<_, _^_}
 use native.Mathlib.Omega.{arith}
 use lib.ListN.{length, getD}
 use Rattle.definition.specs.Syntax
@@ -13,7 +13,6 @@ use Rattle.definition.specs.Types.{apply}
 use Rattle.definition.specs.Question as question
 use Rattle.definition.specs.Rules.{Judge, rule, judge, tyCode, exprCode, parameter, chkLam, chkAll, chkSub, checkRule, branch}
 use Rattle.layout.specs.Names.{tm, ty}
-use Rattle.layout.specs.Places.{ExprAt}
 use Rattle.layout.specs.Denotes.{Den, written, Run}
 use Rattle.layout.specs.declared.Span.{Span}
 use Rattle.layout.specs.declared.State.{State}
@@ -28,7 +27,7 @@ use Rattle.judging.specs.declared.Answer.{Answer}
 use Rattle.judging.specs.declared.Mode.{Mode}
 use Rattle.judging.specs.declared.Step.{Step}
 use Rattle.judging.specs.declared.Step.the-variants.{Done}
-use Rattle.judging.specs.Asking.{mode, Asks, as-infer, as-check, inferAsk, checkAsk, JudgePre}
+use Rattle.judging.specs.Asking.{mode, inferAsk, checkAsk}
 use Rattle.judging.specs.Ending.{Judged, RunsJ, Fires}
 use Rattle.judging.proofs.Asking.{check-asked}
 use Rattle.judging.proofs.Steps.{NotDone}
@@ -45,9 +44,10 @@ use Rattle.rules.specs.Going.{TwoIn, Passes, Nothing, Compared, PlainOut, kept,
 use Rattle.rules.proofs.Forms.{Abs, form}
 use Rattle.rules.proofs.Choices.{chk-lam, chk-all, chk-sub}
 use Rattle.rules.proofs.Before.{var-entry}
-use Rattle.rules.proofs.Ways.{Way, asks-infer, asks-check, den-on, otherwise, Back, back, went, grown, Onward, onward, there, turn, finish}
+use Rattle.rules.proofs.Ways.{Way, den-on, otherwise, back, went, grown, Onward, onward, there, turn, finish}
 use Rattle.inference.specs.Rules.{relate, Related}
-use Rattle.inference.proofs.Starting.{outcome, begin-check, after-type, in-table}
+use Rattle.inference.proofs.Starting.{outcome, begin-check, type-next, in-table}
+use Rattle.inference.proofs.Premise.{At, Premise, ask-infer, ask-check, Returns, returns}
 use Rattle.inference.proofs.Related.{regroup}
 
 -- ## The rule that was chosen
@@ -79,16 +79,13 @@ chosen-sub μ judge Γ e B i h (sub r a b c d) =
 -- ## ChkLam
 
 module _ (m : Mode) {q w : List ℕ} {s : State} {g : Span} {ex r : ℕ} (pre : CheckPre q w s g ex r 19) where
-  abbrev AsksLam : Judgement → Type 0
-  AsksLam j = Asks q w (s .top) g (checkAsk ex r) j
-
-  lam-parts : {j : Judgement} (k : AsksLam j) → Abs q ex (check-asked ex r k .e)
+  pub lam-parts : {j : Judgement} (k : At (pre .rule) j) → Abs q ex (check-asked ex r k .e)
   lam-parts k = form 18 (pre .code ∙ chosen-lam (pre .choice) .0) (check-asked ex r k .at)
 
-  lam-arrow : {j : Judgement} (k : AsksLam j) → IsArrow (check-asked ex r k .B)
+  pub lam-arrow : {j : Judgement} (k : At (pre .rule) j) → IsArrow (check-asked ex r k .B)
   lam-arrow k = let v = check-asked ex r k in is-arrow (v .B) (sym (pre .tag .is (v .B) (v .den)) ∙ chosen-lam (pre .choice) .1)
 
-  lam-den : {j : Judgement} (k : AsksLam j) → Den q w (s .top) r (arrow (lam-arrow k .A) (lam-arrow k .B))
+  lam-den : {j : Judgement} (k : At (pre .rule) j) → Den q w (s .top) r (arrow (lam-arrow k .A) (lam-arrow k .B))
   lam-den k = rw (lam-arrow k .is) at (check-asked ex r k .den)
 
   pub lam-name : ex + 1 < length q
@@ -101,14 +98,14 @@ module _ (m : Mode) {q w : List ℕ} {s : State} {g : Span} {ex r : ℕ} (pre : 
   lam-held = held-as (room-held (pre .rule .room) (check-asked ex r (pre .rule .asks) .den)) (pre .tag) 5 (chosen-lam (pre .choice) .1)
 
   module _ {p c : ℕ} (lf : LeftOf q w (s .top) r p) (rt : RightOf q w (s .top) r c) where
-    lam-left : {j : Judgement} (k : AsksLam j) → Den q w (s .top) p (lam-arrow k .A)
+    lam-left : {j : Judgement} (k : At (pre .rule) j) → Den q w (s .top) p (lam-arrow k .A)
     lam-left k = lf .is _ _ (lam-den k) .den
 
     pub lam-two : TwoIn q w s g (ex + 2) p
     lam-two = let k = pre .rule .asks in
         record { two = record { spare = _; room = pre .rule .room; A = _; B = _; left = written (lam-parts k .type); right = lam-left k }; Γ = _; run = check-asked ex r k .run }
 
-    lam-way : {j : Judgement} (k : AsksLam j)
+    lam-way : {j : Judgement} (k : At (pre .rule) j)
         → Way q w w s s leaf (20 + 28 * g .n) (outcome m s j)
         (parameter (m .«compares_parameter») (check-asked ex r k .Γ) (lam-parts k .A) (lam-arrow k .A)
         >>= λ u. judge (mode m) (check (check-asked ex r k .Γ ▹ varBnd (lam-parts k .x) (lam-arrow k .A)) (lam-parts k .d) (lam-arrow k .B))
@@ -118,7 +115,7 @@ module _ (m : Mode) {q w : List ℕ} {s : State} {g : Span} {ex r : ℕ} (pre : 
         (chk-lam (mode m) (judge (mode m)) (check-asked ex r k .Γ) ex (lam-parts k .x) (lam-parts k .A) (lam-arrow k .A) (lam-arrow k .B) (lam-parts k .d))
 
     module _ {w₁ : List ℕ} {y : Mid} (o : Compared m q w w₁ s g (ex + 2) p y) where
-      lam-passes : {j : Judgement} (k : AsksLam j)
+      lam-passes : {j : Judgement} (k : At (pre .rule) j)
           → Passes q w w₁ s Nothing y (parameter (m .«compares_parameter») (check-asked ex r k .Γ) (lam-parts k .A) (lam-arrow k .A) (s .left) (s .fresh))
       lam-passes k = o .passes _ _ _ (check-asked ex r k .run) (written (lam-parts k .type)) (lam-left k)
 
@@ -126,7 +123,7 @@ module _ (m : Mode) {q w : List ℕ} {s : State} {g : Span} {ex r : ℕ} (pre : 
       lam-end e = record { run = λ j k. there Nothing _ _ (lam-way k) (lam-passes k) e }
 
       module _ {s₁ : State} {a b : ℕ} (e : y ≡ On s₁ a b) where
-        lam-onward : {j : Judgement} (k : AsksLam j) → Onward Nothing _ _ (lam-way k) w₁ s₁ a b
+        lam-onward : {j : Judgement} (k : At (pre .rule) j) → Onward Nothing _ _ (lam-way k) w₁ s₁ a b
         lam-onward k = onward Nothing _ _ (lam-way k) (lam-passes k) e
 
         pub lam-space : Space w₁ s₁ g 1 × (p < 2 ^ 32)
@@ -135,47 +132,35 @@ module _ (m : Mode) {q w : List ℕ} {s : State} {g : Span} {ex r : ℕ} (pre : 
 
         module _ {x : tmvar.TmVar} {body : ℕ} (n : x .0 ≡ getD q (ex + 1) 0) (h : body ≡ getD w (16 + (ex + 2)) 0) {w₂ : List ℕ} {v : Opened}
             (i : Pushed w₁ w₂ s₁ g (kVar (tm x)) p v) where
-          lam-var : {j : Judgement} (k : AsksLam j) → tm x ≡ lam-parts k .x
+          lam-var : {j : Judgement} (k : At (pre .rule) j) → tm x ≡ lam-parts k .x
           lam-var k = rw (n ∙ lam-parts k .name .is) refl
 
-          lam-way₂ : {j : Judgement} (k : AsksLam j)
+          pub lam-way₂ : {j : Judgement} (k : At (pre .rule) j)
               → Way q w w₂ s (v .st) leaf 0 (outcome m s j)
               (judge (mode m) (check (check-asked ex r k .Γ ▹ varBnd (lam-parts k .x) (lam-arrow k .A)) (lam-parts k .d) (lam-arrow k .B))
               >>= λ r. give (Syntax.ChkLam, int, rightOf (kVar (lam-parts k .x)) (r .1), r .2 & leaf))
           lam-way₂ k = grown (lam-onward k .way) 0 (i .grown) (omega arith)
 
-          lam-asks : {j : Judgement} (k : AsksLam j) → Asks q w₂ (v .st .top) (v .g) (checkAsk body c)
-              (check (check-asked ex r k .Γ ▹ varBnd (lam-parts k .x) (lam-arrow k .A)) (lam-parts k .d) (lam-arrow k .B))
-          lam-asks k =
-              let u = lam-onward k in
-              let d : ExprAt q body (lam-parts k .d) = rw (after-type (pre .rule .room .base) h (lam-parts k .type)) (lam-parts k .body) in
-              let run₁ : Run q w₁ (s₁ .top) (g .at) (g .n) (check-asked ex r k .Γ) = run-frame (u .keep) (u .up) (check-asked ex r k .run) in
-              as-check refl (rw (lam-var k) at (i .run run₁ (var-entry (tm x) (den-on (u .way) (lam-left k))))) d (den-on (lam-way₂ k) (rt .is _ _ (lam-den k) .den))
+          pub lam-asks : Premise m (pre .rule) _ _ (λ j k. lam-way₂ k) (v .g) (checkAsk body c)
+          lam-asks = record {
+            at = λ j k.
+                let u = lam-onward k in
+                let run₁ : Run q w₁ (s₁ .top) (g .at) (g .n) (check-asked ex r k .Γ) = run-frame (u .keep) (u .up) (check-asked ex r k .run) in
+                ask-check (rw (lam-var k) at (i .run run₁ (var-entry (tm x) (den-on (u .way) (lam-left k)))))
+                (type-next (pre .rule .room .base) h (lam-parts k .type) (lam-parts k .body)) (den-on (lam-way₂ k) (rt .is _ _ (lam-den k) .den));
+          }
 
-          pub lam-ask : JudgePre q w₂ (v .st) (v .g) (checkAsk body c)
-          lam-ask = let k = pre .rule .asks in asks-check (lam-way₂ k .room) (lam-asks k)
+          module _ {w₃ : List ℕ} {z : Step} (call : Judged m q w₂ w₃ (v .st) (v .g) (checkAsk body c) z) {t : Answer} (d : z ≡ Done t) where
+            pub lam-back : {j : Judgement} (k : At (pre .rule) j) → Returns lam-asks call k t
+            lam-back k = returns lam-asks call d k
 
-          pub lam-falls : v .st .left ≤ s .left
-          lam-falls = lam-way₂ (pre .rule .asks) .so .less
-
-          module _ {w₃ : List ℕ} {z : Step} (call : Judged m q w₂ w₃ (v .st) (v .g) (checkAsk body c) z) where
-            pub lam-else : NotDone z → Fires m q w w₃ s g (checkAsk ex r) z
-            lam-else nd = record { run = λ j k. otherwise _ _ (lam-way₂ k) (call .run _ (lam-asks k)) nd }
-
-            module _ {t : Answer} (d : z ≡ Done t) where
-              lam-back : {j : Judgement} (k : AsksLam j) → Back _ _ (lam-way₂ k) (call .run _ (lam-asks k)) t
-              lam-back k = back _ _ (lam-way₂ k) (call .run _ (lam-asks k)) d
-
-              pub lam-space₂ : Space w₃ (t .st) (t .g) 0
-              lam-space₂ = let b = lam-back (pre .rule .asks) in room-space (b .way .room) (t .g) 0 (b .run) (omega arith)
-
-              pub lam-done : {w₄ : List ℕ} {y : Step} → KeepOut false w₃ w₄ t (kVar (tm x)) 2048 19 1 y → Fires m q w w₄ s g (checkAsk ex r) y
-              unfolding ruleNumber children kept
-              lam-done f = record {
-                run = λ j k.
-                    let b = lam-back k in
-                    finish Syntax.ChkLam (rw (lam-var k) at (f .finished q)) (b .run) (int-den (b .way .room .base)) (b .way) (omega arith) refl refl (omega arith);
-              }
+            pub lam-done : {w₄ : List ℕ} {y : Step} → KeepOut false w₃ w₄ t (kVar (tm x)) 2048 19 1 y → Fires m q w w₄ s g (checkAsk ex r) y
+            unfolding ruleNumber children kept
+            lam-done f = record {
+              run = λ j k.
+                  let b = lam-back k in
+                  finish Syntax.ChkLam (rw (lam-var k) at (f .finished q)) (b .run) (int-den (b .way .room .base)) (b .way) (omega arith) refl refl (omega arith);
+            }
 
 -- ## ChkAll
 
@@ -190,10 +175,7 @@ opened-body : {q w w₁ : List ℕ} {s : State} {g : Span} {o : Body} {b : TyVar
 opened-body {T = T} e (opened {T = U} b p) = let i : U ≡ T = cc in record { built = b; opens = rw i at p; left = cc }
 
 module _ (m : Mode) {q w : List ℕ} {s : State} {g : Span} {ex r : ℕ} (pre : CheckPre q w s g ex r 20) where
-  abbrev AsksAll : Judgement → Type 0
-  AsksAll j = Asks q w (s .top) g (checkAsk ex r) j
-
-  all-parts : {j : Judgement} (k : AsksAll j) → IsForall (check-asked ex r k .B)
+  pub all-parts : {j : Judgement} (k : At (pre .rule) j) → IsForall (check-asked ex r k .B)
   all-parts k = let v = check-asked ex r k in is-forall (v .B) (sym (pre .tag .is (v .B) (v .den)) ∙ chosen-all (pre .choice))
 
   pub all-pre : ForallPre q w s g r
@@ -201,10 +183,10 @@ module _ (m : Mode) {q w : List ℕ} {s : State} {g : Span} {ex r : ℕ} (pre : 
       record { room = pre .rule .room; Γ = _; run = v .run; held = held-as (room-held (pre .rule .room) (v .den)) (pre .tag) 6 (chosen-all (pre .choice)) }
 
   module _ {w₁ : List ℕ} {o : Body} (i : OpensRight q w w₁ s g r o) where
-    all-opened : {j : Judgement} (k : AsksAll j) → Opened-body q w w₁ s g o (all-parts k .a) (check-asked ex r k .Γ ▹ tvarBnd (all-parts k .a)) (all-parts k .A)
+    all-opened : {j : Judgement} (k : At (pre .rule) j) → Opened-body q w w₁ s g o (all-parts k .a) (check-asked ex r k .Γ ▹ tvarBnd (all-parts k .a)) (all-parts k .A)
     all-opened k = let v = check-asked ex r k in opened-body refl (i .opens (v .Γ) (all-parts k .a) (all-parts k .A) (v .run) (rw (all-parts k .is) at (v .den)))
 
-    all-way : {j : Judgement} (k : AsksAll j)
+    pub all-way : {j : Judgement} (k : At (pre .rule) j)
         → Way q w w₁ s (o .st) leaf 0 (outcome m s j)
         (judge (mode m) (check (check-asked ex r k .Γ ▹ tvarBnd (all-parts k .a)) (check-asked ex r k .e) (all-parts k .A))
         >>= λ r. give (Syntax.ChkAll, int, rightOf (kTVar (all-parts k .a)) (r .1), r .2 & leaf))
@@ -219,42 +201,25 @@ module _ (m : Mode) {q w : List ℕ} {s : State} {g : Span} {ex r : ℕ} (pre : 
         went (begin-check m (pre .rule) (v .is) refl (p .is) (chk-all (mode m) (judge (mode m)) (v .Γ) (v .e) (p .a) (p .A))) (o .st) 0 (b .keep) (b .up) (b .low) l
         (omega (arith, b .built)) (omega (arith, pre .rule .names)) (rw (l, f) refl)
 
-    all-asks : {j : Judgement} (k : AsksAll j) → Asks q w₁ (o .st .top) (o .g) (checkAsk ex (o .ty))
-        (check (check-asked ex r k .Γ ▹ tvarBnd (all-parts k .a)) (check-asked ex r k .e) (all-parts k .A))
-    all-asks k = as-check refl (all-opened k .opens .run) (check-asked ex r k .at) (all-opened k .opens .den)
+    pub all-asks : Premise m (pre .rule) _ _ (λ j k. all-way k) (o .g) (checkAsk ex (o .ty))
+    all-asks = record { at = λ j k. ask-check (all-opened k .opens .run) (check-asked ex r k .at) (all-opened k .opens .den) }
 
-    pub all-ask : JudgePre q w₁ (o .st) (o .g) (checkAsk ex (o .ty))
-    all-ask = let k = pre .rule .asks in asks-check (all-way k .room) (all-asks k)
+    module _ {w₂ : List ℕ} {z : Step} (call : Judged m q w₁ w₂ (o .st) (o .g) (checkAsk ex (o .ty)) z) {t : Answer} (d : z ≡ Done t) where
+      pub all-back : {j : Judgement} (k : At (pre .rule) j) → Returns all-asks call k t
+      all-back k = returns all-asks call d k
 
-    pub all-falls : o .st .left ≤ s .left
-    all-falls = all-way (pre .rule .asks) .so .less
-
-    module _ {w₂ : List ℕ} {z : Step} (call : Judged m q w₁ w₂ (o .st) (o .g) (checkAsk ex (o .ty)) z) where
-      pub all-else : NotDone z → Fires m q w w₂ s g (checkAsk ex r) z
-      all-else nd = record { run = λ j k. otherwise _ _ (all-way k) (call .run _ (all-asks k)) nd }
-
-      module _ {t : Answer} (d : z ≡ Done t) where
-        all-back : {j : Judgement} (k : AsksAll j) → Back _ _ (all-way k) (call .run _ (all-asks k)) t
-        all-back k = back _ _ (all-way k) (call .run _ (all-asks k)) d
-
-        pub all-space : Space w₂ (t .st) (t .g) 0
-        all-space = let b = all-back (pre .rule .asks) in room-space (b .way .room) (t .g) 0 (b .run) (omega arith)
-
-        pub all-done : {w₃ : List ℕ} {y : Step} → KeepOut false w₂ w₃ t (kTVar (ty (o .b))) 2048 20 1 y → Fires m q w w₃ s g (checkAsk ex r) y
-        unfolding ruleNumber children kept
-        all-done f = record {
-          run = λ j k.
-              let b = all-back k in
-              finish Syntax.ChkAll (rw (all-opened k .opens .name) at (f .finished q)) (b .run) (int-den (b .way .room .base)) (b .way) (omega arith) refl refl (omega arith);
-        }
+      pub all-done : {w₃ : List ℕ} {y : Step} → KeepOut false w₂ w₃ t (kTVar (ty (o .b))) 2048 20 1 y → Fires m q w w₃ s g (checkAsk ex r) y
+      unfolding ruleNumber children kept
+      all-done f = record {
+        run = λ j k.
+            let b = all-back k in
+            finish Syntax.ChkAll (rw (all-opened k .opens .name) at (f .finished q)) (b .run) (int-den (b .way .room .base)) (b .way) (omega arith) refl refl (omega arith);
+      }
 
 -- ## ChkSub
 
 module _ (m : Mode) {q w : List ℕ} {s : State} {g : Span} {ex r : ℕ} (pre : CheckPre q w s g ex r 21) where
-  abbrev AsksSub : Judgement → Type 0
-  AsksSub j = Asks q w (s .top) g (checkAsk ex r) j
-
-  sub-way : {j : Judgement} (k : AsksSub j)
+  pub sub-way : {j : Judgement} (k : At (pre .rule) j)
       → Way q w w s s leaf (20 + 28 * g .n) (outcome m s j)
       (judge (mode m) (infer (check-asked ex r k .Γ) (check-asked ex r k .e))
       >>= λ r₁. apply (r₁ .1) (r₁ .0) >>= λ A. apply (r₁ .1) (check-asked ex r k .B)
@@ -264,43 +229,36 @@ module _ (m : Mode) {q w : List ℕ} {s : State} {g : Span} {ex r : ℕ} (pre : 
       let v = check-asked ex r k in
       begin-check m (pre .rule) (v .is) refl refl (chosen-sub (mode m) (judge (mode m)) (v .Γ) (v .e) (v .B) (sym (pre .code) ∙ expr-code (v .at) .is) (pre .tag .is (v .B) (v .den)) (pre .choice))
 
-  sub-asks : {j : Judgement} (k : AsksSub j) → Asks q w (s .top) g (inferAsk ex) (infer (check-asked ex r k .Γ) (check-asked ex r k .e))
-  sub-asks k = as-infer refl (check-asked ex r k .run) (check-asked ex r k .at)
+  pub sub-asks : Premise m (pre .rule) _ _ (λ j k. sub-way k) g (inferAsk ex)
+  sub-asks = record { at = λ j k. ask-infer (check-asked ex r k .run) (check-asked ex r k .at) }
 
-  pub sub-ask : JudgePre q w s g (inferAsk ex)
-  sub-ask = asks-infer (pre .rule .room) (sub-asks (pre .rule .asks))
+  module _ {w₁ : List ℕ} {z : Step} (call : Judged m q w w₁ s g (inferAsk ex) z) {t : Answer} (d : z ≡ Done t) where
+    pub sub-back : {j : Judgement} (k : At (pre .rule) j) → Returns sub-asks call k t
+    sub-back k = returns sub-asks call d k
 
-  module _ {w₁ : List ℕ} {z : Step} (call : Judged m q w w₁ s g (inferAsk ex) z) where
-    pub sub-else : NotDone z → Fires m q w w₁ s g (checkAsk ex r) z
-    sub-else nd = record { run = λ j k. otherwise _ _ (sub-way k) (call .run _ (sub-asks k)) nd }
+    pub sub-two : TwoIn q w₁ (t .st) (t .g) (t .ty) r
+    sub-two = let k = pre .rule .asks in let b = sub-back k in
+        record { two = record { spare = _; room = b .way .room; A = _; B = _; left = b .den; right = b .stays (check-asked ex r k .den) }; Γ = _; run = b .run }
 
-    module _ {t : Answer} (d : z ≡ Done t) where
-      sub-back : {j : Judgement} (k : AsksSub j) → Back _ _ (sub-way k) (call .run _ (sub-asks k)) t
-      sub-back k = back _ _ (sub-way k) (call .run _ (sub-asks k)) d
+    module _ {w₂ : List ℕ} {y : Step} (call₂ : Related true q w₁ w₂ (t .st) (t .g) (t .ty) r y) where
+      sub-way₂ : {j : Judgement} (k : At (pre .rule) j)
+          → Way q w w₁ s (t .st) (sub-back k .t & leaf) (4 * t .g .n + 4) (outcome m s j)
+          (relate m true (sub-back k .Δ) (sub-back k .C) (check-asked ex r k .B) >>= λ r₂. give (Syntax.ChkSub, int, r₂ .1, sub-back k .t & r₂ .2 & leaf))
+      unfolding branch
+      sub-way₂ k = turn (sub-back k .way) (regroup _ _ _ _)
 
-      pub sub-two : TwoIn q w₁ (t .st) (t .g) (t .ty) r
-      sub-two = let k = pre .rule .asks in let b = sub-back k in
-          record { two = record { spare = _; room = b .way .room; A = _; B = _; left = b .den; right = b .stays (check-asked ex r k .den) }; Γ = _; run = b .run }
+      sub-runs : {j : Judgement} (k : At (pre .rule) j)
+          → RunsJ q w₁ w₂ (t .st) y (relate m true (sub-back k .Δ) (sub-back k .C) (check-asked ex r k .B) (t .st .left) (t .st .fresh))
+      sub-runs k = let b = sub-back k in call₂ .run m _ _ _ (b .run) (b .den) (b .stays (check-asked ex r k .den))
 
-      module _ {w₂ : List ℕ} {y : Step} (call₂ : Related true q w₁ w₂ (t .st) (t .g) (t .ty) r y) where
-        sub-way₂ : {j : Judgement} (k : AsksSub j)
-            → Way q w w₁ s (t .st) (sub-back k .t & leaf) (4 * t .g .n + 4) (outcome m s j)
-            (relate m true (sub-back k .Δ) (sub-back k .C) (check-asked ex r k .B) >>= λ r₂. give (Syntax.ChkSub, int, r₂ .1, sub-back k .t & r₂ .2 & leaf))
-        unfolding branch
-        sub-way₂ k = turn (sub-back k .way) (regroup _ _ _ _)
+      pub sub-else₂ : NotDone y → Fires m q w w₂ s g (checkAsk ex r) y
+      sub-else₂ nd = record { run = λ j k. otherwise _ _ (sub-way₂ k) (sub-runs k) nd }
 
-        sub-runs : {j : Judgement} (k : AsksSub j)
-            → RunsJ q w₁ w₂ (t .st) y (relate m true (sub-back k .Δ) (sub-back k .C) (check-asked ex r k .B) (t .st .left) (t .st .fresh))
-        sub-runs k = let b = sub-back k in call₂ .run m _ _ _ (b .run) (b .den) (b .stays (check-asked ex r k .den))
-
-        pub sub-else₂ : NotDone y → Fires m q w w₂ s g (checkAsk ex r) y
-        sub-else₂ nd = record { run = λ j k. otherwise _ _ (sub-way₂ k) (sub-runs k) nd }
-
-        pub sub-done : {u : Answer} {o : Step} → y ≡ Done u
-            → PlainOut (u .st) (u .g) 2048 21 2 o → Fires m q w w₂ s g (checkAsk ex r) o
-        unfolding ruleNumber children
-        sub-done d₂ fin = record {
-          run = λ j k.
-              let b = back _ _ (sub-way₂ k) (sub-runs k) d₂ in
-              finish Syntax.ChkSub (fin .finished q w₂) (b .run) (int-den (b .way .room .base)) (b .way) (omega arith) refl refl (omega arith);
-        }
+      pub sub-done : {u : Answer} {o : Step} → y ≡ Done u
+          → PlainOut (u .st) (u .g) 2048 21 2 o → Fires m q w w₂ s g (checkAsk ex r) o
+      unfolding ruleNumber children
+      sub-done d₂ fin = record {
+        run = λ j k.
+            let b = back _ _ (sub-way₂ k) (sub-runs k) d₂ in
+            finish Syntax.ChkSub (fin .finished q w₂) (b .run) (int-den (b .way .room .base)) (b .way) (omega arith) refl refl (omega arith);
+      }

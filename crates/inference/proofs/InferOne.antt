@@ -13,7 +13,6 @@ use Rattle.definition.specs.Contexts.{kVar, kTVar, _▹_, solvedAndRight}
 use Rattle.definition.specs.Types.{apply}
 use Rattle.definition.specs.Rules.{rule, judge, inferRule, infAnn, infLam, infTAbs, infTApp, instantiate}
 use Rattle.layout.specs.Names.{tm, ty}
-use Rattle.layout.specs.Places.{ExprAt}
 use Rattle.layout.specs.Denotes.{Den, written}
 use Rattle.layout.specs.declared.Span.{Span}
 use Rattle.layout.specs.declared.State.{State}
@@ -31,10 +30,9 @@ use Rattle.judging.specs.declared.Answer.{Answer}
 use Rattle.judging.specs.declared.Mode.{Mode}
 use Rattle.judging.specs.declared.Step.{Step}
 use Rattle.judging.specs.declared.Step.the-variants.{Done, Spent}
-use Rattle.judging.specs.Asking.{mode, Asks, as-infer, as-check, inferAsk, checkAsk, JudgePre}
+use Rattle.judging.specs.Asking.{mode, inferAsk, checkAsk}
 use Rattle.judging.specs.Ending.{Judged, Fires}
 use Rattle.judging.proofs.Asking.{infer-asked}
-use Rattle.judging.proofs.Steps.{NotDone}
 use Rattle.steps.specs.Parting.{freshName}
 use Rattle.steps.proofs.Going.{room-space}
 use Rattle.rules.specs.declared.Lam.{Lam}
@@ -44,57 +42,46 @@ use Rattle.rules.specs.Taking.{InferPre}
 use Rattle.rules.specs.Going.{LamPre, LamIn, Two, DenOne, Instantiated, PlainOut, kept, KeepOut, TabsPre, TabsOut}
 use Rattle.rules.proofs.Forms.{Abs, Typed, TAbs}
 use Rattle.rules.proofs.Before.{tvar-entry}
-use Rattle.rules.proofs.Ways.{Way, asks-infer, asks-check, otherwise, Back, back, went, grown, apply-pre, AppliedTo, apply-spent, apply-done, onward, there, finish}
-use Rattle.inference.proofs.Starting.{outcome, begin-infer, shape, after-expr, after-type, in-table}
+use Rattle.rules.proofs.Ways.{Way, went, grown, apply-pre, AppliedTo, apply-spent, apply-done, onward, there, finish}
+use Rattle.inference.proofs.Starting.{outcome, begin-infer, shape, after-expr, type-next, in-table}
+use Rattle.inference.proofs.Premise.{At, Premise, ask-infer, ask-check, Returns, returns}
 
 -- ## InfAnn
 
 module _ (m : Mode) {q w : List ℕ} {s : State} {g : Span} {ex : ℕ} (pre : InferPre q w s g ex 21) where
-  abbrev AsksAnn : Judgement → Type 0
-  AsksAnn j = Asks q w (s .top) g (inferAsk ex) j
-
-  ann : {j : Judgement} (k : AsksAnn j) → Typed Syntax.ann q ex (infer-asked ex k .e)
+  pub ann : {j : Judgement} (k : At (pre .rule) j) → Typed Syntax.ann q ex (infer-asked ex k .e)
   ann k = shape pre k
 
   pub ann-table : 16 + (ex + 1) < length w
   ann-table = in-table (pre .rule .room) (expr-code (ann (pre .rule .asks) .first) .inside)
 
   module _ {a : ℕ} (h : a ≡ getD w (16 + (ex + 1)) 0) where
-    ann-type : {j : Judgement} (k : AsksAnn j) → Den q w (s .top) a (ann k .A)
+    ann-type : {j : Judgement} (k : At (pre .rule) j) → Den q w (s .top) a (ann k .A)
     ann-type k = rw (after-expr (pre .rule .room .base) h (ann k .first)) (written (ann k .type))
 
-    ann-way : {j : Judgement} (k : AsksAnn j)
+    pub ann-way : {j : Judgement} (k : At (pre .rule) j)
         → Way q w w s s leaf (20 + 28 * g .n) (outcome m s j)
         (judge (mode m) (check (infer-asked ex k .Γ) (ann k .f) (ann k .A)) >>= λ r. give (Syntax.InfAnn, ann k .A, r .1, r .2 & leaf))
     unfolding inferRule infAnn
     ann-way k = begin-infer m (pre .rule) (infer-asked ex k .is) (ann k .is) refl
 
-    ann-asks : {j : Judgement} (k : AsksAnn j) → Asks q w (s .top) g (checkAsk (ex + 1) a) (check (infer-asked ex k .Γ) (ann k .f) (ann k .A))
-    ann-asks k = as-check refl (infer-asked ex k .run) (ann k .first) (ann-type k)
-
-    pub ann-ask : JudgePre q w s g (checkAsk (ex + 1) a)
-    ann-ask = asks-check (pre .rule .room) (ann-asks (pre .rule .asks))
+    pub ann-asks : Premise m (pre .rule) _ _ (λ j k. ann-way k) g (checkAsk (ex + 1) a)
+    ann-asks = record { at = λ j k. ask-check (infer-asked ex k .run) (ann k .first) (ann-type k) }
 
     module _ {w₁ : List ℕ} {z : Step} (call : Judged m q w w₁ s g (checkAsk (ex + 1) a) z) where
-      pub ann-else : NotDone z → Fires m q w w₁ s g (inferAsk ex) z
-      ann-else nd = record { run = λ j k. otherwise _ _ (ann-way k) (call .run _ (ann-asks k)) nd }
-
       pub ann-done : {r : Answer} {y : Step} → z ≡ Done r
           → PlainOut (r .st) (r .g) a 12 1 y → Fires m q w w₁ s g (inferAsk ex) y
       unfolding ruleNumber children
       ann-done d fin = record {
         run = λ j k.
-            let b = back _ _ (ann-way k) (call .run _ (ann-asks k)) d in
+            let b = returns ann-asks call d k in
             finish Syntax.InfAnn (fin .finished q w₁) (b .run) (b .stays (ann-type k)) (b .way) (omega arith) refl refl (omega arith);
       }
 
 -- ## InfLam
 
 module _ (m : Mode) {q w : List ℕ} {s : State} {g : Span} {ex : ℕ} (pre : InferPre q w s g ex 18) where
-  abbrev AsksAbs : Judgement → Type 0
-  AsksAbs j = Asks q w (s .top) g (inferAsk ex) j
-
-  lam : {j : Judgement} (k : AsksAbs j) → Abs q ex (infer-asked ex k .e)
+  pub lam : {j : Judgement} (k : At (pre .rule) j) → Abs q ex (infer-asked ex k .e)
   lam k = shape pre k
 
   pub abs-name : ex + 1 < length q
@@ -109,10 +96,10 @@ module _ (m : Mode) {q w : List ℕ} {s : State} {g : Span} {ex : ℕ} (pre : In
 
   module _ {x : tmvar.TmVar} {p : ℕ} (n : x .0 ≡ getD q (ex + 1) 0) (h : p ≡ getD w (16 + (ex + 2)) 0) {w₁ : List ℕ} {o : Lam}
       (i : LamIn q w w₁ s g x (ex + 2) o) where
-    abs-var : {j : Judgement} (k : AsksAbs j) → tm x ≡ lam k .x
+    abs-var : {j : Judgement} (k : At (pre .rule) j) → tm x ≡ lam k .x
     abs-var k = rw (n ∙ lam k .name .is) refl
 
-    abs-way : {j : Judgement} (k : AsksAbs j)
+    pub abs-way : {j : Judgement} (k : At (pre .rule) j)
         → Way q w w₁ s (o .st) leaf 0 (outcome m s j)
         (judge (mode m) (check (infer-asked ex k .Γ ▹ varBnd (lam k .x) (lam k .A) ▹ etvarBnd (freshName (s .fresh))) (lam k .d) (etvar (freshName (s .fresh))))
         >>= λ r. give (Syntax.InfLam, arrow (lam k .A) (etvar (freshName (s .fresh))), solvedAndRight (kVar (lam k .x)) (r .1), r .2 & leaf))
@@ -123,39 +110,27 @@ module _ (m : Mode) {q w : List ℕ} {s : State} {g : Span} {ex : ℕ} (pre : In
         went (begin-infer m (pre .rule) (infer-asked ex k .is) (lam k .is) refl) (o .st) 0 (i .keep) (i .up) (i .low) (i .left) (omega (arith, i .most))
         (omega (arith, pre .rule .names)) (rw (l, f, add-one) refl)
 
-    abs-asks : {j : Judgement} (k : AsksAbs j) → Asks q w₁ (o .st .top) (o .g) (checkAsk p (o .b))
-        (check (infer-asked ex k .Γ ▹ varBnd (lam k .x) (lam k .A) ▹ etvarBnd (freshName (s .fresh))) (lam k .d) (etvar (freshName (s .fresh))))
-    abs-asks k =
-        let e : ExprAt q p (lam k .d) = rw (after-type (pre .rule .room .base) h (lam k .type)) (lam k .body) in
-        as-check refl (rw (abs-var k) at (i .run (infer-asked ex k .Γ) (lam k .A) (infer-asked ex k .run) (written (lam k .type)))) e (i .unknown)
+    pub abs-asks : Premise m (pre .rule) _ _ (λ j k. abs-way k) (o .g) (checkAsk p (o .b))
+    abs-asks = record {
+      at = λ j k.
+          ask-check (rw (abs-var k) at (i .run (infer-asked ex k .Γ) (lam k .A) (infer-asked ex k .run) (written (lam k .type))))
+          (type-next (pre .rule .room .base) h (lam k .type) (lam k .body)) (i .unknown);
+    }
 
-    pub abs-ask : JudgePre q w₁ (o .st) (o .g) (checkAsk p (o .b))
-    abs-ask = asks-check (abs-way (pre .rule .asks) .room) (abs-asks (pre .rule .asks))
-
-    module _ {w₂ : List ℕ} {z : Step} (call : Judged m q w₁ w₂ (o .st) (o .g) (checkAsk p (o .b)) z) where
-      pub abs-else : NotDone z → Fires m q w w₂ s g (inferAsk ex) z
-      abs-else nd = record { run = λ j k. otherwise _ _ (abs-way k) (call .run _ (abs-asks k)) nd }
-
-      module _ {r : Answer} (d : z ≡ Done r) where
-        pub abs-space : Space w₂ (r .st) (r .g) 0
-        abs-space = let k = pre .rule .asks in let b = back _ _ (abs-way k) (call .run _ (abs-asks k)) d in room-space (b .way .room) (r .g) 0 (b .run) (omega arith)
-
-        pub abs-done : {w₃ : List ℕ} {y : Step}
-            → KeepOut true w₂ w₃ r (kVar (tm x)) (o .ty) 4 1 y → Fires m q w w₃ s g (inferAsk ex) y
-        unfolding ruleNumber children kept
-        abs-done fin = record {
-          run = λ j k.
-              let b = back _ _ (abs-way k) (call .run _ (abs-asks k)) d in
-              finish Syntax.InfLam (rw (abs-var k) at (fin .finished q)) (b .run) (b .stays (i .arrow (lam k .A) (written (lam k .type)))) (b .way) (omega arith) refl refl (omega arith);
-        }
+    module _ {w₂ : List ℕ} {z : Step} (call : Judged m q w₁ w₂ (o .st) (o .g) (checkAsk p (o .b)) z) {r : Answer} (d : z ≡ Done r) where
+      pub abs-done : {w₃ : List ℕ} {y : Step}
+          → KeepOut true w₂ w₃ r (kVar (tm x)) (o .ty) 4 1 y → Fires m q w w₃ s g (inferAsk ex) y
+      unfolding ruleNumber children kept
+      abs-done fin = record {
+        run = λ j k.
+            let b = returns abs-asks call d k in
+            finish Syntax.InfLam (rw (abs-var k) at (fin .finished q)) (b .run) (b .stays (i .arrow (lam k .A) (written (lam k .type)))) (b .way) (omega arith) refl refl (omega arith);
+      }
 
 -- ## InfTAbs
 
 module _ (m : Mode) {q w : List ℕ} {s : State} {g : Span} {ex : ℕ} (pre : InferPre q w s g ex 20) where
-  abbrev AsksTabs : Judgement → Type 0
-  AsksTabs j = Asks q w (s .top) g (inferAsk ex) j
-
-  tabs : {j : Judgement} (k : AsksTabs j) → TAbs q ex (infer-asked ex k .e)
+  pub tabs : {j : Judgement} (k : At (pre .rule) j) → TAbs q ex (infer-asked ex k .e)
   tabs k = shape pre k
 
   pub tabs-name : ex + 1 < length q
@@ -165,105 +140,88 @@ module _ (m : Mode) {q w : List ℕ} {s : State} {g : Span} {ex : ℕ} (pre : In
   tabs-space = (room-space (pre .rule .room) g 1 (infer-asked ex (pre .rule .asks) .run) (omega arith), omega arith)
 
   module _ {a : tyvar.TyVar} (n : a .0 ≡ getD q (ex + 1) 0) {w₁ : List ℕ} {o : Opened} (i : Pushed w w₁ s g (kTVar (ty a)) 2048 o) where
-    tabs-var : {j : Judgement} (k : AsksTabs j) → ty a ≡ tabs k .a
+    tabs-var : {j : Judgement} (k : At (pre .rule) j) → ty a ≡ tabs k .a
     tabs-var k = rw (n ∙ tabs k .name .is) refl
 
-    tabs-way : {j : Judgement} (k : AsksTabs j)
+    pub tabs-way : {j : Judgement} (k : At (pre .rule) j)
         → Way q w w₁ s (o .st) leaf 0 (outcome m s j)
         (judge (mode m) (infer (infer-asked ex k .Γ ▹ tvarBnd (tabs k .a)) (tabs k .d))
         >>= λ r. apply (r .1) (r .0) >>= λ A. give (Syntax.InfTAbs, forall (tabs k .a) A, solvedAndRight (kTVar (tabs k .a)) (r .1), r .2 & leaf))
     unfolding inferRule infTAbs
     tabs-way k = grown (begin-infer m (pre .rule) (infer-asked ex k .is) (tabs k .is) refl) 0 (i .grown) (omega arith)
 
-    tabs-asks : {j : Judgement} (k : AsksTabs j) → Asks q w₁ (o .st .top) (o .g) (inferAsk (ex + 2)) (infer (infer-asked ex k .Γ ▹ tvarBnd (tabs k .a)) (tabs k .d))
-    tabs-asks k = as-infer refl (rw (tabs-var k) at (i .run (infer-asked ex k .run) (tvar-entry (ty a) (pre .rule .room .base)))) (tabs k .body)
+    pub tabs-asks : Premise m (pre .rule) _ _ (λ j k. tabs-way k) (o .g) (inferAsk (ex + 2))
+    tabs-asks = record { at = λ j k. ask-infer (rw (tabs-var k) at (i .run (infer-asked ex k .run) (tvar-entry (ty a) (pre .rule .room .base)))) (tabs k .body) }
 
-    pub tabs-ask : JudgePre q w₁ (o .st) (o .g) (inferAsk (ex + 2))
-    tabs-ask = asks-infer (tabs-way (pre .rule .asks) .room) (tabs-asks (pre .rule .asks))
+    module _ {w₂ : List ℕ} {z : Step} (call : Judged m q w₁ w₂ (o .st) (o .g) (inferAsk (ex + 2)) z) {r : Answer} (d : z ≡ Done r) where
+      pub tabs-back : {j : Judgement} (k : At (pre .rule) j) → Returns tabs-asks call k r
+      tabs-back k = returns tabs-asks call d k
 
-    module _ {w₂ : List ℕ} {z : Step} (call : Judged m q w₁ w₂ (o .st) (o .g) (inferAsk (ex + 2)) z) where
-      pub tabs-else : NotDone z → Fires m q w w₂ s g (inferAsk ex) z
-      tabs-else nd = record { run = λ j k. otherwise _ _ (tabs-way k) (call .run _ (tabs-asks k)) nd }
+      pub tabs-apply : ApplyPre q w₂ (r .st) (r .g) (r .ty)
+      tabs-apply = let b = tabs-back (pre .rule .asks) in apply-pre (b .way .room) (b .run) (b .den)
 
-      module _ {r : Answer} (d : z ≡ Done r) where
-        tabs-back : {j : Judgement} (k : AsksTabs j) → Back _ _ (tabs-way k) (call .run _ (tabs-asks k)) r
-        tabs-back k = back _ _ (tabs-way k) (call .run _ (tabs-asks k)) d
+      module _ {w₃ : List ℕ} {y : Made} (ap : Applied q w₂ w₃ (r .st) (r .g) (r .ty) y) where
+        pub tabs-spent : y ≡ made.Spent → Fires m q w w₃ s g (inferAsk ex) Spent
+        tabs-spent h = record { run = λ j k. let b = tabs-back k in apply-spent _ (b .way) ap (b .run) (b .den) h }
 
-        pub tabs-apply : ApplyPre q w₂ (r .st) (r .g) (r .ty)
-        tabs-apply = let b = tabs-back (pre .rule .asks) in apply-pre (b .way .room) (b .run) (b .den)
+        module _ {s₃ : State} {t : ℕ} (h : y ≡ made.Done s₃ t) where
+          tabs-applied : {j : Judgement} (k : At (pre .rule) j) → AppliedTo _ (tabs-back k .way) ap (tabs-back k .run) (tabs-back k .den) s₃ t
+          tabs-applied k = let b = tabs-back k in apply-done _ (b .way) ap (b .run) (b .den) h
 
-        module _ {w₃ : List ℕ} {y : Made} (ap : Applied q w₂ w₃ (r .st) (r .g) (r .ty) y) where
-          pub tabs-spent : y ≡ made.Spent → Fires m q w w₃ s g (inferAsk ex) Spent
-          tabs-spent h = record { run = λ j k. let b = tabs-back k in apply-spent _ (b .way) ap (b .run) (b .den) h }
+          pub tabs-pre : TabsPre q w₃ s₃ (r .g) t
+          tabs-pre =
+              let u = tabs-applied (pre .rule .asks) in
+              let rm = u .way .room in
+              record { held = room-held rm (u .den); below = u .run .below; room = omega (arith, rm .fits); low = rm .low }
 
-          module _ {s₃ : State} {t : ℕ} (h : y ≡ made.Done s₃ t) where
-            tabs-applied : {j : Judgement} (k : AsksTabs j) → AppliedTo _ (tabs-back k .way) ap (tabs-back k .run) (tabs-back k .den) s₃ t
-            tabs-applied k = let b = tabs-back k in apply-done _ (b .way) ap (b .run) (b .den) h
-
-            pub tabs-pre : TabsPre q w₃ s₃ (r .g) t
-            tabs-pre =
-                let u = tabs-applied (pre .rule .asks) in
-                let rm = u .way .room in
-                record { held = room-held rm (u .den); below = u .run .below; room = omega (arith, rm .fits); low = rm .low }
-
-            pub tabs-done : {w₄ : List ℕ} {v : Step}
-                → TabsOut q w₃ w₄ s₃ (r .g) (ty a) t v → Fires m q w w₄ s g (inferAsk ex) v
-            unfolding ruleNumber children
-            tabs-done fin = record {
-              run = λ j k.
-                  let u = tabs-applied k in
-                  finish Syntax.InfTAbs (rw (tabs-var k) at (fin .finished)) (u .run) (u .den) (u .way) (omega arith) refl refl (omega arith);
-            }
+          pub tabs-done : {w₄ : List ℕ} {v : Step}
+              → TabsOut q w₃ w₄ s₃ (r .g) (ty a) t v → Fires m q w w₄ s g (inferAsk ex) v
+          unfolding ruleNumber children
+          tabs-done fin = record {
+            run = λ j k.
+                let u = tabs-applied k in
+                finish Syntax.InfTAbs (rw (tabs-var k) at (fin .finished)) (u .run) (u .den) (u .way) (omega arith) refl refl (omega arith);
+          }
 
 -- ## InfTApp
 
 module _ (m : Mode) {q w : List ℕ} {s : State} {g : Span} {ex : ℕ} (pre : InferPre q w s g ex 19) where
-  abbrev AsksTapp : Judgement → Type 0
-  AsksTapp j = Asks q w (s .top) g (inferAsk ex) j
-
-  tapp : {j : Judgement} (k : AsksTapp j) → Typed Syntax.tapp q ex (infer-asked ex k .e)
+  pub tapp : {j : Judgement} (k : At (pre .rule) j) → Typed Syntax.tapp q ex (infer-asked ex k .e)
   tapp k = shape pre k
 
   pub tapp-table : 16 + (ex + 1) < length w
   tapp-table = in-table (pre .rule .room) (expr-code (tapp (pre .rule .asks) .first) .inside)
 
-  tapp-way : {j : Judgement} (k : AsksTapp j)
+  pub tapp-way : {j : Judgement} (k : At (pre .rule) j)
       → Way q w w s s leaf (20 + 28 * g .n) (outcome m s j)
       (judge (mode m) (infer (infer-asked ex k .Γ) (tapp k .f)) >>= λ r. instantiate (tapp k .A) (r .0) >>= λ A. give (Syntax.InfTApp, A, r .1, r .2 & leaf))
   unfolding inferRule infTApp
   tapp-way k = begin-infer m (pre .rule) (infer-asked ex k .is) (tapp k .is) refl
 
-  tapp-asks : {j : Judgement} (k : AsksTapp j) → Asks q w (s .top) g (inferAsk (ex + 1)) (infer (infer-asked ex k .Γ) (tapp k .f))
-  tapp-asks k = as-infer refl (infer-asked ex k .run) (tapp k .first)
+  pub tapp-asks : Premise m (pre .rule) _ _ (λ j k. tapp-way k) g (inferAsk (ex + 1))
+  tapp-asks = record { at = λ j k. ask-infer (infer-asked ex k .run) (tapp k .first) }
 
-  pub tapp-ask : JudgePre q w s g (inferAsk (ex + 1))
-  tapp-ask = asks-infer (pre .rule .room) (tapp-asks (pre .rule .asks))
+  module _ {w₁ : List ℕ} {z : Step} (call : Judged m q w w₁ s g (inferAsk (ex + 1)) z) {a : ℕ} (h : a ≡ getD w (16 + (ex + 1)) 0) {r : Answer} (d : z ≡ Done r) where
+    pub tapp-back : {j : Judgement} (k : At (pre .rule) j) → Returns tapp-asks call k r
+    tapp-back k = returns tapp-asks call d k
 
-  module _ {w₁ : List ℕ} {z : Step} (call : Judged m q w w₁ s g (inferAsk (ex + 1)) z) where
-    pub tapp-else : NotDone z → Fires m q w w₁ s g (inferAsk ex) z
-    tapp-else nd = record { run = λ j k. otherwise _ _ (tapp-way k) (call .run _ (tapp-asks k)) nd }
+    tapp-type : {j : Judgement} (k : At (pre .rule) j) → Den q w₁ (r .st .top) a (tapp k .A)
+    tapp-type k = rw (after-expr (pre .rule .room .base) h (tapp k .first)) (written (tapp k .type))
 
-    module _ {a : ℕ} (h : a ≡ getD w (16 + (ex + 1)) 0) {r : Answer} (d : z ≡ Done r) where
-      tapp-back : {j : Judgement} (k : AsksTapp j) → Back _ _ (tapp-way k) (call .run _ (tapp-asks k)) r
-      tapp-back k = back _ _ (tapp-way k) (call .run _ (tapp-asks k)) d
+    pub tapp-two : Two q w₁ (r .st) (r .ty) a
+    tapp-two = let k = pre .rule .asks in let b = tapp-back k in
+        record { spare = _; room = b .way .room; A = _; B = _; left = b .den; right = tapp-type k }
 
-      tapp-type : {j : Judgement} (k : AsksTapp j) → Den q w₁ (r .st .top) a (tapp k .A)
-      tapp-type k = rw (after-expr (pre .rule .room .base) h (tapp k .first)) (written (tapp k .type))
+    module _ {w₂ : List ℕ} {y : Mid} (o : Instantiated q w₁ w₂ (r .st) (r .ty) a y) where
+      pub tapp-end : {e : Step} → y ≡ End e → Fires m q w w₂ s g (inferAsk ex) e
+      tapp-end i = record { run = λ j k. let b = tapp-back k in there (DenOne q w₂) _ _ (b .way) (o .passes _ _ (b .den) (tapp-type k)) i }
 
-      pub tapp-two : Two q w₁ (r .st) (r .ty) a
-      tapp-two = let k = pre .rule .asks in let b = tapp-back k in
-          record { spare = _; room = b .way .room; A = _; B = _; left = b .den; right = tapp-type k }
-
-      module _ {w₂ : List ℕ} {y : Mid} (o : Instantiated q w₁ w₂ (r .st) (r .ty) a y) where
-        pub tapp-end : {e : Step} → y ≡ End e → Fires m q w w₂ s g (inferAsk ex) e
-        tapp-end i = record { run = λ j k. let b = tapp-back k in there (DenOne q w₂) _ _ (b .way) (o .passes _ _ (b .den) (tapp-type k)) i }
-
-        pub tapp-done : {s₂ : State} {t t′ : ℕ} {v : Step} → y ≡ On s₂ t t′
-            → PlainOut s₂ (r .g) t 14 1 v → Fires m q w w₂ s g (inferAsk ex) v
-        unfolding ruleNumber children
-        tapp-done i fin = record {
-          run = λ j k.
-              let b = tapp-back k in
-              let u = onward (DenOne q w₂) _ _ (b .way) (o .passes _ _ (b .den) (tapp-type k)) i in
-              finish Syntax.InfTApp (fin .finished q w₂) (run-frame (u .keep) (u .up) (b .run)) (u .says) (u .way) (omega arith) refl refl (omega arith);
-        }
+      pub tapp-done : {s₂ : State} {t t′ : ℕ} {v : Step} → y ≡ On s₂ t t′
+          → PlainOut s₂ (r .g) t 14 1 v → Fires m q w w₂ s g (inferAsk ex) v
+      unfolding ruleNumber children
+      tapp-done i fin = record {
+        run = λ j k.
+            let b = tapp-back k in
+            let u = onward (DenOne q w₂) _ _ (b .way) (o .passes _ _ (b .den) (tapp-type k)) i in
+            finish Syntax.InfTApp (fin .finished q w₂) (run-frame (u .keep) (u .up) (b .run)) (u .says) (u .way) (omega arith) refl refl (omega arith);
+      }

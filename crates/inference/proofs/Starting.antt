@@ -52,8 +52,12 @@ module _ {q w : List ℕ} {t p a : ℕ} (b : Base q w t) (h : a ≡ getD w (16 +
   pub after-expr : {e : Expr} → ExprAt q p e → a ≡ p + exprSize e
   after-expr {e} x = h ∙ b .past-expr p e x
 
-  pub after-type : {A : Ty} → TyAt q p A → a ≡ p + size A
-  after-type {A} x = h ∙ b .past-ty p A x
+  -- the expression that stands after an expression, or after a type
+  pub expr-next : {e d : Expr} → ExprAt q p e → ExprAt q (p + exprSize e) d → ExprAt q a d
+  expr-next x y = rw (after-expr x) y
+
+  pub type-next : {A : Ty} {d : Expr} → TyAt q p A → ExprAt q (p + size A) d → ExprAt q a d
+  type-next {A} x y = rw (h ∙ b .past-ty p A x) y
 
 -- a place of the question has its word in the table of ends
 pub in-table : {q w : List ℕ} {s : State} {k p : ℕ} → Room q w s k → p < 2048 → 16 + p < length w

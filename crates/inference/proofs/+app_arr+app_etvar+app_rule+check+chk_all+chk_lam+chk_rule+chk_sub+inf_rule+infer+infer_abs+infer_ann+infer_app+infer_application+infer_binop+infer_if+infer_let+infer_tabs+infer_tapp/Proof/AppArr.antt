@@ -1,8 +1,8 @@
 -- `app_arr`: InfAppArr.
 use borrow.Author.Needs.{needs}
 use Prim.Native.Nat.{ℕ}
-use Rattle.inference.proofs.Applying.{arr-held, arr-ask, arr-else, arr-done}
-use native.Mathlib.Omega.{arith}
+use Rattle.inference.proofs.Applying.{arr-held, arr-done, arr-asks}
+use Rattle.inference.proofs.Premise.{unless, may-ask}
 use Rattle.inference.proofs.app_arr.Reads as app-arr
 use Rattle.inference.proofs.+app_arr+app_etvar+app_rule+check+chk_all+chk_lam+chk_rule+chk_sub+inf_rule+infer+infer_abs+infer_ann+infer_app+infer_application+infer_binop+infer_if+infer_let+infer_tabs+infer_tapp.Lts-app_arr as app-arr-lts
 use Rattle.inference.proofs.+app_arr+app_etvar+app_rule+check+chk_all+chk_lam+chk_rule+chk_sub+inf_rule+infer+infer_abs+infer_ann+infer_app+infer_application+infer_binop+infer_if+infer_let+infer_tabs+infer_tapp.Proof.Base.{app-arr-at, app-arr-claims}
@@ -14,7 +14,7 @@ pub app-arr-right-of-requires : (t : ℕ) → app-arr-lts.Need-right-of-requires
 app-arr-right-of-requires t c κs = arr-held (c .before .before .before .before .before .args .m) (c .before .before .before .before .before .pre .1)
 
 pub app-arr-check-requires : (t : ℕ) → app-arr-lts.Need-check-requires (app-arr-claims t) (app-arr-at t) app-arr.Post
-app-arr-check-requires t c κs = (omega (arith, c .before .before .before .before .before .before .before .pre .0), arr-ask (c .before .before .before .before .before .before .before .args .m) (c .before .before .before .before .before .before .before .pre .1) (c .before .before .before .left-of .ensures) (c .before .right-of .ensures))
+app-arr-check-requires t c κs = may-ask (arr-asks (c .before .before .before .before .before .before .before .args .m) (c .before .before .before .before .before .before .before .pre .1) (c .before .before .before .left-of .ensures) (c .before .right-of .ensures)) (c .before .before .before .before .before .before .before .pre .0)
 
 pub app-arr-enum-known-z : (t : ℕ) → app-arr-lts.Need-enum-known-z (app-arr-claims t) (app-arr-at t) app-arr.Post
 app-arr-enum-known-z t c = search needs
@@ -23,7 +23,7 @@ pub app-arr-same-length : (t : ℕ) → app-arr-lts.Need-same-length (app-arr-cl
 app-arr-same-length t c = search needs
 
 pub app-arr-returns : (t : ℕ) → app-arr-lts.Need-returns (app-arr-claims t) (app-arr-at t) app-arr.Post
-app-arr-returns t c = arr-else (c .before .before .before .before .before .before .before .before .before .before .before .args .m) (c .before .before .before .before .before .before .before .before .before .before .before .pre .1) (c .before .before .before .before .before .before .before .left-of .ensures) (c .before .before .before .before .before .right-of .ensures) (c .before .before .before .check .ensures) (c .match .keys2)
+app-arr-returns t c = unless (arr-asks (c .before .before .before .before .before .before .before .before .before .before .before .args .m) (c .before .before .before .before .before .before .before .before .before .before .before .pre .1) (c .before .before .before .before .before .before .before .left-of .ensures) (c .before .before .before .before .before .right-of .ensures)) (c .before .before .before .check .ensures) (c .match .keys2)
 
 pub app-arr-plain-out-requires : (t : ℕ) → app-arr-lts.Need-plain-out-requires (app-arr-claims t) (app-arr-at t) app-arr.Post
 app-arr-plain-out-requires t c κs = tt

@@ -1,8 +1,8 @@
 -- `app_etvar`: InfAppETVar.
 use borrow.Author.Needs.{needs}
 use Prim.Native.Nat.{ℕ}
-use Rattle.inference.proofs.Applying.{etvar-held, etvar-part, etvar-ask, etvar-else, etvar-done}
-use native.Mathlib.Omega.{arith}
+use Rattle.inference.proofs.Applying.{etvar-held, etvar-part, etvar-done, etvar-asks}
+use Rattle.inference.proofs.Premise.{unless, may-ask}
 use Rattle.inference.proofs.app_etvar.Reads as app-etvar
 use Rattle.inference.proofs.+app_arr+app_etvar+app_rule+check+chk_all+chk_lam+chk_rule+chk_sub+inf_rule+infer+infer_abs+infer_ann+infer_app+infer_application+infer_binop+infer_if+infer_let+infer_tabs+infer_tapp.Lts-app_etvar as app-etvar-lts
 use Rattle.inference.proofs.+app_arr+app_etvar+app_rule+check+chk_all+chk_lam+chk_rule+chk_sub+inf_rule+infer+infer_abs+infer_ann+infer_app+infer_application+infer_binop+infer_if+infer_let+infer_tabs+infer_tapp.Proof.Base.{app-etvar-at, app-etvar-claims}
@@ -14,7 +14,7 @@ pub app-etvar-part-requires : (t : ℕ) → app-etvar-lts.Need-part-requires (ap
 app-etvar-part-requires t c κs = etvar-part (c .before .before .before .before .before .args .m) (c .before .before .before .before .before .pre .1)
 
 pub app-etvar-check-requires : (t : ℕ) → app-etvar-lts.Need-check-requires (app-etvar-claims t) (app-etvar-at t) app-etvar.Post
-app-etvar-check-requires t c κs = (omega (arith, c .before .before .before .before .before .before .before .before .before .before .before .pre .0, c .before .before .before .before .before .part .ensures .left), etvar-ask (c .before .before .before .before .before .before .before .before .before .before .before .args .m) (c .before .before .before .before .before .before .before .before .before .before .before .pre .1) (c .before .before .before .before .before .before .before .name-of .ensures) (c .before .before .before .before .before .part .ensures))
+app-etvar-check-requires t c κs = may-ask (etvar-asks (c .before .before .before .before .before .before .before .before .before .before .before .args .m) (c .before .before .before .before .before .before .before .before .before .before .before .pre .1) (c .before .before .before .before .before .before .before .name-of .ensures) (c .before .before .before .before .before .part .ensures)) (c .before .before .before .before .before .before .before .before .before .before .before .pre .0)
 
 pub app-etvar-enum-known-z : (t : ℕ) → app-etvar-lts.Need-enum-known-z (app-etvar-claims t) (app-etvar-at t) app-etvar.Post
 app-etvar-enum-known-z t c = search needs
@@ -23,7 +23,7 @@ pub app-etvar-same-length : (t : ℕ) → app-etvar-lts.Need-same-length (app-et
 app-etvar-same-length t c = search needs
 
 pub app-etvar-returns : (t : ℕ) → app-etvar-lts.Need-returns (app-etvar-claims t) (app-etvar-at t) app-etvar.Post
-app-etvar-returns t c = etvar-else (c .before .before .before .before .before .before .before .before .before .before .before .before .before .before .before .args .m) (c .before .before .before .before .before .before .before .before .before .before .before .before .before .before .before .pre .1) (c .before .before .before .before .before .before .before .before .before .before .before .name-of .ensures) (c .before .before .before .before .before .before .before .before .before .part .ensures) (c .before .before .before .check .ensures) (c .match .keys2)
+app-etvar-returns t c = unless (etvar-asks (c .before .before .before .before .before .before .before .before .before .before .before .before .before .before .before .args .m) (c .before .before .before .before .before .before .before .before .before .before .before .before .before .before .before .pre .1) (c .before .before .before .before .before .before .before .before .before .before .before .name-of .ensures) (c .before .before .before .before .before .before .before .before .before .part .ensures)) (c .before .before .before .check .ensures) (c .match .keys2)
 
 pub app-etvar-plain-out-requires : (t : ℕ) → app-etvar-lts.Need-plain-out-requires (app-etvar-claims t) (app-etvar-at t) app-etvar.Post
 app-etvar-plain-out-requires t c κs = tt

@@ -1,8 +1,8 @@
 -- `chk_all`: ChkAll.
 use borrow.Author.Needs.{needs}
 use Prim.Native.Nat.{ℕ}
-use Rattle.inference.proofs.Checking.{all-pre, all-ask, all-falls, all-else, all-space, all-done}
-use native.Mathlib.Omega.{arith}
+use Rattle.inference.proofs.Checking.{all-pre, all-done, all-asks}
+use Rattle.inference.proofs.Premise.{may-ask, unless, space-back}
 use Rattle.inference.proofs.chk_all.Reads as chk-all
 use Rattle.inference.proofs.+app_arr+app_etvar+app_rule+check+chk_all+chk_lam+chk_rule+chk_sub+inf_rule+infer+infer_abs+infer_ann+infer_app+infer_application+infer_binop+infer_if+infer_let+infer_tabs+infer_tapp.Lts-chk_all as chk-all-lts
 use Rattle.inference.proofs.+app_arr+app_etvar+app_rule+check+chk_all+chk_lam+chk_rule+chk_sub+inf_rule+infer+infer_abs+infer_ann+infer_app+infer_application+infer_binop+infer_if+infer_let+infer_tabs+infer_tapp.Proof.Base.{chk-all-at, chk-all-claims}
@@ -11,7 +11,7 @@ pub chk-all-open-right-requires : (t : ℕ) → chk-all-lts.Need-open-right-requ
 chk-all-open-right-requires t c κs = all-pre (c .before .before .before .args .m) (c .before .before .before .pre .1)
 
 pub chk-all-check-requires : (t : ℕ) → chk-all-lts.Need-check-requires (chk-all-claims t) (chk-all-at t) chk-all.Post
-chk-all-check-requires t c κs = (omega (arith, c .before .before .before .before .before .before .before .before .before .before .pre .0, all-falls (c .before .before .before .before .before .before .before .before .before .before .args .m) (c .before .before .before .before .before .before .before .before .before .before .pre .1) (c .before .before .before .before .before .before .open-right .ensures)), all-ask (c .before .before .before .before .before .before .before .before .before .before .args .m) (c .before .before .before .before .before .before .before .before .before .before .pre .1) (c .before .before .before .before .before .before .open-right .ensures))
+chk-all-check-requires t c κs = may-ask (all-asks (c .before .before .before .before .before .before .before .before .before .before .args .m) (c .before .before .before .before .before .before .before .before .before .before .pre .1) (c .before .before .before .before .before .before .open-right .ensures)) (c .before .before .before .before .before .before .before .before .before .before .pre .0)
 
 pub chk-all-enum-known-z : (t : ℕ) → chk-all-lts.Need-enum-known-z (chk-all-claims t) (chk-all-at t) chk-all.Post
 chk-all-enum-known-z t c = search needs
@@ -20,10 +20,10 @@ pub chk-all-same-length : (t : ℕ) → chk-all-lts.Need-same-length (chk-all-cl
 chk-all-same-length t c = search needs
 
 pub chk-all-returns : (t : ℕ) → chk-all-lts.Need-returns (chk-all-claims t) (chk-all-at t) chk-all.Post
-chk-all-returns t c = all-else (c .before .before .before .before .before .before .before .before .before .before .before .before .before .before .args .m) (c .before .before .before .before .before .before .before .before .before .before .before .before .before .before .pre .1) (c .before .before .before .before .before .before .before .before .before .before .open-right .ensures) (c .before .before .before .check .ensures) (c .match .keys2)
+chk-all-returns t c = unless (all-asks (c .before .before .before .before .before .before .before .before .before .before .before .before .before .before .args .m) (c .before .before .before .before .before .before .before .before .before .before .before .before .before .before .pre .1) (c .before .before .before .before .before .before .before .before .before .before .open-right .ensures)) (c .before .before .before .check .ensures) (c .match .keys2)
 
 pub chk-all-keep-out-requires : (t : ℕ) → chk-all-lts.Need-keep-out-requires (chk-all-claims t) (chk-all-at t) chk-all.Post
-chk-all-keep-out-requires t c κs = all-space (c .before .before .before .before .before .before .before .before .before .before .before .before .before .before .before .before .before .args .m) (c .before .before .before .before .before .before .before .before .before .before .before .before .before .before .before .before .before .pre .1) (c .before .before .before .before .before .before .before .before .before .before .before .before .before .open-right .ensures) (c .before .before .before .before .before .before .check .ensures) (c .before .before .z .given .1)
+chk-all-keep-out-requires t c κs = space-back (all-asks (c .before .before .before .before .before .before .before .before .before .before .before .before .before .before .before .before .before .args .m) (c .before .before .before .before .before .before .before .before .before .before .before .before .before .before .before .before .before .pre .1) (c .before .before .before .before .before .before .before .before .before .before .before .before .before .open-right .ensures)) (c .before .before .before .before .before .before .check .ensures) (c .before .before .z .given .1)
 
 pub chk-all-same-length-2 : (t : ℕ) → chk-all-lts.Need-same-length-2 (chk-all-claims t) (chk-all-at t) chk-all.Post
 chk-all-same-length-2 t c = search needs

@@ -1,7 +1,8 @@
 -- `chk_lam`: ChkLam.
 use borrow.Author.Needs.{needs}
 use Prim.Native.Nat.{ℕ}
-use Rattle.inference.proofs.Checking.{lam-name, lam-table, lam-held, lam-two, lam-end, lam-space, lam-ask, lam-falls, lam-else, lam-space₂, lam-done}
+use Rattle.inference.proofs.Checking.{lam-name, lam-table, lam-held, lam-two, lam-end, lam-space, lam-done, lam-asks}
+use Rattle.inference.proofs.Premise.{may-ask, unless, space-back}
 use Rattle.inference.proofs.Starting.{check-place}
 use mathlib.Core.Path.{refl, _∙_}
 use native.Mathlib.Omega.{arith}
@@ -43,7 +44,7 @@ pub chk-lam-push-requires : (t : ℕ) → chk-lam-lts.Need-push-requires (chk-la
 chk-lam-push-requires t c κs = lam-space (c .before .before .before .before .before .before .before .before .before .before .before .before .before .before .before .before .before .args .m) (c .before .before .before .before .before .before .before .before .before .before .before .before .before .before .before .before .before .pre .1) (c .before .before .before .before .before .before .before .before .before .before .left-of .ensures) (c .before .before .before .before .before .before .before .before .right-of .ensures) (c .before .before .before .before .before .before .parameter .ensures) (c .before .before .mid .given .1)
 
 pub chk-lam-check-requires : (t : ℕ) → chk-lam-lts.Need-check-requires (chk-lam-claims t) (chk-lam-at t) chk-lam.Post
-chk-lam-check-requires t c κs = (omega (arith, c .before .before .before .before .before .before .before .before .before .before .before .before .before .before .before .before .before .before .before .before .before .before .before .pre .0, lam-falls (c .before .before .before .before .before .before .before .before .before .before .before .before .before .before .before .before .before .before .before .before .before .before .before .args .m) (c .before .before .before .before .before .before .before .before .before .before .before .before .before .before .before .before .before .before .before .before .before .before .before .pre .1) (c .before .before .before .before .before .before .before .before .before .before .before .before .before .before .before .before .left-of .ensures) (c .before .before .before .before .before .before .before .before .before .before .before .before .before .before .right-of .ensures) (c .before .before .before .before .before .before .before .before .before .before .before .before .parameter .ensures) (c .before .before .before .before .before .before .before .before .mid .given .1) refl (c .before .before .before .before .before .before .before .before .before .before .before .before .before .before .before .before .before .before .word .ensures .0) (c .before .before .before .before .before .push .ensures)), lam-ask (c .before .before .before .before .before .before .before .before .before .before .before .before .before .before .before .before .before .before .before .before .before .before .before .args .m) (c .before .before .before .before .before .before .before .before .before .before .before .before .before .before .before .before .before .before .before .before .before .before .before .pre .1) (c .before .before .before .before .before .before .before .before .before .before .before .before .before .before .before .before .left-of .ensures) (c .before .before .before .before .before .before .before .before .before .before .before .before .before .before .right-of .ensures) (c .before .before .before .before .before .before .before .before .before .before .before .before .parameter .ensures) (c .before .before .before .before .before .before .before .before .mid .given .1) refl (c .before .before .before .before .before .before .before .before .before .before .before .before .before .before .before .before .before .before .word .ensures .0) (c .before .before .before .before .before .push .ensures))
+chk-lam-check-requires t c κs = may-ask (lam-asks (c .before .before .before .before .before .before .before .before .before .before .before .before .before .before .before .before .before .before .before .before .before .before .before .args .m) (c .before .before .before .before .before .before .before .before .before .before .before .before .before .before .before .before .before .before .before .before .before .before .before .pre .1) (c .before .before .before .before .before .before .before .before .before .before .before .before .before .before .before .before .left-of .ensures) (c .before .before .before .before .before .before .before .before .before .before .before .before .before .before .right-of .ensures) (c .before .before .before .before .before .before .before .before .before .before .before .before .parameter .ensures) (c .before .before .before .before .before .before .before .before .mid .given .1) refl (c .before .before .before .before .before .before .before .before .before .before .before .before .before .before .before .before .before .before .word .ensures .0) (c .before .before .before .before .before .push .ensures)) (c .before .before .before .before .before .before .before .before .before .before .before .before .before .before .before .before .before .before .before .before .before .before .before .pre .0)
 
 pub chk-lam-enum-known-z : (t : ℕ) → chk-lam-lts.Need-enum-known-z (chk-lam-claims t) (chk-lam-at t) chk-lam.Post
 chk-lam-enum-known-z t c = search needs
@@ -52,10 +53,10 @@ pub chk-lam-same-length : (t : ℕ) → chk-lam-lts.Need-same-length (chk-lam-cl
 chk-lam-same-length t c = search needs
 
 pub chk-lam-returns : (t : ℕ) → chk-lam-lts.Need-returns (chk-lam-claims t) (chk-lam-at t) chk-lam.Post
-chk-lam-returns t c = lam-else (c .before .before .before .before .before .before .before .before .before .before .before .before .before .before .before .before .before .before .before .before .before .before .before .before .before .before .before .args .m) (c .before .before .before .before .before .before .before .before .before .before .before .before .before .before .before .before .before .before .before .before .before .before .before .before .before .before .before .pre .1) (c .before .before .before .before .before .before .before .before .before .before .before .before .before .before .before .before .before .before .before .before .left-of .ensures) (c .before .before .before .before .before .before .before .before .before .before .before .before .before .before .before .before .before .before .right-of .ensures) (c .before .before .before .before .before .before .before .before .before .before .before .before .before .before .before .before .parameter .ensures) (c .before .before .before .before .before .before .before .before .before .before .before .before .mid .given .1) refl (c .before .before .before .before .before .before .before .before .before .before .before .before .before .before .before .before .before .before .before .before .before .before .word .ensures .0) (c .before .before .before .before .before .before .before .before .before .push .ensures) (c .before .before .before .check .ensures) (c .match2 .keys2)
+chk-lam-returns t c = unless (lam-asks (c .before .before .before .before .before .before .before .before .before .before .before .before .before .before .before .before .before .before .before .before .before .before .before .before .before .before .before .args .m) (c .before .before .before .before .before .before .before .before .before .before .before .before .before .before .before .before .before .before .before .before .before .before .before .before .before .before .before .pre .1) (c .before .before .before .before .before .before .before .before .before .before .before .before .before .before .before .before .before .before .before .before .left-of .ensures) (c .before .before .before .before .before .before .before .before .before .before .before .before .before .before .before .before .before .before .right-of .ensures) (c .before .before .before .before .before .before .before .before .before .before .before .before .before .before .before .before .parameter .ensures) (c .before .before .before .before .before .before .before .before .before .before .before .before .mid .given .1) refl (c .before .before .before .before .before .before .before .before .before .before .before .before .before .before .before .before .before .before .before .before .before .before .word .ensures .0) (c .before .before .before .before .before .before .before .before .before .push .ensures)) (c .before .before .before .check .ensures) (c .match2 .keys2)
 
 pub chk-lam-keep-out-requires : (t : ℕ) → chk-lam-lts.Need-keep-out-requires (chk-lam-claims t) (chk-lam-at t) chk-lam.Post
-chk-lam-keep-out-requires t c κs = lam-space₂ (c .before .before .before .before .before .before .before .before .before .before .before .before .before .before .before .before .before .before .before .before .before .before .before .before .before .before .before .before .before .before .args .m) (c .before .before .before .before .before .before .before .before .before .before .before .before .before .before .before .before .before .before .before .before .before .before .before .before .before .before .before .before .before .before .pre .1) (c .before .before .before .before .before .before .before .before .before .before .before .before .before .before .before .before .before .before .before .before .before .before .before .left-of .ensures) (c .before .before .before .before .before .before .before .before .before .before .before .before .before .before .before .before .before .before .before .before .before .right-of .ensures) (c .before .before .before .before .before .before .before .before .before .before .before .before .before .before .before .before .before .before .before .parameter .ensures) (c .before .before .before .before .before .before .before .before .before .before .before .before .before .before .before .mid .given .1) refl (c .before .before .before .before .before .before .before .before .before .before .before .before .before .before .before .before .before .before .before .before .before .before .before .before .before .word .ensures .0) (c .before .before .before .before .before .before .before .before .before .before .before .before .push .ensures) (c .before .before .before .before .before .before .check .ensures) (c .before .before .z .given .1)
+chk-lam-keep-out-requires t c κs = space-back (lam-asks (c .before .before .before .before .before .before .before .before .before .before .before .before .before .before .before .before .before .before .before .before .before .before .before .before .before .before .before .before .before .before .args .m) (c .before .before .before .before .before .before .before .before .before .before .before .before .before .before .before .before .before .before .before .before .before .before .before .before .before .before .before .before .before .before .pre .1) (c .before .before .before .before .before .before .before .before .before .before .before .before .before .before .before .before .before .before .before .before .before .before .before .left-of .ensures) (c .before .before .before .before .before .before .before .before .before .before .before .before .before .before .before .before .before .before .before .before .before .right-of .ensures) (c .before .before .before .before .before .before .before .before .before .before .before .before .before .before .before .before .before .before .before .parameter .ensures) (c .before .before .before .before .before .before .before .before .before .before .before .before .before .before .before .mid .given .1) refl (c .before .before .before .before .before .before .before .before .before .before .before .before .before .before .before .before .before .before .before .before .before .before .before .before .before .word .ensures .0) (c .before .before .before .before .before .before .before .before .before .before .before .before .push .ensures)) (c .before .before .before .before .before .before .check .ensures) (c .before .before .z .given .1)
 
 pub chk-lam-enum-known-mid-2 : (t : ℕ) → chk-lam-lts.Need-enum-known-mid-2 (chk-lam-claims t) (chk-lam-at t) chk-lam.Post
 chk-lam-enum-known-mid-2 t c = search needs

@@ -1,7 +1,8 @@
 -- `infer_abs`: InfLam.
 use borrow.Author.Needs.{needs}
 use Prim.Native.Nat.{ℕ}
-use Rattle.inference.proofs.InferOne.{abs-name, abs-table, abs-lam, abs-ask, abs-else, abs-space, abs-done}
+use Rattle.inference.proofs.InferOne.{abs-name, abs-table, abs-lam, abs-done, abs-asks}
+use Rattle.inference.proofs.Premise.{may-ask, unless, space-back}
 use Rattle.inference.proofs.Starting.{place}
 use mathlib.Core.Path.{refl}
 use native.Mathlib.Omega.{arith}
@@ -31,7 +32,7 @@ pub infer-abs-lam-in-requires : (t : ℕ) → infer-abs-lts.Need-lam-in-requires
 infer-abs-lam-in-requires t c κs = abs-lam (c .before .before .before .before .before .before .args .m) (c .before .before .before .before .before .before .pre .1)
 
 pub infer-abs-check-requires : (t : ℕ) → infer-abs-lts.Need-check-requires (infer-abs-claims t) (infer-abs-at t) infer-abs.Post
-infer-abs-check-requires t c κs = (omega (arith, c .before .before .before .before .before .before .before .before .before .before .before .before .pre .0, c .before .before .before .before .before .lam-in .ensures .left), abs-ask (c .before .before .before .before .before .before .before .before .before .before .before .before .args .m) (c .before .before .before .before .before .before .before .before .before .before .before .before .pre .1) refl (c .before .before .before .before .before .before .before .word .ensures .0) (c .before .before .before .before .before .lam-in .ensures))
+infer-abs-check-requires t c κs = may-ask (abs-asks (c .before .before .before .before .before .before .before .before .before .before .before .before .args .m) (c .before .before .before .before .before .before .before .before .before .before .before .before .pre .1) refl (c .before .before .before .before .before .before .before .word .ensures .0) (c .before .before .before .before .before .lam-in .ensures)) (c .before .before .before .before .before .before .before .before .before .before .before .before .pre .0)
 
 pub infer-abs-enum-known-z : (t : ℕ) → infer-abs-lts.Need-enum-known-z (infer-abs-claims t) (infer-abs-at t) infer-abs.Post
 infer-abs-enum-known-z t c = search needs
@@ -40,10 +41,10 @@ pub infer-abs-same-length : (t : ℕ) → infer-abs-lts.Need-same-length (infer-
 infer-abs-same-length t c = search needs
 
 pub infer-abs-returns : (t : ℕ) → infer-abs-lts.Need-returns (infer-abs-claims t) (infer-abs-at t) infer-abs.Post
-infer-abs-returns t c = abs-else (c .before .before .before .before .before .before .before .before .before .before .before .before .before .before .before .before .args .m) (c .before .before .before .before .before .before .before .before .before .before .before .before .before .before .before .before .pre .1) refl (c .before .before .before .before .before .before .before .before .before .before .before .word .ensures .0) (c .before .before .before .before .before .before .before .before .before .lam-in .ensures) (c .before .before .before .check .ensures) (c .match .keys2)
+infer-abs-returns t c = unless (abs-asks (c .before .before .before .before .before .before .before .before .before .before .before .before .before .before .before .before .args .m) (c .before .before .before .before .before .before .before .before .before .before .before .before .before .before .before .before .pre .1) refl (c .before .before .before .before .before .before .before .before .before .before .before .word .ensures .0) (c .before .before .before .before .before .before .before .before .before .lam-in .ensures)) (c .before .before .before .check .ensures) (c .match .keys2)
 
 pub infer-abs-keep-out-requires : (t : ℕ) → infer-abs-lts.Need-keep-out-requires (infer-abs-claims t) (infer-abs-at t) infer-abs.Post
-infer-abs-keep-out-requires t c κs = abs-space (c .before .before .before .before .before .before .before .before .before .before .before .before .before .before .before .before .before .before .before .args .m) (c .before .before .before .before .before .before .before .before .before .before .before .before .before .before .before .before .before .before .before .pre .1) refl (c .before .before .before .before .before .before .before .before .before .before .before .before .before .before .word .ensures .0) (c .before .before .before .before .before .before .before .before .before .before .before .before .lam-in .ensures) (c .before .before .before .before .before .before .check .ensures) (c .before .before .z .given .1)
+infer-abs-keep-out-requires t c κs = space-back (abs-asks (c .before .before .before .before .before .before .before .before .before .before .before .before .before .before .before .before .before .before .before .args .m) (c .before .before .before .before .before .before .before .before .before .before .before .before .before .before .before .before .before .before .before .pre .1) refl (c .before .before .before .before .before .before .before .before .before .before .before .before .before .before .word .ensures .0) (c .before .before .before .before .before .before .before .before .before .before .before .before .lam-in .ensures)) (c .before .before .before .before .before .before .check .ensures) (c .before .before .z .given .1)
 
 pub infer-abs-same-length-2 : (t : ℕ) → infer-abs-lts.Need-same-length-2 (infer-abs-claims t) (infer-abs-at t) infer-abs.Post
 infer-abs-same-length-2 t c = search needs

@@ -1,7 +1,8 @@
 -- `infer_ann`: InfAnn.
 use borrow.Author.Needs.{needs}
 use Prim.Native.Nat.{ℕ}
-use Rattle.inference.proofs.InferOne.{ann-table, ann-ask, ann-else, ann-done}
+use Rattle.inference.proofs.InferOne.{ann-table, ann-done, ann-asks}
+use Rattle.inference.proofs.Premise.{unless, may-ask}
 use Rattle.inference.proofs.Starting.{place}
 use native.Mathlib.Omega.{arith}
 use Rattle.inference.proofs.infer_ann.Reads as infer-ann
@@ -18,7 +19,7 @@ pub infer-ann-word-requires : (t : ℕ) → infer-ann-lts.Need-word-requires (in
 infer-ann-word-requires t c κs = ann-table (c .before .before .before .args .m) (c .before .before .before .pre .1)
 
 pub infer-ann-check-requires : (t : ℕ) → infer-ann-lts.Need-check-requires (infer-ann-claims t) (infer-ann-at t) infer-ann.Post
-infer-ann-check-requires t c κs = (omega (arith, c .before .before .before .before .before .pre .0), ann-ask (c .before .before .before .before .before .args .m) (c .before .before .before .before .before .pre .1) (c .before .word .ensures .0))
+infer-ann-check-requires t c κs = may-ask (ann-asks (c .before .before .before .before .before .args .m) (c .before .before .before .before .before .pre .1) (c .before .word .ensures .0)) (c .before .before .before .before .before .pre .0)
 
 pub infer-ann-enum-known-z : (t : ℕ) → infer-ann-lts.Need-enum-known-z (infer-ann-claims t) (infer-ann-at t) infer-ann.Post
 infer-ann-enum-known-z t c = search needs
@@ -27,7 +28,7 @@ pub infer-ann-same-length : (t : ℕ) → infer-ann-lts.Need-same-length (infer-
 infer-ann-same-length t c = search needs
 
 pub infer-ann-returns : (t : ℕ) → infer-ann-lts.Need-returns (infer-ann-claims t) (infer-ann-at t) infer-ann.Post
-infer-ann-returns t c = ann-else (c .before .before .before .before .before .before .before .before .before .args .m) (c .before .before .before .before .before .before .before .before .before .pre .1) (c .before .before .before .before .before .word .ensures .0) (c .before .before .before .check .ensures) (c .match .keys2)
+infer-ann-returns t c = unless (ann-asks (c .before .before .before .before .before .before .before .before .before .args .m) (c .before .before .before .before .before .before .before .before .before .pre .1) (c .before .before .before .before .before .word .ensures .0)) (c .before .before .before .check .ensures) (c .match .keys2)
 
 pub infer-ann-plain-out-requires : (t : ℕ) → infer-ann-lts.Need-plain-out-requires (infer-ann-claims t) (infer-ann-at t) infer-ann.Post
 infer-ann-plain-out-requires t c κs = tt

@@ -2,7 +2,8 @@
 use borrow.Author.Needs.{needs}
 use Prim.Native.Nat.{ℕ}
 use mathlib.Core.Path.{_∙_}
-use Rattle.inference.proofs.InferTwo.{app-table, app-ask, app-else, app-apply, app-spent, app-ask₂, app-falls, app-else₂, app-done}
+use Rattle.inference.proofs.InferTwo.{app-table, app-apply, app-spent, app-done, app-asks, app-asks₂}
+use Rattle.inference.proofs.Premise.{unless, may-ask}
 use Rattle.inference.proofs.Starting.{place}
 use native.Mathlib.Omega.{arith}
 use Rattle.inference.proofs.infer_application.Reads as infer-application
@@ -19,7 +20,7 @@ pub infer-application-word-requires : (t : ℕ) → infer-application-lts.Need-w
 infer-application-word-requires t c κs = app-table (c .before .before .before .args .m) (c .before .before .before .pre .1)
 
 pub infer-application-infer-requires : (t : ℕ) → infer-application-lts.Need-infer-requires (infer-application-claims t) (infer-application-at t) infer-application.Post
-infer-application-infer-requires t c κs = (omega (arith, c .before .before .before .before .before .pre .0), app-ask (c .before .before .before .before .before .args .m) (c .before .before .before .before .before .pre .1))
+infer-application-infer-requires t c κs = may-ask (app-asks (c .before .before .before .before .before .args .m) (c .before .before .before .before .before .pre .1)) (c .before .before .before .before .before .pre .0)
 
 pub infer-application-enum-known-z : (t : ℕ) → infer-application-lts.Need-enum-known-z (infer-application-claims t) (infer-application-at t) infer-application.Post
 infer-application-enum-known-z t c = search needs
@@ -28,7 +29,7 @@ pub infer-application-same-length : (t : ℕ) → infer-application-lts.Need-sam
 infer-application-same-length t c = search needs
 
 pub infer-application-returns : (t : ℕ) → infer-application-lts.Need-returns (infer-application-claims t) (infer-application-at t) infer-application.Post
-infer-application-returns t c = app-else (c .before .before .before .before .before .before .before .before .before .args .m) (c .before .before .before .before .before .before .before .before .before .pre .1) (c .before .before .before .infer .ensures) (c .match .keys2)
+infer-application-returns t c = unless (app-asks (c .before .before .before .before .before .before .before .before .before .args .m) (c .before .before .before .before .before .before .before .before .before .pre .1)) (c .before .before .before .infer .ensures) (c .match .keys2)
 
 pub infer-application-apply-ctx-type-requires :
     (t : ℕ) → infer-application-lts.Need-apply-ctx-type-requires (infer-application-claims t) (infer-application-at t) infer-application.Post
@@ -47,7 +48,7 @@ pub infer-application-returns-2 : (t : ℕ) → infer-application-lts.Need-retur
 infer-application-returns-2 t c = app-spent (c .before .before .before .before .before .before .before .before .before .before .before .before .before .before .before .before .before .before .before .args .m) (c .before .before .before .before .before .before .before .before .before .before .before .before .before .before .before .before .before .before .before .pre .1) (c .before .before .before .before .before .before .before .before .before .before .before .before .before .infer .ensures) (c .before .before .before .before .before .before .before .before .before .z .given .1) (c .before .before .before .before .apply-ctx-type .ensures) (c .enum-told .given .1)
 
 pub infer-application-infer-app-requires : (t : ℕ) → infer-application-lts.Need-infer-app-requires (infer-application-claims t) (infer-application-at t) infer-application.Post
-infer-application-infer-app-requires t c κs = (omega (arith, c .before .before .before .before .before .before .before .before .before .before .before .before .before .before .before .before .before .before .before .before .before .pre .0, app-falls (c .before .before .before .before .before .before .before .before .before .before .before .before .before .before .before .before .before .before .before .before .before .args .m) (c .before .before .before .before .before .before .before .before .before .before .before .before .before .before .before .before .before .before .before .before .before .pre .1) (c .before .before .before .before .before .before .before .before .before .before .before .before .before .before .before .infer .ensures) (c .before .before .before .before .before .before .before .before .before .before .before .z .given .1) (c .before .before .before .before .before .before .apply-ctx-type .ensures) (c .before .before .before .before .before .before .before .before .before .before .before .before .before .before .before .before .before .word .ensures .0) (c .before .before .st2 .given .1)), app-ask₂ (c .before .before .before .before .before .before .before .before .before .before .before .before .before .before .before .before .before .before .before .before .before .args .m) (c .before .before .before .before .before .before .before .before .before .before .before .before .before .before .before .before .before .before .before .before .before .pre .1) (c .before .before .before .before .before .before .before .before .before .before .before .before .before .before .before .infer .ensures) (c .before .before .before .before .before .before .before .before .before .before .before .z .given .1) (c .before .before .before .before .before .before .apply-ctx-type .ensures) (c .before .before .before .before .before .before .before .before .before .before .before .before .before .before .before .before .before .word .ensures .0) (c .before .before .st2 .given .1))
+infer-application-infer-app-requires t c κs = may-ask (app-asks₂ (c .before .before .before .before .before .before .before .before .before .before .before .before .before .before .before .before .before .before .before .before .before .args .m) (c .before .before .before .before .before .before .before .before .before .before .before .before .before .before .before .before .before .before .before .before .before .pre .1) (c .before .before .before .before .before .before .before .before .before .before .before .before .before .before .before .infer .ensures) (c .before .before .before .before .before .before .before .before .before .before .before .z .given .1) (c .before .before .before .before .before .before .apply-ctx-type .ensures) (c .before .before .before .before .before .before .before .before .before .before .before .before .before .before .before .before .before .word .ensures .0) (c .before .before .st2 .given .1)) (c .before .before .before .before .before .before .before .before .before .before .before .before .before .before .before .before .before .before .before .before .before .pre .0)
 
 pub infer-application-enum-known-y : (t : ℕ) → infer-application-lts.Need-enum-known-y (infer-application-claims t) (infer-application-at t) infer-application.Post
 infer-application-enum-known-y t c = search needs
@@ -56,7 +57,7 @@ pub infer-application-same-length-3 : (t : ℕ) → infer-application-lts.Need-s
 infer-application-same-length-3 t c = search needs
 
 pub infer-application-returns-3 : (t : ℕ) → infer-application-lts.Need-returns-3 (infer-application-claims t) (infer-application-at t) infer-application.Post
-infer-application-returns-3 t c = app-else₂ (c .before .before .before .before .before .before .before .before .before .before .before .before .before .before .before .before .before .before .before .before .before .before .before .before .before .args .m) (c .before .before .before .before .before .before .before .before .before .before .before .before .before .before .before .before .before .before .before .before .before .before .before .before .before .pre .1) (c .before .before .before .before .before .before .before .before .before .before .before .before .before .before .before .before .before .before .before .infer .ensures) (c .before .before .before .before .before .before .before .before .before .before .before .before .before .before .before .z .given .1) (c .before .before .before .before .before .before .before .before .before .before .apply-ctx-type .ensures) (c .before .before .before .before .before .before .before .before .before .before .before .before .before .before .before .before .before .before .before .before .before .word .ensures .0) (c .before .before .before .before .before .before .st2 .given .1) (c .before .before .before .infer-app .ensures) (c .match3 .keys2)
+infer-application-returns-3 t c = unless (app-asks₂ (c .before .before .before .before .before .before .before .before .before .before .before .before .before .before .before .before .before .before .before .before .before .before .before .before .before .args .m) (c .before .before .before .before .before .before .before .before .before .before .before .before .before .before .before .before .before .before .before .before .before .before .before .before .before .pre .1) (c .before .before .before .before .before .before .before .before .before .before .before .before .before .before .before .before .before .before .before .infer .ensures) (c .before .before .before .before .before .before .before .before .before .before .before .before .before .before .before .z .given .1) (c .before .before .before .before .before .before .before .before .before .before .apply-ctx-type .ensures) (c .before .before .before .before .before .before .before .before .before .before .before .before .before .before .before .before .before .before .before .before .before .word .ensures .0) (c .before .before .before .before .before .before .st2 .given .1)) (c .before .before .before .infer-app .ensures) (c .match3 .keys2)
 
 pub infer-application-plain-out-requires : (t : ℕ) → infer-application-lts.Need-plain-out-requires (infer-application-claims t) (infer-application-at t) infer-application.Post
 infer-application-plain-out-requires t c κs = tt

@@ -6,7 +6,8 @@ use lib.ListN.{length}
 use mathlib.Core.Logic.{⊎-elim, inl, inr}
 use Rattle.definition.specs.Syntax.{pick}
 use Rattle.judging.specs.Ending.{Judged}
-use Rattle.inference.proofs.InferTwo.{leftAsk, Picks, op-word, op-table, op-infer, op-check, op-else, op-ask₂, op-falls, op-else₂, op-done}
+use Rattle.inference.proofs.InferTwo.{leftAsk, Picks, op-word, op-table, op-done, op-asks, op-asks₂}
+use Rattle.inference.proofs.Premise.{unless, may-ask}
 use Rattle.inference.proofs.Starting.{place}
 use native.Mathlib.Omega.{arith}
 use Rattle.inference.proofs.infer_binop.Reads as infer-binop
@@ -47,10 +48,12 @@ pub infer-binop-operator-requires : (t : ℕ) → infer-binop-lts.Need-operator-
 infer-binop-operator-requires t c κs = tt
 
 pub infer-binop-infer-requires : (t : ℕ) → infer-binop-lts.Need-infer-requires (infer-binop-claims t) (infer-binop-at t) infer-binop.Post
-infer-binop-infer-requires t c κs = (omega (arith, c .before .before .before .before .before .before .before .before .pre .0), op-infer (c .before .before .before .before .before .before .before .before .args .m) (c .before .before .before .before .before .before .before .before .pre .1))
+unfolding pick
+infer-binop-infer-requires t c κs = rw (c .before .if1 .taken) at (may-ask (op-asks (c .before .before .before .before .before .before .before .before .args .m) (c .before .before .before .before .before .before .before .before .pre .1) (c .before .before .before .before .before .word .ensures .0) (c .before .before .operator .ensures)) (c .before .before .before .before .before .before .before .before .pre .0))
 
 pub infer-binop-check-requires : (t : ℕ) → infer-binop-lts.Need-check-requires (infer-binop-claims t) (infer-binop-at t) infer-binop.Post
-infer-binop-check-requires t c κs = (omega (arith, c .before .before .before .before .before .before .before .before .pre .0), op-check (c .before .before .before .before .before .before .before .before .args .m) (c .before .before .before .before .before .before .before .before .pre .1) (c .before .before .before .before .before .word .ensures .0) (c .before .before .operator .ensures))
+unfolding pick
+infer-binop-check-requires t c κs = rw (c .before .if1 .left) at (may-ask (op-asks (c .before .before .before .before .before .before .before .before .args .m) (c .before .before .before .before .before .before .before .before .pre .1) (c .before .before .before .before .before .word .ensures .0) (c .before .before .operator .ensures)) (c .before .before .before .before .before .before .before .before .pre .0))
 
 pub infer-binop-enum-known-z : (t : ℕ) → infer-binop-lts.Need-enum-known-z (infer-binop-claims t) (infer-binop-at t) infer-binop.Post
 infer-binop-enum-known-z t c = search needs
@@ -59,10 +62,10 @@ pub infer-binop-same-length : (t : ℕ) → infer-binop-lts.Need-same-length (in
 infer-binop-same-length t c = left-length t (c .before)
 
 pub infer-binop-returns : (t : ℕ) → infer-binop-lts.Need-returns (infer-binop-claims t) (infer-binop-at t) infer-binop.Post
-infer-binop-returns t c = op-else (c .before .before .before .before .before .before .before .before .args .m) (c .before .before .before .before .before .before .before .before .pre .1) (c .before .before .before .before .before .word .ensures .0) (c .before .before .operator .ensures) (left t (c .before)) (c .match .keys2)
+infer-binop-returns t c = unless (op-asks (c .before .before .before .before .before .before .before .before .args .m) (c .before .before .before .before .before .before .before .before .pre .1) (c .before .before .before .before .before .word .ensures .0) (c .before .before .operator .ensures)) (left t (c .before)) (c .match .keys2)
 
 pub infer-binop-check-requires-2 : (t : ℕ) → infer-binop-lts.Need-check-requires-2 (infer-binop-claims t) (infer-binop-at t) infer-binop.Post
-infer-binop-check-requires-2 t c κs = (omega (arith, c .before .before .before .before .before .before .before .before .before .before .before .before .before .before .pre .0, op-falls (c .before .before .before .before .before .before .before .before .before .before .before .before .before .before .args .m) (c .before .before .before .before .before .before .before .before .before .before .before .before .before .before .pre .1) (c .before .before .before .before .before .before .before .before .before .before .before .word .ensures .0) (c .before .before .before .before .before .before .before .before .operator .ensures) (left t (c .before .before .before .before .before .before .before)) (c .before .before .before .before .before .z .given .1) (c .before .before .before .before .before .before .before .before .before .word2 .ensures .0) (right t (c .before))), op-ask₂ (c .before .before .before .before .before .before .before .before .before .before .before .before .before .before .args .m) (c .before .before .before .before .before .before .before .before .before .before .before .before .before .before .pre .1) (c .before .before .before .before .before .before .before .before .before .before .before .word .ensures .0) (c .before .before .before .before .before .before .before .before .operator .ensures) (left t (c .before .before .before .before .before .before .before)) (c .before .before .before .before .before .z .given .1) (c .before .before .before .before .before .before .before .before .before .word2 .ensures .0) (right t (c .before)))
+infer-binop-check-requires-2 t c κs = may-ask (op-asks₂ (c .before .before .before .before .before .before .before .before .before .before .before .before .before .before .args .m) (c .before .before .before .before .before .before .before .before .before .before .before .before .before .before .pre .1) (c .before .before .before .before .before .before .before .before .before .before .before .word .ensures .0) (c .before .before .before .before .before .before .before .before .operator .ensures) (left t (c .before .before .before .before .before .before .before)) (c .before .before .before .before .before .z .given .1) (c .before .before .before .before .before .before .before .before .before .word2 .ensures .0) (right t (c .before))) (c .before .before .before .before .before .before .before .before .before .before .before .before .before .before .pre .0)
 
 pub infer-binop-enum-known-y : (t : ℕ) → infer-binop-lts.Need-enum-known-y (infer-binop-claims t) (infer-binop-at t) infer-binop.Post
 infer-binop-enum-known-y t c = search needs
@@ -71,7 +74,7 @@ pub infer-binop-same-length-2 : (t : ℕ) → infer-binop-lts.Need-same-length-2
 infer-binop-same-length-2 t c = c .before .before .before .check2 .kept .1 .0 ∙ left-length t (c .before .before .before .before .before .before .before .before .before .before .before)
 
 pub infer-binop-returns-2 : (t : ℕ) → infer-binop-lts.Need-returns-2 (infer-binop-claims t) (infer-binop-at t) infer-binop.Post
-infer-binop-returns-2 t c = op-else₂ (c .before .before .before .before .before .before .before .before .before .before .before .before .before .before .before .before .before .before .args .m) (c .before .before .before .before .before .before .before .before .before .before .before .before .before .before .before .before .before .before .pre .1) (c .before .before .before .before .before .before .before .before .before .before .before .before .before .before .before .word .ensures .0) (c .before .before .before .before .before .before .before .before .before .before .before .before .operator .ensures) (left t (c .before .before .before .before .before .before .before .before .before .before .before)) (c .before .before .before .before .before .before .before .before .before .z .given .1) (c .before .before .before .before .before .before .before .before .before .before .before .before .before .word2 .ensures .0) (right t (c .before .before .before .before .before)) (c .before .before .before .check2 .ensures) (c .match2 .keys2)
+infer-binop-returns-2 t c = unless (op-asks₂ (c .before .before .before .before .before .before .before .before .before .before .before .before .before .before .before .before .before .before .args .m) (c .before .before .before .before .before .before .before .before .before .before .before .before .before .before .before .before .before .before .pre .1) (c .before .before .before .before .before .before .before .before .before .before .before .before .before .before .before .word .ensures .0) (c .before .before .before .before .before .before .before .before .before .before .before .before .operator .ensures) (left t (c .before .before .before .before .before .before .before .before .before .before .before)) (c .before .before .before .before .before .before .before .before .before .z .given .1) (c .before .before .before .before .before .before .before .before .before .before .before .before .before .word2 .ensures .0) (right t (c .before .before .before .before .before))) (c .before .before .before .check2 .ensures) (c .match2 .keys2)
 
 pub infer-binop-plain-out-requires : (t : ℕ) → infer-binop-lts.Need-plain-out-requires (infer-binop-claims t) (infer-binop-at t) infer-binop.Post
 infer-binop-plain-out-requires t c κs = tt

@@ -2,7 +2,8 @@
 use borrow.Author.Needs.{needs}
 use Prim.Native.Nat.{ℕ}
 use mathlib.Core.Path.{_∙_}
-use Rattle.inference.proofs.InferIf.{if-table, if-ask, if-place, if-table₂, if-else, if-ask₂, if-falls, if-else₂, if-ask₃, if-falls₂, if-else₃, if-two, if-else₄, if-done}
+use Rattle.inference.proofs.InferIf.{if-table, if-place, if-table₂, if-two, if-else₄, if-done, if-asks, if-asks₂, if-asks₃}
+use Rattle.inference.proofs.Premise.{unless, may-ask}
 use Rattle.inference.proofs.Starting.{place}
 use native.Mathlib.Omega.{arith}
 use Rattle.inference.proofs.infer_if.Reads as infer-if
@@ -25,7 +26,7 @@ pub infer-if-word-requires-2 : (t : ℕ) → infer-if-lts.Need-word-requires-2 (
 infer-if-word-requires-2 t c κs = if-table₂ (c .before .before .before .before .before .args .m) (c .before .before .before .before .before .pre .1) (c .before .word .ensures .0)
 
 pub infer-if-check-requires : (t : ℕ) → infer-if-lts.Need-check-requires (infer-if-claims t) (infer-if-at t) infer-if.Post
-infer-if-check-requires t c κs = (omega (arith, c .before .before .before .before .before .before .before .pre .0), if-ask (c .before .before .before .before .before .before .before .args .m) (c .before .before .before .before .before .before .before .pre .1))
+infer-if-check-requires t c κs = may-ask (if-asks (c .before .before .before .before .before .before .before .args .m) (c .before .before .before .before .before .before .before .pre .1)) (c .before .before .before .before .before .before .before .pre .0)
 
 pub infer-if-enum-known-z : (t : ℕ) → infer-if-lts.Need-enum-known-z (infer-if-claims t) (infer-if-at t) infer-if.Post
 infer-if-enum-known-z t c = search needs
@@ -34,10 +35,10 @@ pub infer-if-same-length : (t : ℕ) → infer-if-lts.Need-same-length (infer-if
 infer-if-same-length t c = search needs
 
 pub infer-if-returns : (t : ℕ) → infer-if-lts.Need-returns (infer-if-claims t) (infer-if-at t) infer-if.Post
-infer-if-returns t c = if-else (c .before .before .before .before .before .before .before .before .before .before .before .args .m) (c .before .before .before .before .before .before .before .before .before .before .before .pre .1) (c .before .before .before .before .before .before .before .word .ensures .0) (c .before .before .before .before .before .word2 .ensures .0) (c .before .before .before .check .ensures) (c .match .keys2)
+infer-if-returns t c = unless (if-asks (c .before .before .before .before .before .before .before .before .before .before .before .args .m) (c .before .before .before .before .before .before .before .before .before .before .before .pre .1)) (c .before .before .before .check .ensures) (c .match .keys2)
 
 pub infer-if-infer-requires : (t : ℕ) → infer-if-lts.Need-infer-requires (infer-if-claims t) (infer-if-at t) infer-if.Post
-infer-if-infer-requires t c κs = (omega (arith, c .before .before .before .before .before .before .before .before .before .before .before .before .before .before .before .before .pre .0, if-falls (c .before .before .before .before .before .before .before .before .before .before .before .before .before .before .before .before .args .m) (c .before .before .before .before .before .before .before .before .before .before .before .before .before .before .before .before .pre .1) (c .before .before .before .before .before .before .before .before .before .before .before .before .word .ensures .0) (c .before .before .before .before .before .before .before .before .before .before .word2 .ensures .0) (c .before .before .before .before .before .before .before .before .check .ensures) (c .before .before .before .before .z .given .1)), if-ask₂ (c .before .before .before .before .before .before .before .before .before .before .before .before .before .before .before .before .args .m) (c .before .before .before .before .before .before .before .before .before .before .before .before .before .before .before .before .pre .1) (c .before .before .before .before .before .before .before .before .before .before .before .before .word .ensures .0) (c .before .before .before .before .before .before .before .before .before .before .word2 .ensures .0) (c .before .before .before .before .before .before .before .before .check .ensures) (c .before .before .before .before .z .given .1))
+infer-if-infer-requires t c κs = may-ask (if-asks₂ (c .before .before .before .before .before .before .before .before .before .before .before .before .before .before .before .before .args .m) (c .before .before .before .before .before .before .before .before .before .before .before .before .before .before .before .before .pre .1) (c .before .before .before .before .before .before .before .before .before .before .before .before .word .ensures .0) (c .before .before .before .before .before .before .before .before .before .before .word2 .ensures .0) (c .before .before .before .before .before .before .before .before .check .ensures) (c .before .before .before .before .z .given .1)) (c .before .before .before .before .before .before .before .before .before .before .before .before .before .before .before .before .pre .0)
 
 pub infer-if-enum-known-y : (t : ℕ) → infer-if-lts.Need-enum-known-y (infer-if-claims t) (infer-if-at t) infer-if.Post
 infer-if-enum-known-y t c = search needs
@@ -46,10 +47,10 @@ pub infer-if-same-length-2 : (t : ℕ) → infer-if-lts.Need-same-length-2 (infe
 infer-if-same-length-2 t c = search needs
 
 pub infer-if-returns-2 : (t : ℕ) → infer-if-lts.Need-returns-2 (infer-if-claims t) (infer-if-at t) infer-if.Post
-infer-if-returns-2 t c = if-else₂ (c .before .before .before .before .before .before .before .before .before .before .before .before .before .before .before .before .before .before .before .before .args .m) (c .before .before .before .before .before .before .before .before .before .before .before .before .before .before .before .before .before .before .before .before .pre .1) (c .before .before .before .before .before .before .before .before .before .before .before .before .before .before .before .before .word .ensures .0) (c .before .before .before .before .before .before .before .before .before .before .before .before .before .before .word2 .ensures .0) (c .before .before .before .before .before .before .before .before .before .before .before .before .check .ensures) (c .before .before .before .before .before .before .before .before .z .given .1) (c .before .before .before .infer .ensures) (c .match2 .keys2)
+infer-if-returns-2 t c = unless (if-asks₂ (c .before .before .before .before .before .before .before .before .before .before .before .before .before .before .before .before .before .before .before .before .args .m) (c .before .before .before .before .before .before .before .before .before .before .before .before .before .before .before .before .before .before .before .before .pre .1) (c .before .before .before .before .before .before .before .before .before .before .before .before .before .before .before .before .word .ensures .0) (c .before .before .before .before .before .before .before .before .before .before .before .before .before .before .word2 .ensures .0) (c .before .before .before .before .before .before .before .before .before .before .before .before .check .ensures) (c .before .before .before .before .before .before .before .before .z .given .1)) (c .before .before .before .infer .ensures) (c .match2 .keys2)
 
 pub infer-if-infer-requires-2 : (t : ℕ) → infer-if-lts.Need-infer-requires-2 (infer-if-claims t) (infer-if-at t) infer-if.Post
-infer-if-infer-requires-2 t c κs = (omega (arith, c .before .before .before .before .before .before .before .before .before .before .before .before .before .before .before .before .before .before .before .before .before .before .before .before .before .pre .0, if-falls₂ (c .before .before .before .before .before .before .before .before .before .before .before .before .before .before .before .before .before .before .before .before .before .before .before .before .before .args .m) (c .before .before .before .before .before .before .before .before .before .before .before .before .before .before .before .before .before .before .before .before .before .before .before .before .before .pre .1) (c .before .before .before .before .before .before .before .before .before .before .before .before .before .before .before .before .before .before .before .before .before .word .ensures .0) (c .before .before .before .before .before .before .before .before .before .before .before .before .before .before .before .before .before .before .before .word2 .ensures .0) (c .before .before .before .before .before .before .before .before .before .before .before .before .before .before .before .before .before .check .ensures) (c .before .before .before .before .before .before .before .before .before .before .before .before .before .z .given .1) (c .before .before .before .before .before .before .before .before .infer .ensures) (c .before .before .before .before .y .given .1)), if-ask₃ (c .before .before .before .before .before .before .before .before .before .before .before .before .before .before .before .before .before .before .before .before .before .before .before .before .before .args .m) (c .before .before .before .before .before .before .before .before .before .before .before .before .before .before .before .before .before .before .before .before .before .before .before .before .before .pre .1) (c .before .before .before .before .before .before .before .before .before .before .before .before .before .before .before .before .before .before .before .before .before .word .ensures .0) (c .before .before .before .before .before .before .before .before .before .before .before .before .before .before .before .before .before .before .before .word2 .ensures .0) (c .before .before .before .before .before .before .before .before .before .before .before .before .before .before .before .before .before .check .ensures) (c .before .before .before .before .before .before .before .before .before .before .before .before .before .z .given .1) (c .before .before .before .before .before .before .before .before .infer .ensures) (c .before .before .before .before .y .given .1))
+infer-if-infer-requires-2 t c κs = may-ask (if-asks₃ (c .before .before .before .before .before .before .before .before .before .before .before .before .before .before .before .before .before .before .before .before .before .before .before .before .before .args .m) (c .before .before .before .before .before .before .before .before .before .before .before .before .before .before .before .before .before .before .before .before .before .before .before .before .before .pre .1) (c .before .before .before .before .before .before .before .before .before .before .before .before .before .before .before .before .before .before .before .before .before .word .ensures .0) (c .before .before .before .before .before .before .before .before .before .before .before .before .before .before .before .before .before .before .before .word2 .ensures .0) (c .before .before .before .before .before .before .before .before .before .before .before .before .before .before .before .before .before .check .ensures) (c .before .before .before .before .before .before .before .before .before .before .before .before .before .z .given .1) (c .before .before .before .before .before .before .before .before .infer .ensures) (c .before .before .before .before .y .given .1)) (c .before .before .before .before .before .before .before .before .before .before .before .before .before .before .before .before .before .before .before .before .before .before .before .before .before .pre .0)
 
 pub infer-if-enum-known-x : (t : ℕ) → infer-if-lts.Need-enum-known-x (infer-if-claims t) (infer-if-at t) infer-if.Post
 infer-if-enum-known-x t c = search needs
@@ -58,7 +59,7 @@ pub infer-if-same-length-3 : (t : ℕ) → infer-if-lts.Need-same-length-3 (infe
 infer-if-same-length-3 t c = search needs
 
 pub infer-if-returns-3 : (t : ℕ) → infer-if-lts.Need-returns-3 (infer-if-claims t) (infer-if-at t) infer-if.Post
-infer-if-returns-3 t c = if-else₃ (c .before .before .before .before .before .before .before .before .before .before .before .before .before .before .before .before .before .before .before .before .before .before .before .before .before .before .before .before .before .args .m) (c .before .before .before .before .before .before .before .before .before .before .before .before .before .before .before .before .before .before .before .before .before .before .before .before .before .before .before .before .before .pre .1) (c .before .before .before .before .before .before .before .before .before .before .before .before .before .before .before .before .before .before .before .before .before .before .before .before .before .word .ensures .0) (c .before .before .before .before .before .before .before .before .before .before .before .before .before .before .before .before .before .before .before .before .before .before .before .word2 .ensures .0) (c .before .before .before .before .before .before .before .before .before .before .before .before .before .before .before .before .before .before .before .before .before .check .ensures) (c .before .before .before .before .before .before .before .before .before .before .before .before .before .before .before .before .before .z .given .1) (c .before .before .before .before .before .before .before .before .before .before .before .before .infer .ensures) (c .before .before .before .before .before .before .before .before .y .given .1) (c .before .before .before .infer2 .ensures) (c .match3 .keys2)
+infer-if-returns-3 t c = unless (if-asks₃ (c .before .before .before .before .before .before .before .before .before .before .before .before .before .before .before .before .before .before .before .before .before .before .before .before .before .before .before .before .before .args .m) (c .before .before .before .before .before .before .before .before .before .before .before .before .before .before .before .before .before .before .before .before .before .before .before .before .before .before .before .before .before .pre .1) (c .before .before .before .before .before .before .before .before .before .before .before .before .before .before .before .before .before .before .before .before .before .before .before .before .before .word .ensures .0) (c .before .before .before .before .before .before .before .before .before .before .before .before .before .before .before .before .before .before .before .before .before .before .before .word2 .ensures .0) (c .before .before .before .before .before .before .before .before .before .before .before .before .before .before .before .before .before .before .before .before .before .check .ensures) (c .before .before .before .before .before .before .before .before .before .before .before .before .before .before .before .before .before .z .given .1) (c .before .before .before .before .before .before .before .before .before .before .before .before .infer .ensures) (c .before .before .before .before .before .before .before .before .y .given .1)) (c .before .before .before .infer2 .ensures) (c .match3 .keys2)
 
 pub infer-if-subtype-applied-requires : (t : ℕ) → infer-if-lts.Need-subtype-applied-requires (infer-if-claims t) (infer-if-at t) infer-if.Post
 infer-if-subtype-applied-requires t c κs = if-two (c .before .before .before .before .before .before .before .before .before .before .before .before .before .before .before .before .before .before .before .before .before .before .before .before .before .before .before .before .before .before .before .before .before .before .args .m) (c .before .before .before .before .before .before .before .before .before .before .before .before .before .before .before .before .before .before .before .before .before .before .before .before .before .before .before .before .before .before .before .before .before .before .pre .1) (c .before .before .before .before .before .before .before .before .before .before .before .before .before .before .before .before .before .before .before .before .before .before .before .before .before .before .before .before .before .before .word .ensures .0) (c .before .before .before .before .before .before .before .before .before .before .before .before .before .before .before .before .before .before .before .before .before .before .before .before .before .before .before .before .word2 .ensures .0) (c .before .before .before .before .before .before .before .before .before .before .before .before .before .before .before .before .before .before .before .before .before .before .before .before .before .before .check .ensures) (c .before .before .before .before .before .before .before .before .before .before .before .before .before .before .before .before .before .before .before .before .before .before .z .given .1) (c .before .before .before .before .before .before .before .before .before .before .before .before .before .before .before .before .before .infer .ensures) (c .before .before .before .before .before .before .before .before .before .before .before .before .before .y .given .1) (c .before .before .before .before .before .before .before .before .infer2 .ensures) (c .before .before .before .before .x .given .1)

@@ -1,7 +1,8 @@
 -- `infer_let`: InfLet.
 use borrow.Author.Needs.{needs}
 use Prim.Native.Nat.{ℕ}
-use Rattle.inference.proofs.InferTwo.{let-name, let-table, let-ask, let-else, let-space, let-ask₂, let-falls, let-else₂, let-space₂, let-done}
+use Rattle.inference.proofs.InferTwo.{let-name, let-table, let-space, let-done, let-asks, let-asks₂}
+use Rattle.inference.proofs.Premise.{may-ask, unless, space-back}
 use Rattle.inference.proofs.Starting.{place}
 use mathlib.Core.Path.{refl, _∙_}
 use native.Mathlib.Omega.{arith}
@@ -28,7 +29,7 @@ pub infer-let-word-requires : (t : ℕ) → infer-let-lts.Need-word-requires (in
 infer-let-word-requires t c κs = let-table (c .before .before .before .before .args .m) (c .before .before .before .before .pre .1)
 
 pub infer-let-infer-requires : (t : ℕ) → infer-let-lts.Need-infer-requires (infer-let-claims t) (infer-let-at t) infer-let.Post
-infer-let-infer-requires t c κs = (omega (arith, c .before .before .before .before .before .before .pre .0), let-ask (c .before .before .before .before .before .before .args .m) (c .before .before .before .before .before .before .pre .1))
+infer-let-infer-requires t c κs = may-ask (let-asks (c .before .before .before .before .before .before .args .m) (c .before .before .before .before .before .before .pre .1)) (c .before .before .before .before .before .before .pre .0)
 
 pub infer-let-enum-known-z : (t : ℕ) → infer-let-lts.Need-enum-known-z (infer-let-claims t) (infer-let-at t) infer-let.Post
 infer-let-enum-known-z t c = search needs
@@ -37,13 +38,13 @@ pub infer-let-same-length : (t : ℕ) → infer-let-lts.Need-same-length (infer-
 infer-let-same-length t c = search needs
 
 pub infer-let-returns : (t : ℕ) → infer-let-lts.Need-returns (infer-let-claims t) (infer-let-at t) infer-let.Post
-infer-let-returns t c = let-else (c .before .before .before .before .before .before .before .before .before .before .args .m) (c .before .before .before .before .before .before .before .before .before .before .pre .1) (c .before .before .before .infer .ensures) (c .match .keys2)
+infer-let-returns t c = unless (let-asks (c .before .before .before .before .before .before .before .before .before .before .args .m) (c .before .before .before .before .before .before .before .before .before .before .pre .1)) (c .before .before .before .infer .ensures) (c .match .keys2)
 
 pub infer-let-push-requires : (t : ℕ) → infer-let-lts.Need-push-requires (infer-let-claims t) (infer-let-at t) infer-let.Post
 infer-let-push-requires t c κs = let-space (c .before .before .before .before .before .before .before .before .before .before .before .before .before .before .before .args .m) (c .before .before .before .before .before .before .before .before .before .before .before .before .before .before .before .pre .1) (c .before .before .before .before .before .before .before .before .infer .ensures) (c .before .before .before .before .z .given .1)
 
 pub infer-let-infer-requires-2 : (t : ℕ) → infer-let-lts.Need-infer-requires-2 (infer-let-claims t) (infer-let-at t) infer-let.Post
-infer-let-infer-requires-2 t c κs = (omega (arith, c .before .before .before .before .before .before .before .before .before .before .before .before .before .before .before .before .before .before .before .before .before .pre .0, let-falls (c .before .before .before .before .before .before .before .before .before .before .before .before .before .before .before .before .before .before .before .before .before .args .m) (c .before .before .before .before .before .before .before .before .before .before .before .before .before .before .before .before .before .before .before .before .before .pre .1) (c .before .before .before .before .before .before .before .before .before .before .before .before .before .before .infer .ensures) (c .before .before .before .before .before .before .before .before .before .before .z .given .1) refl (c .before .before .before .before .before .before .before .before .before .before .before .before .before .before .before .before .word .ensures .0) (c .before .before .before .before .before .push .ensures)), let-ask₂ (c .before .before .before .before .before .before .before .before .before .before .before .before .before .before .before .before .before .before .before .before .before .args .m) (c .before .before .before .before .before .before .before .before .before .before .before .before .before .before .before .before .before .before .before .before .before .pre .1) (c .before .before .before .before .before .before .before .before .before .before .before .before .before .before .infer .ensures) (c .before .before .before .before .before .before .before .before .before .before .z .given .1) refl (c .before .before .before .before .before .before .before .before .before .before .before .before .before .before .before .before .word .ensures .0) (c .before .before .before .before .before .push .ensures))
+infer-let-infer-requires-2 t c κs = may-ask (let-asks₂ (c .before .before .before .before .before .before .before .before .before .before .before .before .before .before .before .before .before .before .before .before .before .args .m) (c .before .before .before .before .before .before .before .before .before .before .before .before .before .before .before .before .before .before .before .before .before .pre .1) (c .before .before .before .before .before .before .before .before .before .before .before .before .before .before .infer .ensures) (c .before .before .before .before .before .before .before .before .before .before .z .given .1) refl (c .before .before .before .before .before .before .before .before .before .before .before .before .before .before .before .before .word .ensures .0) (c .before .before .before .before .before .push .ensures)) (c .before .before .before .before .before .before .before .before .before .before .before .before .before .before .before .before .before .before .before .before .before .pre .0)
 
 pub infer-let-enum-known-y : (t : ℕ) → infer-let-lts.Need-enum-known-y (infer-let-claims t) (infer-let-at t) infer-let.Post
 infer-let-enum-known-y t c = search needs
@@ -52,10 +53,10 @@ pub infer-let-same-length-2 : (t : ℕ) → infer-let-lts.Need-same-length-2 (in
 infer-let-same-length-2 t c = search needs
 
 pub infer-let-returns-2 : (t : ℕ) → infer-let-lts.Need-returns-2 (infer-let-claims t) (infer-let-at t) infer-let.Post
-infer-let-returns-2 t c = let-else₂ (c .before .before .before .before .before .before .before .before .before .before .before .before .before .before .before .before .before .before .before .before .before .before .before .before .before .args .m) (c .before .before .before .before .before .before .before .before .before .before .before .before .before .before .before .before .before .before .before .before .before .before .before .before .before .pre .1) (c .before .before .before .before .before .before .before .before .before .before .before .before .before .before .before .before .before .before .infer .ensures) (c .before .before .before .before .before .before .before .before .before .before .before .before .before .before .z .given .1) refl (c .before .before .before .before .before .before .before .before .before .before .before .before .before .before .before .before .before .before .before .before .word .ensures .0) (c .before .before .before .before .before .before .before .before .before .push .ensures) (c .before .before .before .infer2 .ensures) (c .match2 .keys2)
+infer-let-returns-2 t c = unless (let-asks₂ (c .before .before .before .before .before .before .before .before .before .before .before .before .before .before .before .before .before .before .before .before .before .before .before .before .before .args .m) (c .before .before .before .before .before .before .before .before .before .before .before .before .before .before .before .before .before .before .before .before .before .before .before .before .before .pre .1) (c .before .before .before .before .before .before .before .before .before .before .before .before .before .before .before .before .before .before .infer .ensures) (c .before .before .before .before .before .before .before .before .before .before .before .before .before .before .z .given .1) refl (c .before .before .before .before .before .before .before .before .before .before .before .before .before .before .before .before .before .before .before .before .word .ensures .0) (c .before .before .before .before .before .before .before .before .before .push .ensures)) (c .before .before .before .infer2 .ensures) (c .match2 .keys2)
 
 pub infer-let-keep-out-requires : (t : ℕ) → infer-let-lts.Need-keep-out-requires (infer-let-claims t) (infer-let-at t) infer-let.Post
-infer-let-keep-out-requires t c κs = let-space₂ (c .before .before .before .before .before .before .before .before .before .before .before .before .before .before .before .before .before .before .before .before .before .before .before .before .before .before .before .before .args .m) (c .before .before .before .before .before .before .before .before .before .before .before .before .before .before .before .before .before .before .before .before .before .before .before .before .before .before .before .before .pre .1) (c .before .before .before .before .before .before .before .before .before .before .before .before .before .before .before .before .before .before .before .before .before .infer .ensures) (c .before .before .before .before .before .before .before .before .before .before .before .before .before .before .before .before .before .z .given .1) refl (c .before .before .before .before .before .before .before .before .before .before .before .before .before .before .before .before .before .before .before .before .before .before .before .word .ensures .0) (c .before .before .before .before .before .before .before .before .before .before .before .before .push .ensures) (c .before .before .before .before .before .before .infer2 .ensures) (c .before .before .y .given .1)
+infer-let-keep-out-requires t c κs = space-back (let-asks₂ (c .before .before .before .before .before .before .before .before .before .before .before .before .before .before .before .before .before .before .before .before .before .before .before .before .before .before .before .before .args .m) (c .before .before .before .before .before .before .before .before .before .before .before .before .before .before .before .before .before .before .before .before .before .before .before .before .before .before .before .before .pre .1) (c .before .before .before .before .before .before .before .before .before .before .before .before .before .before .before .before .before .before .before .before .before .infer .ensures) (c .before .before .before .before .before .before .before .before .before .before .before .before .before .before .before .before .before .z .given .1) refl (c .before .before .before .before .before .before .before .before .before .before .before .before .before .before .before .before .before .before .before .before .before .before .before .word .ensures .0) (c .before .before .before .before .before .before .before .before .before .before .before .before .push .ensures)) (c .before .before .before .before .before .before .infer2 .ensures) (c .before .before .y .given .1)
 
 pub infer-let-same-length-3 : (t : ℕ) → infer-let-lts.Need-same-length-3 (infer-let-claims t) (infer-let-at t) infer-let.Post
 infer-let-same-length-3 t c = c .before .before .keep-out .kept .0 ∙ c .before .before .before .before .before .before .before .before .before .infer2 .kept .1 .0 ∙ c .before .before .before .before .before .before .before .before .before .before .before .before .before .before .before .push .kept .0 ∙ c .before .before .before .before .before .before .before .before .before .before .before .before .before .before .before .before .before .before .before .before .before .before .before .before .infer .kept .1 .0

@@ -1,7 +1,8 @@
 -- `infer_tabs`: InfTAbs.
 use borrow.Author.Needs.{needs}
 use Prim.Native.Nat.{ℕ}
-use Rattle.inference.proofs.InferOne.{tabs-name, tabs-space, tabs-ask, tabs-else, tabs-apply, tabs-spent, tabs-pre, tabs-done}
+use Rattle.inference.proofs.InferOne.{tabs-name, tabs-space, tabs-apply, tabs-spent, tabs-pre, tabs-done, tabs-asks}
+use Rattle.inference.proofs.Premise.{unless, may-ask}
 use Rattle.inference.proofs.Starting.{place}
 use mathlib.Core.Path.{refl, _∙_}
 use native.Mathlib.Omega.{arith}
@@ -25,7 +26,7 @@ pub infer-tabs-push-requires : (t : ℕ) → infer-tabs-lts.Need-push-requires (
 infer-tabs-push-requires t c κs = tabs-space (c .before .before .before .before .args .m) (c .before .before .before .before .pre .1)
 
 pub infer-tabs-infer-requires : (t : ℕ) → infer-tabs-lts.Need-infer-requires (infer-tabs-claims t) (infer-tabs-at t) infer-tabs.Post
-infer-tabs-infer-requires t c κs = (omega (arith, c .before .before .before .before .before .before .before .before .before .before .pre .0, c .before .before .before .before .before .push .ensures .grown .past .left), tabs-ask (c .before .before .before .before .before .before .before .before .before .before .args .m) (c .before .before .before .before .before .before .before .before .before .before .pre .1) refl (c .before .before .before .before .before .push .ensures))
+infer-tabs-infer-requires t c κs = may-ask (tabs-asks (c .before .before .before .before .before .before .before .before .before .before .args .m) (c .before .before .before .before .before .before .before .before .before .before .pre .1) refl (c .before .before .before .before .before .push .ensures)) (c .before .before .before .before .before .before .before .before .before .before .pre .0)
 
 pub infer-tabs-enum-known-z : (t : ℕ) → infer-tabs-lts.Need-enum-known-z (infer-tabs-claims t) (infer-tabs-at t) infer-tabs.Post
 infer-tabs-enum-known-z t c = search needs
@@ -34,7 +35,7 @@ pub infer-tabs-same-length : (t : ℕ) → infer-tabs-lts.Need-same-length (infe
 infer-tabs-same-length t c = search needs
 
 pub infer-tabs-returns : (t : ℕ) → infer-tabs-lts.Need-returns (infer-tabs-claims t) (infer-tabs-at t) infer-tabs.Post
-infer-tabs-returns t c = tabs-else (c .before .before .before .before .before .before .before .before .before .before .before .before .before .before .args .m) (c .before .before .before .before .before .before .before .before .before .before .before .before .before .before .pre .1) refl (c .before .before .before .before .before .before .before .before .before .push .ensures) (c .before .before .before .infer .ensures) (c .match .keys2)
+infer-tabs-returns t c = unless (tabs-asks (c .before .before .before .before .before .before .before .before .before .before .before .before .before .before .args .m) (c .before .before .before .before .before .before .before .before .before .before .before .before .before .before .pre .1) refl (c .before .before .before .before .before .before .before .before .before .push .ensures)) (c .before .before .before .infer .ensures) (c .match .keys2)
 
 pub infer-tabs-apply-ctx-type-requires : (t : ℕ) → infer-tabs-lts.Need-apply-ctx-type-requires (infer-tabs-claims t) (infer-tabs-at t) infer-tabs.Post
 infer-tabs-apply-ctx-type-requires t c κs = tabs-apply (c .before .before .before .before .before .before .before .before .before .before .before .before .before .before .before .before .before .before .before .args .m) (c .before .before .before .before .before .before .before .before .before .before .before .before .before .before .before .before .before .before .before .pre .1) refl (c .before .before .before .before .before .before .before .before .before .before .before .before .before .before .push .ensures) (c .before .before .before .before .before .before .before .before .infer .ensures) (c .before .before .before .before .z .given .1)

@@ -1,7 +1,8 @@
 -- `infer_tapp`: InfTApp.
 use borrow.Author.Needs.{needs}
 use Prim.Native.Nat.{ℕ}
-use Rattle.inference.proofs.InferOne.{tapp-table, tapp-ask, tapp-else, tapp-two, tapp-end, tapp-done}
+use Rattle.inference.proofs.InferOne.{tapp-table, tapp-two, tapp-end, tapp-done, tapp-asks}
+use Rattle.inference.proofs.Premise.{unless, may-ask}
 use Rattle.inference.proofs.Starting.{place}
 use native.Mathlib.Omega.{arith}
 use Rattle.inference.proofs.infer_tapp.Reads as infer-tapp
@@ -18,7 +19,7 @@ pub infer-tapp-word-requires : (t : ℕ) → infer-tapp-lts.Need-word-requires (
 infer-tapp-word-requires t c κs = tapp-table (c .before .before .before .args .m) (c .before .before .before .pre .1)
 
 pub infer-tapp-infer-requires : (t : ℕ) → infer-tapp-lts.Need-infer-requires (infer-tapp-claims t) (infer-tapp-at t) infer-tapp.Post
-infer-tapp-infer-requires t c κs = (omega (arith, c .before .before .before .before .before .pre .0), tapp-ask (c .before .before .before .before .before .args .m) (c .before .before .before .before .before .pre .1))
+infer-tapp-infer-requires t c κs = may-ask (tapp-asks (c .before .before .before .before .before .args .m) (c .before .before .before .before .before .pre .1)) (c .before .before .before .before .before .pre .0)
 
 pub infer-tapp-enum-known-z : (t : ℕ) → infer-tapp-lts.Need-enum-known-z (infer-tapp-claims t) (infer-tapp-at t) infer-tapp.Post
 infer-tapp-enum-known-z t c = search needs
@@ -27,7 +28,7 @@ pub infer-tapp-same-length : (t : ℕ) → infer-tapp-lts.Need-same-length (infe
 infer-tapp-same-length t c = search needs
 
 pub infer-tapp-returns : (t : ℕ) → infer-tapp-lts.Need-returns (infer-tapp-claims t) (infer-tapp-at t) infer-tapp.Post
-infer-tapp-returns t c = tapp-else (c .before .before .before .before .before .before .before .before .before .args .m) (c .before .before .before .before .before .before .before .before .before .pre .1) (c .before .before .before .infer .ensures) (c .match .keys2)
+infer-tapp-returns t c = unless (tapp-asks (c .before .before .before .before .before .before .before .before .before .args .m) (c .before .before .before .before .before .before .before .before .before .pre .1)) (c .before .before .before .infer .ensures) (c .match .keys2)
 
 pub infer-tapp-instantiate-requires : (t : ℕ) → infer-tapp-lts.Need-instantiate-requires (infer-tapp-claims t) (infer-tapp-at t) infer-tapp.Post
 infer-tapp-instantiate-requires t c κs = tapp-two (c .before .before .before .before .before .before .before .before .before .before .before .before .before .before .args .m) (c .before .before .before .before .before .before .before .before .before .before .before .before .before .before .pre .1) (c .before .before .before .before .before .before .before .before .infer .ensures) (c .before .before .before .before .before .before .before .before .before .before .word .ensures .0) (c .before .before .before .before .z .given .1)
