@@ -6,7 +6,7 @@ use std::time::{Duration, Instant};
 use crate::cases::{Case, Class};
 use crate::contenders::{ask_exported, ask_original, ask_plain, Prepared, Slices};
 
-const ROUNDS: usize = 11;
+const ROUNDS: usize = 41;
 const BATCH: Duration = Duration::from_millis(1);
 
 /// Nanoseconds for one call, where the contender was asked.
