@@ -4,7 +4,7 @@ use std::io::{stdout, BufWriter, Write};
 use crate::asked::{Asked, Reply};
 use crate::cases::CASES;
 use crate::compare::full_reply;
-use crate::make_large::all_large;
+use crate::make_large::{all_large, broken_at_every_length};
 use crate::make_sizes::in_full;
 use crate::make_types::Maker;
 use crate::reading::read;
@@ -185,11 +185,15 @@ fn questions(
     Ok(())
 }
 
-/// Writes the frames of this many questions to the standard output, the first ones also in full, and what they
-/// reached to the standard error.
+/// Writes the frames of this many questions to the standard output, before them broken ones of every length and the first
+/// ones in full, and what they reached to the standard error.
 pub fn frames(count: u64, seed: u64) -> Result<(), String> {
     let out = BufWriter::with_capacity(1 << 20, stdout().lock());
     let mut frames = Frames { out, tally: Tally::default(), frames: 0, pairs: 0 };
+    for words in broken_at_every_length() {
+        let asked = at_the_desk(&words);
+        frames.write(&asked, &reply(&asked))?;
+    }
     for words in first_questions() {
         let asked = Asked { room: MOST_ROOM, ..in_full(&words) };
         frames.write(&asked, &reply(&asked))?;

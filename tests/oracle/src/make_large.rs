@@ -2,6 +2,10 @@
 use crate::make_questions::Draft;
 use crate::make_types::Maker;
 use crate::question::Ty;
+use crate::reply::MOST_WORDS;
+
+/// The shortest question that of_length makes of either parity.
+const LEAST: usize = 11;
 
 /// `times` copies of `head`, then `middle`, then `times` copies of `tail`.
 fn nested(times: usize, head: &[u32], middle: &[u32], tail: &[u32]) -> Vec<u32> {
@@ -81,6 +85,18 @@ pub fn all_large() -> Vec<Vec<u32>> {
         all.extend([2047, 2048, 2049].map(|length| of_length(length, mode)));
     }
     all
+}
+
+/// Broken questions of every length, from none to two over the most: the deepest one cut there, and one whose last type is none.
+pub fn broken_at_every_length() -> impl Iterator<Item = Vec<u32>> {
+    let longest = [deepest(0, 0), vec![0; 8]].concat();
+    let cut = move |length| longest[..length].to_vec();
+    let last_broken = |length| {
+        let mut words = of_length(length, 0);
+        words[length - 1] = 77;
+        words
+    };
+    (0..=MOST_WORDS + 2).map(cut).chain((LEAST..=MOST_WORDS + 2).map(last_broken))
 }
 
 impl Maker {
