@@ -38,7 +38,7 @@ unless x k y c h = go (eqb x k) (eqb y c) (eqb-true x k) (eqb-true y c)
     go true false f g = refl
     go false b f g = refl
 
-no-arrow : (B : Ty) → (tyCode B ≡ 5 → ⊥) → asArrow B ≡ none
+pub no-arrow : (B : Ty) → (tyCode B ≡ 5 → ⊥) → asArrow B ≡ none
 unfolding tyCode asArrow
 no-arrow int h = refl
 no-arrow bool h = refl
@@ -47,7 +47,7 @@ no-arrow (etvar a) h = refl
 no-arrow (arrow A B) h = absurd (h refl)
 no-arrow (forall a A) h = refl
 
-no-forall : (B : Ty) → (tyCode B ≡ 6 → ⊥) → asForall B ≡ none
+pub no-forall : (B : Ty) → (tyCode B ≡ 6 → ⊥) → asForall B ≡ none
 unfolding tyCode asForall
 no-forall int h = refl
 no-forall bool h = refl

@@ -18,6 +18,7 @@ use Rattle.types.specs.Reading.{Named, Tagged}
 use Rattle.types.proofs.Codes.{base-case, name-case}
 use Rattle.walks.specs.Walks.{Occurs}
 use Rattle.walks.proofs.Names.{names}
+use Rattle.rules.proofs.Choices.{no-arrow, no-forall}
 use Rattle.steps.proofs.Forms.{IsETVar, is-etvar, is-arrow, is-forall}
 use Rattle.subtyping.specs.Arms.{BothHeld, Comes, NotAlike, AlikeBy, by-rule, by-none, Alike, Absent, Fits, fits-refl, fits-arr, fits-all-r, fits-all-l, fits-inst-l, fits-inst-r, fits-none, Chosen}
 use Rattle.subtyping.specs.declared.Arm.the-variants as arm
@@ -50,24 +51,6 @@ not-etvar (var a) h = refl
 not-etvar (etvar a) h = absurd (h refl)
 not-etvar (arrow A B) h = refl
 not-etvar (forall a A) h = refl
-
-not-forall : (T : Ty) → (tyCode T ≡ 6 → ⊥) → asForall T ≡ none
-unfolding tyCode asForall
-not-forall int h = refl
-not-forall bool h = refl
-not-forall (var a) h = refl
-not-forall (etvar a) h = refl
-not-forall (arrow A B) h = refl
-not-forall (forall a A) h = absurd (h refl)
-
-not-arrow : (T : Ty) → (tyCode T ≡ 5 → ⊥) → asArrow T ≡ none
-unfolding tyCode asArrow
-not-arrow int h = refl
-not-arrow bool h = refl
-not-arrow (var a) h = refl
-not-arrow (etvar a) h = refl
-not-arrow (arrow A B) h = absurd (h refl)
-not-arrow (forall a A) h = refl
 
 same-none : {p : Option Syntax.TyVar} (o : Option Syntax.TyVar) → p ≡ none → same o p ≡ false
 unfolding same
@@ -217,7 +200,7 @@ not-both int B k h = refl
 not-both bool B k h = refl
 not-both (var a) B k h = refl
 not-both (etvar a) B k h = refl
-not-both (arrow A A′) B k h = both-none (some (A, A′)) k (not-arrow B (h refl))
+not-both (arrow A A′) B k h = both-none (some (A, A′)) k (no-arrow B (h refl))
 not-both (forall a A) B k h = refl
 
 module _ {A B : Ty} (none-alike : NotAlike A B) where
@@ -242,22 +225,22 @@ module _ {A B : Ty} (none-alike : NotAlike A B) where
   module _ (not-r : tyCode B ≡ 6 → ⊥) where
     left-all : (a : Syntax.TyVar) (T : Ty) → A ≡ forall a T → Comes A B (λ judge Γ. subAllL judge Γ B (a, T))
     unfolding asArrow onBoth asForall on _orElse_
-    left-all a T e judge Γ = rest judge Γ ∙ rw (not-forall B not-r, e) refl
+    left-all a T e judge Γ = rest judge Γ ∙ rw (no-forall B not-r, e) refl
 
     left-inst : (x : Syntax.TyVar) → A ≡ etvar x → notIn B (asETVar A) ≡ some x → Comes A B (λ judge Γ. subInst judge Syntax.SubInstL onL Γ B x)
     unfolding asArrow onBoth asForall on _orElse_
-    left-inst x e f judge Γ = rest judge Γ ∙ rw (not-forall B not-r, f, e) refl
+    left-inst x e f judge Γ = rest judge Γ ∙ rw (no-forall B not-r, f, e) refl
 
     module _ (not-l : tyCode A ≡ 6 → ⊥) (in-l : notIn B (asETVar A) ≡ none) where
       right-inst : (y : Syntax.TyVar) → B ≡ etvar y → notIn A (asETVar B) ≡ some y → Comes A B (λ judge Γ. subInst judge Syntax.SubInstR onR Γ A y)
       unfolding asArrow on _orElse_
       right-inst y e f judge Γ =
           rest judge Γ
-          ∙ rw (not-forall B not-r, not-forall A not-l, in-l, f, both-none (asArrow A) (subArr judge Γ) (ap (λ (T : Ty). asArrow T) e)) refl
+          ∙ rw (no-forall B not-r, no-forall A not-l, in-l, f, both-none (asArrow A) (subArr judge Γ) (ap (λ (T : Ty). asArrow T) e)) refl
 
       neither : (tyCode A ≡ 5 → tyCode B ≡ 5 → ⊥) → notIn A (asETVar B) ≡ none → Comes A B (λ judge Γ. refuse (subtypingError A B))
       unfolding on _orElse_
-      neither h f judge Γ = rest judge Γ ∙ rw (not-both A B (subArr judge Γ) h, not-forall B not-r, not-forall A not-l, in-l, f) refl
+      neither h f judge Γ = rest judge Γ ∙ rw (not-both A B (subArr judge Γ) h, no-forall B not-r, no-forall A not-l, in-l, f) refl
 
 pub codes-small : {q w : List ℕ} {t a b k m : ℕ} → BothHeld q w t a b → Tagged q w t a k → Tagged q w t b m → (k < 7) × (m < 7)
 codes-small h tk tm = (
