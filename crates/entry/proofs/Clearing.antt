@@ -3,8 +3,8 @@ use mathlib.Core.Path.{_≡_, refl, sym, ap, _∙_}
 use mathlib.Core.List.{List, _++_, append-nil, append-assoc}
 use Prim.Native.Nat.{ℕ, _+_, _-_, _≤_, _<_}
 use native.Mathlib.Omega.{arith}
-use lib.Bits.{bitOr, bitAnd, or-add-and, and-le-l, and-le-r}
-use lib.ListN.{length, getD, set, take, drop, replicate, length-append, length-drop, length-replicate, replicate-append-replicate}
+use lib.Bits.{bitOr, bitAnd, or-zero-l, or-add-and, and-le-l, and-le-r}
+use lib.ListN.{length, getD, getD-replicate, set, take, drop, replicate, length-append, length-drop, length-replicate, replicate-append-replicate}
 use lib.Seq.{set-getD, drop-length, length-take-le, take-at, drop-at, drop-drop}
 use borrow.Author.Fill.{fill-more}
 
@@ -15,6 +15,10 @@ no-bits a b e =
     let l = and-le-l a b in
     let r = and-le-r a b in
     (omega arith, omega arith)
+
+pub zero-bits : (w : List ℕ) (i b : ℕ) → i < length w → b ≡ 0 → w ≡ replicate (length w) 0 → bitOr b (getD w i 0) ≡ 0
+zero-bits w i b h z e =
+    ap (λ (k : ℕ). bitOr k (getD w i 0)) z ∙ or-zero-l (getD w i 0) ∙ ap (λ (l : List ℕ). getD l i 0) e ∙ getD-replicate (length w) i 0 0 h
 
 -- one zero more
 pub zero-more : (l : List ℕ) (i : ℕ) → i < length l → getD l i 0 ≡ 0 → l ≡ replicate i 0 ++ drop i l → l ≡ replicate (i + 1) 0 ++ drop (i + 1) l

@@ -72,6 +72,11 @@ pub record Cleared (q w w′ : List ℕ) (budget : ℕ) (a : Question) (s s′ :
   pub runs : Runs q budget a s s′ r
   pub work : w′ ≡ replicate (workWords budget) 0 ++ drop (workWords budget) w
 
+-- b is 0 where all words are, and nowhere else
+pub record ZeroBits (w : List ℕ) (b : ℕ) : Type 0 where
+  pub all : b ≡ 0 → w ≡ replicate (length w) 0
+  pub only : w ≡ replicate (length w) 0 → b ≡ 0
+
 -- ## The steps of a run
 
 pub record OpenPre (q w : List ℕ) (budget : ℕ) (a : Question) : Type 0 where

@@ -3,7 +3,7 @@ ghost use mathlib.Core.Path.{_≡_};
 ghost use mathlib.Core.List.{_++_};
 ghost use Prim.Native.Nat.{_≤_, _<_, _^_};
 ghost use lib.ListN.{length, drop, replicate};
-ghost use Rattle.entry.specs.Entry.{ModeOf, AskPre, Answers, toldOf, lengthOf, FinishPre, Finishes, ResolvePre, Resolves, OpenPre, Opens, RunPre, Runs, ClearedPre, Cleared, Replied};
+ghost use Rattle.entry.specs.Entry.{ModeOf, AskPre, Answers, toldOf, lengthOf, FinishPre, Finishes, ResolvePre, Resolves, OpenPre, Opens, RunPre, Runs, ZeroBits, ClearedPre, Cleared, Replied};
 use contexts::Opened;
 use judging::Answer;
 use judging::Mode;
@@ -36,10 +36,10 @@ fn refusal(code: u32, at: u32) -> Reply
     }
 }
 
-// Some bits of a block: 0 where all of its words are 0.
+// All bits of a block's words in one: 0 where all words are 0, and nowhere else.
 fn any_bits(block: &[u32]) -> u32
     requires { ⌜ length (now block) ≡ 128 ⌝ }
-    ensures { λ b. ⌜ (b ≡ 0 → now (block .entry) ≡ replicate (length (now (block .entry))) 0) ⌝ }
+    ensures { λ b. ⌜ ZeroBits (now (block .entry)) b ⌝ }
 {
     let mut bits: u32 = 0;
     let mut i = 0;

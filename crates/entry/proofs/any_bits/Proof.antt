@@ -4,18 +4,18 @@ use mathlib.Core.Path.{_≡_, refl, ap, _∙_}
 use mathlib.Core.List.{_++_}
 use Prim.Native.Nat.{ℕ, _≤_, _-_}
 use lib.ListN.{length, drop, replicate}
-use Rattle.entry.proofs.Clearing.{no-bits, zero-more, zero-all}
+use Rattle.entry.proofs.Clearing.{no-bits, zero-bits, zero-more, zero-all}
 use Rattle.entry.proofs.any_bits.Statement.{statement}
 use Rattle.entry.proofs.any_bits.Tie as tie
 
 abbrev Inv-loop : tie.InvT-loop
-Inv-loop block bits₀ i₀ bits i = (i ≤ 128) × (bits ≡ 0 → block ≡ replicate i 0 ++ drop i block)
+Inv-loop block bits₀ i₀ bits i = (i ≤ 128) × (bits ≡ 0 → block ≡ replicate i 0 ++ drop i block) × (block ≡ replicate (length block) 0 → bits ≡ 0)
 
 abbrev μ-loop : tie.MeasureT-loop
 μ-loop block bits₀ i₀ bits i = 128 - i
 
 loop-holds : tie.Need-loop-holds Inv-loop μ-loop
-loop-holds c = (omega arith, λ e. refl)
+loop-holds c = (omega arith, λ e. refl, λ e. refl)
 
 mul-bits : tie.Need-mul-bits Inv-loop μ-loop
 mul-bits c = omega arith
@@ -35,12 +35,16 @@ loop-again c = (
   λ e.
       let z = no-bits (c .before .before .loop .bits) _ e in
       zero-more (c .before .before .before .args .block .now) (c .before .before .loop .i) (omega (arith, c .before .before .before .pre)) (z .1) (c .before .before .loop .inv .1 (z .0)),
+  λ e. zero-bits (c .before .before .before .args .block .now) (c .before .before .loop .i) (c .before .before .loop .bits) (omega (arith, c .before .before .before .pre)) (c .before .before .loop .inv .2 e) e,
 )
 
 returns : tie.Need-returns Inv-loop μ-loop
-returns c e =
-    let f : c .before .loop .i ≡ length (c .before .before .args .block .now) = omega (arith, c .before .before .pre) in
-    zero-all (c .before .before .args .block .now) (c .before .before .args .block .now) (c .before .loop .inv .1 e ∙ ap (λ (k : ℕ). replicate k 0 ++ drop k (c .before .before .args .block .now)) f)
+returns c = record {
+  all = λ e.
+      let f : c .before .loop .i ≡ length (c .before .before .args .block .now) = omega (arith, c .before .before .pre) in
+      zero-all (c .before .before .args .block .now) (c .before .before .args .block .now) (c .before .loop .inv .1 e ∙ ap (λ (k : ℕ). replicate k 0 ++ drop k (c .before .before .args .block .now)) f);
+  only = c .before .loop .inv .2;
+}
 
 pub any-bits-spec : {M : Type 1} → statement M
 any-bits-spec =

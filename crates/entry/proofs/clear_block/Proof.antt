@@ -19,7 +19,7 @@ same-length-2 : tie.Need-same-length-2
 same-length-2 c = search needs
 
 returns-2 : tie.Need-returns-2
-returns-2 c = c .before .any-bits .ensures (c .if1 .left)
+returns-2 c = c .before .any-bits .ensures .all (c .if1 .left)
 
 pub clear-block-spec : {M : Type 1} → statement M
 clear-block-spec =
