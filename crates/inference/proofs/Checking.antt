@@ -6,7 +6,7 @@ use Prim.Native.Nat.{ℕ, _+_, _*_, _<_, _^_}
 use native.Mathlib.Omega.{arith}
 use lib.ListN.{length, getD}
 use Rattle.definition.specs.Syntax
-use Rattle.definition.specs.Syntax.{TmVar, TyVar, Ty, int, arrow, Expr, Ctx, Judgement, infer, check, subtype, ruleNumber, leaf, _&_, children, varBnd, tvarBnd}
+use Rattle.definition.specs.Syntax.{TmVar, TyVar, Ty, int, arrow, Expr, Ctx, onR, Judgement, infer, check, subtype, ruleNumber, leaf, _&_, children, varBnd, tvarBnd}
 use Rattle.definition.specs.Run.{Out, done, _>>=_, give}
 use Rattle.definition.specs.Contexts.{kVar, kTVar, _▹_, rightOf}
 use Rattle.definition.specs.Types.{apply}
@@ -34,7 +34,7 @@ use Rattle.judging.proofs.Steps.{NotDone}
 use Rattle.steps.specs.declared.Body.{Body}
 use Rattle.steps.specs.declared.Instance.the-variants.{Of}
 use Rattle.steps.specs.Built.{Built}
-use Rattle.steps.specs.Opening.{ForallPre, Opens, Instances, opened, OpensRight}
+use Rattle.steps.specs.Opening.{ForallPre, Opens, Instances, opened, OpensOn}
 use Rattle.steps.proofs.Forms.{IsArrow, is-arrow, IsForall, is-forall}
 use Rattle.steps.proofs.Going.{room-space, ref-small}
 use Rattle.rules.specs.declared.Mid.{Mid}
@@ -182,7 +182,7 @@ module _ (m : Mode) {q w : List ℕ} {s : State} {g : Span} {ex r : ℕ} (pre : 
   all-pre = let v = check-asked ex r (pre .rule .asks) in
       record { room = pre .rule .room; Γ = _; run = v .run; held = held-as (room-held (pre .rule .room) (v .den)) (pre .tag) 6 (chosen-all (pre .choice)) }
 
-  module _ {w₁ : List ℕ} {o : Body} (i : OpensRight q w w₁ s g r o) where
+  module _ {w₁ : List ℕ} {o : Body} (i : OpensOn q w w₁ s g r onR (Of o)) where
     all-opened : {j : Judgement} (k : At (pre .rule) j) → Opened-body q w w₁ s g o (all-parts k .a) (check-asked ex r k .Γ ▹ tvarBnd (all-parts k .a)) (all-parts k .A)
     all-opened k = let v = check-asked ex r k in opened-body refl (i .opens (v .Γ) (all-parts k .a) (all-parts k .A) (v .run) (rw (all-parts k .is) at (v .den)))
 

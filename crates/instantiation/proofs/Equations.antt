@@ -4,14 +4,15 @@ use mathlib.Core.Bool.{true, false}
 use mathlib.Core.List.{_∷_, []}
 use Prim.Native.Nat.{ℕ, suc, _<_}
 use native.Mathlib.Omega.{arith}
-use Rattle.definition.specs.Syntax
-use Rattle.definition.specs.Syntax.{pick, TyVar, Ty, int, bool, var, etvar, arrow, forall, tvarBnd, etvarBnd, setvarBnd, mark, Ctx, Side, onL, onR, inst, leaf, _&_, occursCheck}
+use Rattle.definition.specs.Syntax.{pick, TyVar, Ty, int, bool, var, etvar, arrow, forall, setvarBnd, Ctx, Side, onL, onR, inst, leaf, _&_, occursCheck}
 use Rattle.definition.specs.Question.{Mode}
 use Rattle.definition.specs.Run.{done, fail, andThen, give, refuse, fresh, _>>=_}
-use Rattle.definition.specs.Contexts.{kTVar, kMark, rightOf, _▹_, replace, before}
-use Rattle.definition.specs.Types.{isMono, occurs, subst, apply}
+use Rattle.definition.specs.Contexts.{rightOf, replace, before}
+use Rattle.definition.specs.Types.{isMono, occurs, apply}
 use Rattle.definition.specs.Rules.{Judge, closes, tyCode, other, instSolve, instReach, instArr, solve, reach, split, instArrow, instForall, instRule, rule}
 use Rattle.steps.specs.Parting.{freshName}
+use Rattle.steps.specs.Sides.{openedTy, openedCtx, binder}
+use Rattle.instantiation.proofs.Sides.{instAll}
 
 module _ (μ : Mode) (judge : Judge) (Γ : Ctx) (a : TyVar) (l n : ℕ) where
   module _ (s : Side) where
@@ -50,14 +51,10 @@ module _ (μ : Mode) (judge : Judge) (Γ : Ctx) (a : TyVar) (l n : ℕ) where
     unfolding rule instRule instArrow _>>=_ andThen fresh
     arr-is A B = refl
 
-  pub all-l-is : (b : TyVar) (T : Ty) → rule μ judge (inst onL Γ a (forall b T)) l n
-      ≡ andThen (judge (inst onL (Γ ▹ tvarBnd b) a T) l n) (λ r. give (Syntax.InstLAllR, int, rightOf (kTVar b) (r .1), r .2 & leaf))
-  unfolding rule instRule instForall _>>=_
-  all-l-is b T = refl
-
-  pub all-r-is : (b : TyVar) (T : Ty) → rule μ judge (inst onR Γ a (forall b T)) l n
-      ≡ andThen (subst b (etvar b) T l n)
-      (λ T′ l n. andThen (judge (inst onR (Γ ▹ etvarBnd b ▹ mark b) a T′) l n)
-      (λ r. give (Syntax.InstRAllL, int, rightOf (kMark b) (r .1), r .2 & leaf)))
-  unfolding rule instRule instForall _>>=_
-  all-r-is b T = refl
+  pub all-is : (s : Side) (b : TyVar) (T : Ty) → rule μ judge (inst s Γ a (forall b T)) l n
+      ≡ andThen (openedTy (other s) b T l n)
+      (λ T′ l n. andThen (judge (inst s (openedCtx (other s) Γ b) a T′) l n)
+      (λ r. give (instAll s, int, rightOf (binder (other s) b) (r .1), r .2 & leaf)))
+  unfolding rule instRule instForall _>>=_ andThen other
+  all-is onL b T = refl
+  all-is onR b T = refl

@@ -3,8 +3,8 @@ use mathlib.Core.Path.{_≡_}
 use mathlib.Core.Bool.{Bool, true, false}
 use mathlib.Core.List.{List}
 use Prim.Native.Nat.{ℕ, _<_}
-use Rattle.definition.specs.Syntax.{TyVar, Ty, etvar, Ctx, Side, onL, onR}
-use Rattle.definition.specs.Contexts.{Key, kTVar, kMark, before}
+use Rattle.definition.specs.Syntax.{TyVar, Ty, etvar, Ctx, Side}
+use Rattle.definition.specs.Contexts.{before}
 use Rattle.definition.specs.Rules.{tyCode}
 use Rattle.layout.specs.Denotes.{Den, Run}
 use Rattle.layout.specs.declared.Span.{Span}
@@ -14,17 +14,8 @@ use Rattle.judging.specs.declared.Step.{Step}
 use Rattle.judging.specs.declared.Step.the-variants.{Done}
 use Rattle.contexts.specs.Build.{Replaced}
 use Rattle.contexts.specs.declared.Opened.{Opened}
-use Rattle.steps.specs.Opening.{OpensRight, OpensLeft}
-use Rattle.steps.specs.declared.Body.{Body}
-use Rattle.steps.specs.declared.Instance.{Instance}
-use Rattle.steps.specs.declared.Instance.the-variants.{Of}
-use Rattle.instantiation.specs.declared.Side as program
-use Rattle.instantiation.specs.declared.Side.the-variants.{L, R}
-
--- the program's sides as the definition's
-abbrev pub side : program.Side → Side
-side L = onL
-side R = onR
+use Rattle.steps.specs.declared.Side as program
+use Rattle.steps.specs.declared.Side.the-variants.{L, R}
 
 -- the number of a side's first rule
 abbrev pub firstOf : program.Side → ℕ
@@ -63,15 +54,3 @@ pub record Closed (w w′ : List ℕ) (s : State) (g : Span) (a : TyVar) (r n : 
   pub o : Opened
   pub replaced : Replaced w w′ s g a r o
   pub is : z ≡ Done (record { st = o .st; g = o .g; ty = 2048; rule = n; kids = 0 })
-
--- ## InstLAllR and InstRAllL
-
--- the Forall r was opened for the rule: its body under its name, or an instance of it
-pub data OpensOn (q w w′ : List ℕ) (s : State) (g : Span) (r : ℕ) : Side → Instance → Type 0 where
-  on-left : {o : Body} → OpensRight q w w′ s g r o → OpensOn q w w′ s g r onL (Of o)
-  on-right : {z : Instance} → OpensLeft q w w′ s g r z → OpensOn q w w′ s g r onR z
-
--- right of which the output stands: the name or its mark
-abbrev pub binder : Side → TyVar → Key
-binder onL b = kTVar b
-binder onR b = kMark b

@@ -1,32 +1,26 @@
-// Instantiation: inst_l and inst_r with their rules. A reference a denotes the unknown, ty the type that it is to be.
+// Instantiation: inst_l and inst_r with their rules. A reference a denotes the unknown, on side s, ty the type that it is to be.
 use judging::Answer;
 use judging::Ask;
 use judging::Bad;
 use judging::Entered;
 use judging::Step;
-use layout::Key;
 use layout::Made;
 use layout::Span;
 use layout::State;
 use layout::TyVar;
 use steps::Instance;
+use steps::Side;
 ghost use mathlib.Core.Path.{_≡_};
 ghost use Prim.Native.Nat.{_<_, _^_};
 ghost use Rattle.definition.specs.Syntax.{onL, onR};
-ghost use Rattle.layout.specs.Names.{ty, key};
+ghost use Rattle.layout.specs.Names.{ty};
 ghost use Rattle.contexts.specs.Build.{Space};
 ghost use Rattle.judging.specs.Asking.{instAsk, JudgePre, RulePre};
 ghost use Rattle.steps.specs.Modes.{JudgedBoth, FiresBoth};
-ghost use Rattle.steps.specs.Opening.{ForallPre};
-ghost use Rattle.instantiation.specs.Sides.{side, firstOf, otherOf, binder, FormPre, Closed, SolvePre, ReachPre, OpensOn};
+ghost use Rattle.steps.specs.Sides.{side};
+ghost use Rattle.instantiation.specs.Sides.{firstOf, otherOf, FormPre, Closed, SolvePre, ReachPre};
 
-// The side on which the unknown stands.
-pub enum Side {
-    L,
-    R,
-}
-
-// The other one.
+// The other side.
 fn other(s: Side) -> Side
     ensures { λ z. ⌜ z ≡ otherOf s ⌝ }
 {
@@ -63,27 +57,6 @@ fn asked(s: Side, a: usize, ty: usize) -> Ask
             left: ty,
             right: a,
         },
-    }
-}
-
-// Opens the Forall ty: InstLAllR takes its body, InstRAllL an instance of it.
-fn open_on(q: &[u32], work: &mut [u32], st: State, g: Span, s: Side, ty: usize) -> Instance
-    requires { ⌜ ForallPre (now q) (now work) st g ty ⌝ }
-    ensures { λ z. ⌜ OpensOn (now (q .entry)) (now (work .entry)) (now (work .exit)) st g ty (side s) z ⌝ }
-{
-    match s {
-        Side::L => Instance::Of(steps::open_right(q, work, st, g, ty)),
-        Side::R => steps::open_left(q, work, st, g, ty),
-    }
-}
-
-// What opening pushed last, right of which the output stands: the name b, or its mark.
-fn pushed(s: Side, b: TyVar) -> Key
-    ensures { λ k. ⌜ key k ≡ binder (side s) (ty b) ⌝ }
-{
-    match s {
-        Side::L => Key::TVar(b),
-        Side::R => Key::Mark(b),
     }
 }
 
@@ -179,7 +152,7 @@ fn on_side(q: &[u32], work: &mut [u32], st: State, g: Span, s: Side, a: usize, t
 }
 
 // Both, over the side: enters, asks the rule that fits, leaves.
-fn inst(q: &[u32], work: &mut [u32], st: State, g: Span, s: Side, a: usize, ty: usize) -> Step
+pub fn inst(q: &[u32], work: &mut [u32], st: State, g: Span, s: Side, a: usize, ty: usize) -> Step
     requires { ⌜ JudgePre (now q) (now work) st g (instAsk (side s) a ty) ⌝ }
     ensures { λ z. ⌜ JudgedBoth (now (q .entry)) (now (work .entry)) (now (work .exit)) st g (instAsk (side s) a ty) z ⌝ }
 {
@@ -242,13 +215,14 @@ fn inst_arr(q: &[u32], work: &mut [u32], st: State, g: Span, s: Side, a: usize, 
     steps::through(u, rule, 2)
 }
 
-// InstLAllR (33), InstRAllL (37): the opened type; of the output what stands right of what opening pushed.
+// InstLAllR (33), InstRAllL (37): the Forall, on the other side, opened; of the output what stands right of what opening pushed.
 fn inst_all(q: &[u32], work: &mut [u32], st: State, g: Span, s: Side, a: usize, ty: usize) -> Step
     requires { ⌜ FormPre (side s) (now q) (now work) st g a ty 6 ⌝ }
     ensures { λ z. ⌜ FiresBoth (now (q .entry)) (now (work .entry)) (now (work .exit)) st g (instAsk (side s) a ty) z ⌝ }
 {
     let rule = first(s) + 3;
-    let Instance::Of(o) = open_on(q, work, st, g, s, ty) else {
+    let back = other(s);
+    let Instance::Of(o) = steps::open_on(q, work, st, g, back, ty) else {
         return Step::Spent;
     };
     let st1 = o.st;
@@ -259,6 +233,6 @@ fn inst_all(q: &[u32], work: &mut [u32], st: State, g: Span, s: Side, a: usize, 
     let Step::Done(r) = z else {
         return z;
     };
-    let k = pushed(s, b);
+    let k = steps::pushed(back, b);
     steps::right_alone(work, r, k, rule)
 }

@@ -5,7 +5,7 @@ use Prim.Native.Nat.{ℕ, _+_, _*_, _≤_}
 use native.Mathlib.Nat.{le-refl}
 use native.Mathlib.Omega.{arith}
 use Rattle.definition.specs.Syntax as syntax
-use Rattle.definition.specs.Syntax.{Ty, etvar, forall, Ctx}
+use Rattle.definition.specs.Syntax.{Ty, etvar, forall, Ctx, onL, onR}
 use Rattle.definition.specs.Run.{Out, done, stop}
 use Rattle.definition.specs.Contexts.{kTVar, kETVar, kMark, held}
 use Rattle.definition.specs.Types.{subst}
@@ -34,7 +34,7 @@ use Rattle.steps.specs.declared.Body.{Body}
 use Rattle.steps.specs.declared.Instance.{Instance}
 use Rattle.steps.specs.declared.Instance.the-variants.{Of, Spent}
 use Rattle.steps.specs.Built.{Built}
-use Rattle.steps.specs.Opening.{ForallPre, Opens, OpensRight, Instances, opened, spent, OpensLeft}
+use Rattle.steps.specs.Opening.{ForallPre, Opens, Instances, opened, spent, OpensOn}
 use Rattle.steps.proofs.Going.{named-code, room-space}
 
 -- two words are put
@@ -49,7 +49,7 @@ module _ {q w : List ℕ} {s : State} {g : Span} {r : ℕ} (pre : ForallPre q w 
     -- ## On the right
 
     pub opens-right : {w₁ : List ℕ} {o : Opened} → Pushed w w₁ s g (kTVar (ty x)) 2048 o
-        → OpensRight q w w₁ s g r (record { st = o .st; g = o .g; b = x; ty = b })
+        → OpensOn q w w₁ s g r onR (Of (record { st = o .st; g = o .g; b = x; ty = b }))
     opens-right {w₁} {o} p =
         let on = p .grown .past in
         let kp : Keep (s .top) (s .low) w w₁ = keep-less (le-refl _) (omega (arith, pre .room .fits)) (p .grown .keep) in
@@ -84,7 +84,7 @@ module _ {q w : List ℕ} {s : State} {g : Span} {r : ℕ} (pre : ForallPre q w 
         makes : {v : syntax.TyVar} {T : Ty} → Den q w (s .top) r (forall v T) → subs.Makes q w₁ w₂ (past s) z (subst v (etvar v) T (s .left) (s .fresh))
         makes {v} {T} d = rw (nm .of-forall v T d) at (call .makes _ (put .den q) T (den₁ d))
 
-        pub left-spent : z ≡ made.Spent → OpensLeft q w w₂ s g r Spent
+        pub left-spent : z ≡ made.Spent → OpensOn q w w₂ s g r onL Spent
         left-spent e = record {
           opens = λ Γ v T run d.
               let n = ended (makes d) e in
@@ -109,7 +109,7 @@ module _ {q w : List ℕ} {s : State} {g : Span} {r : ℕ} (pre : ForallPre q w 
           left-space = room-space room₂ g 2 (run₂ (pre .run)) (omega arith)
 
           pub opens-left : {w₃ : List ℕ} {o : Opened} → Pushed2 w₂ w₃ s₂ g (kETVar (ty x)) 2048 (kMark (ty x)) 2048 o
-              → OpensLeft q w w₃ s g r (Of (record { st = o .st; g = o .g; b = x; ty = t }))
+              → OpensOn q w w₃ s g r onL (Of (record { st = o .st; g = o .g; b = x; ty = t }))
           opens-left {w₃} {o} p =
               let on = p .grown .past in
               let lf = on .left in

@@ -2,5 +2,6 @@
 pub mod Modes
 pub mod Built
 pub mod Parting
+pub mod Sides
 pub mod Opening
 pub mod Ending

@@ -2,10 +2,8 @@
 use mathlib.Core.Path.{_≡_}
 use mathlib.Core.List.{List}
 use Prim.Native.Nat.{ℕ, _+_, _*_}
-use Rattle.definition.specs.Syntax.{TyVar, Ty, etvar, forall, tvarBnd, etvarBnd, mark, Ctx}
+use Rattle.definition.specs.Syntax.{TyVar, Ty, forall, Ctx, Side}
 use Rattle.definition.specs.Run.{Out, done, stop}
-use Rattle.definition.specs.Contexts.{_▹_}
-use Rattle.definition.specs.Types.{subst}
 use Rattle.layout.specs.Names.{ty}
 use Rattle.layout.specs.Words.{Keep}
 use Rattle.layout.specs.Denotes.{Den, Run}
@@ -17,6 +15,7 @@ use Rattle.steps.specs.declared.Body.{Body}
 use Rattle.steps.specs.declared.Instance.{Instance}
 use Rattle.steps.specs.declared.Instance.the-variants.{Of, Spent}
 use Rattle.steps.specs.Built.{Built}
+use Rattle.steps.specs.Sides.{openedTy, openedCtx}
 
 -- a rule starts with a Forall r
 pub record ForallPre (q w : List ℕ) (s : State) (g : Span) (r : ℕ) : Type 0 where
@@ -38,12 +37,7 @@ pub data Instances (q w w′ : List ℕ) (s : State) (g : Span) (b : TyVar) (Δ 
       → Instances q w w′ s g b Δ (Of o) (done T (o .st .left) (s .fresh))
   spent : Keep (s .top) (s .low) w w′ → Instances q w w′ s g b Δ Spent stop
 
--- on the right: the name is pushed
-pub record OpensRight (q w w′ : List ℕ) (s : State) (g : Span) (r : ℕ) (o : Body) : Type 0 where
+-- the Forall r was opened, as one that stands on the side sd
+pub record OpensOn (q w w′ : List ℕ) (s : State) (g : Span) (r : ℕ) (sd : Side) (z : Instance) : Type 0 where
   pub opens : (Γ : Ctx) (b : TyVar) (T : Ty) → Run q w (s .top) (g .at) (g .n) Γ → Den q w (s .top) r (forall b T)
-      → Instances q w w′ s g b (Γ ▹ tvarBnd b) (Of o) (done T (s .left) (s .fresh))
-
--- on the left: an unknown stands for the name, and the unknown and a mark are pushed
-pub record OpensLeft (q w w′ : List ℕ) (s : State) (g : Span) (r : ℕ) (z : Instance) : Type 0 where
-  pub opens : (Γ : Ctx) (b : TyVar) (T : Ty) → Run q w (s .top) (g .at) (g .n) Γ → Den q w (s .top) r (forall b T)
-      → Instances q w w′ s g b (Γ ▹ etvarBnd b ▹ mark b) z (subst b (etvar b) T (s .left) (s .fresh))
+      → Instances q w w′ s g b (openedCtx sd Γ b) z (openedTy sd b T (s .left) (s .fresh))

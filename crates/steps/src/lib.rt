@@ -6,12 +6,22 @@ use layout::Made;
 use layout::Span;
 use layout::State;
 use layout::TyVar;
+ghost use mathlib.Core.Path.{_≡_};
 ghost use Prim.Native.Nat.{_+_, _*_, _≤_};
 ghost use lib.ListN.{length};
-ghost use Rattle.layout.specs.Names.{key};
+ghost use Rattle.definition.specs.Syntax.{onL, onR};
+ghost use Rattle.layout.specs.Names.{ty, key};
 ghost use Rattle.steps.specs.Parting.{PartPre, Parts};
-ghost use Rattle.steps.specs.Opening.{ForallPre, OpensRight, OpensLeft};
+ghost use Rattle.steps.specs.Opening.{ForallPre, OpensOn};
+ghost use Rattle.steps.specs.Sides.{side, binder};
 ghost use Rattle.steps.specs.Ending.{RightAlone, Through};
+ghost use Rattle.steps.specs.declared.Instance.the-variants as instance;
+
+// A side of subtype, inst_l or inst_r, on which a type stands.
+pub enum Side {
+    L,
+    R,
+}
 
 // A context in which an unknown is solved as an arrow of two fresh ones, and their types.
 pub struct Parted {
@@ -69,7 +79,7 @@ pub enum Instance {
 // Opens a Forall on the right: its body, with its name pushed.
 pub fn open_right(q: &[u32], work: &mut [u32], st: State, g: Span, r: usize) -> Body
     requires { ⌜ ForallPre (now q) (now work) st g r ⌝ }
-    ensures { λ o. ⌜ OpensRight (now (q .entry)) (now (work .entry)) (now (work .exit)) st g r o ⌝ }
+    ensures { λ o. ⌜ OpensOn (now (q .entry)) (now (work .entry)) (now (work .exit)) st g r onR (instance.Of o) ⌝ }
 {
     let top = st.top;
     let b = types::name_of(q, work, top, r);
@@ -86,9 +96,9 @@ pub fn open_right(q: &[u32], work: &mut [u32], st: State, g: Span, r: usize) -> 
 }
 
 // Opens a Forall on the left: its body with an unknown for its name, with the unknown and a mark pushed.
-pub fn open_left(q: &[u32], work: &mut [u32], st: State, g: Span, r: usize) -> Instance
+fn open_left(q: &[u32], work: &mut [u32], st: State, g: Span, r: usize) -> Instance
     requires { ⌜ ForallPre (now q) (now work) st g r ⌝ }
-    ensures { λ z. ⌜ OpensLeft (now (q .entry)) (now (work .entry)) (now (work .exit)) st g r z ⌝ }
+    ensures { λ z. ⌜ OpensOn (now (q .entry)) (now (work .entry)) (now (work .exit)) st g r onL z ⌝ }
 {
     let top = st.top;
     let b = types::name_of(q, work, top, r);
@@ -120,6 +130,27 @@ pub fn open_left(q: &[u32], work: &mut [u32], st: State, g: Span, r: usize) -> I
         b: b,
         ty: made,
     })
+}
+
+// Opens the Forall r, which stands on side s.
+pub fn open_on(q: &[u32], work: &mut [u32], st: State, g: Span, s: Side, r: usize) -> Instance
+    requires { ⌜ ForallPre (now q) (now work) st g r ⌝ }
+    ensures { λ z. ⌜ OpensOn (now (q .entry)) (now (work .entry)) (now (work .exit)) st g r (side s) z ⌝ }
+{
+    match s {
+        Side::L => open_left(q, work, st, g, r),
+        Side::R => Instance::Of(open_right(q, work, st, g, r)),
+    }
+}
+
+// What opening on side s pushed last, right of which the output stands: the mark of the name b, or the name.
+pub fn pushed(s: Side, b: TyVar) -> Key
+    ensures { λ k. ⌜ key k ≡ binder (side s) (ty b) ⌝ }
+{
+    match s {
+        Side::L => Key::Mark(b),
+        Side::R => Key::TVar(b),
+    }
 }
 
 // Ends a rule that keeps what stands right of the key alone, with one child and no result type.

@@ -19,8 +19,9 @@ use Rattle.types.proofs.Codes.{base-case, name-case}
 use Rattle.walks.specs.Walks.{Occurs}
 use Rattle.walks.proofs.Names.{names}
 use Rattle.rules.proofs.Choices.{no-arrow, no-forall}
+use Rattle.steps.specs.declared.Side.the-variants as side
 use Rattle.steps.proofs.Forms.{IsETVar, is-etvar, is-arrow, is-forall}
-use Rattle.subtyping.specs.Arms.{BothHeld, Comes, NotAlike, AlikeBy, by-rule, by-none, Alike, Absent, Fits, fits-refl, fits-arr, fits-all-r, fits-all-l, fits-inst-l, fits-inst-r, fits-none, Chosen}
+use Rattle.subtyping.specs.Arms.{BothHeld, Comes, NotAlike, AlikeBy, by-rule, by-none, Alike, Absent, Fits, fits-refl, fits-arr, fits-all, fits-inst, fits-none, Chosen}
 use Rattle.subtyping.specs.declared.Arm.the-variants as arm
 
 -- ## By the code
@@ -271,32 +272,32 @@ module _ {q w : List ℕ} {t a b n k m : ℕ} (al : Alike q w t a b n) (is-0 : n
         fits-arr (u .is) (v .is) (arrows (unlike A B d e) (u .A) (u .B) (v .A) (v .B) (u .is) (v .is));
   }
 
-  pub chosen-all-r : m ≡ 6 → Chosen q w t a b arm.AllR
+  pub chosen-all-r : m ≡ 6 → Chosen q w t a b (arm.All side.R)
   chosen-all-r h = record {
-    is = λ A B d e. let v = is-forall B (sym (tm .is B e) ∙ h) in fits-all-r (v .is) (right-all (unlike A B d e) (v .a) (v .A) (v .is));
+    is = λ A B d e. let v = is-forall B (sym (tm .is B e) ∙ h) in fits-all (v .is) (right-all (unlike A B d e) (v .a) (v .A) (v .is));
   }
 
   module _ (not-6 : m ≡ 6 → ⊥) where
-    pub chosen-all-l : k ≡ 6 → Chosen q w t a b arm.AllL
+    pub chosen-all-l : k ≡ 6 → Chosen q w t a b (arm.All side.L)
     chosen-all-l h = record {
       is = λ A B d e.
           let u = is-forall A (sym (tk .is A d) ∙ h) in
-          fits-all-l (u .is) (left-all (unlike A B d e) (λ f. not-6 (tm .is B e ∙ f)) (u .a) (u .A) (u .is));
+          fits-all (u .is) (left-all (unlike A B d e) (λ f. not-6 (tm .is B e ∙ f)) (u .a) (u .A) (u .is));
     }
 
-    pub chosen-inst-l : {r : Bool} → Absent q w t a b r → r ≡ true → Chosen q w t a b arm.InstL
+    pub chosen-inst-l : {r : Bool} → Absent q w t a b r → r ≡ true → Chosen q w t a b (arm.Inst side.L)
     chosen-inst-l ab h = record {
       is = λ A B d e.
           let u = ab .yes h A B d e in
-          fits-inst-l (u .is) (left-inst (unlike A B d e) (λ f. not-6 (tm .is B e ∙ f)) (u .x) (u .is) (u .not-in));
+          fits-inst (u .is) (left-inst (unlike A B d e) (λ f. not-6 (tm .is B e ∙ f)) (u .x) (u .is) (u .not-in));
     }
 
     module _ (not-6′ : k ≡ 6 → ⊥) {r : Bool} (ab : Absent q w t a b r) (no : r ≡ false) {r′ : Bool} (ab′ : Absent q w t b a r′) where
-      pub chosen-inst-r : r′ ≡ true → Chosen q w t a b arm.InstR
+      pub chosen-inst-r : r′ ≡ true → Chosen q w t a b (arm.Inst side.R)
       chosen-inst-r h = record {
         is = λ A B d e.
             let v = ab′ .yes h B A e d in
-            fits-inst-r (v .is)
+            fits-inst (v .is)
             (right-inst (unlike A B d e) (λ f. not-6 (tm .is B e ∙ f)) (λ f. not-6′ (tk .is A d ∙ f)) (ab .no no A B d e) (v .x) (v .is) (v .not-in));
       }
 

@@ -1,95 +1,89 @@
--- SubAllR and SubAllL: rules that open a Forall.
-use mathlib.Core.Path.{_≡_, refl}
+-- SubAllR and SubAllL: the rule that opens the Forall on a side.
+use mathlib.Core.Path.{_≡_, refl, _∙_}
 use mathlib.Core.List.{List}
 use Prim.Native.Nat.{ℕ}
 use Rattle.definition.specs.Syntax
-use Rattle.definition.specs.Syntax.{TyVar, Ty, forall, Judgement}
-use Rattle.definition.specs.Run.{andThen, _>>=_}
-use Rattle.definition.specs.Contexts.{kTVar, kMark}
-use Rattle.definition.specs.Rules.{subAllR, subAllL, tyCode}
+use Rattle.definition.specs.Syntax.{TyVar, Ty, int, forall, Ctx, Side, onL, onR, Judgement, subtype, Rule, ruleNumber, leaf, _&_}
+use Rattle.definition.specs.Run.{andThen, give, _>>=_}
+use Rattle.definition.specs.Contexts.{rightOf}
+use Rattle.definition.specs.Rules.{Judge, judge, subAllR, subAllL, tyCode}
 use Rattle.layout.specs.Denotes.{Den}
 use Rattle.layout.specs.Room.{Room}
 use Rattle.layout.specs.declared.Span.{Span}
 use Rattle.layout.specs.declared.State.{State}
 use Rattle.layout.proofs.Denotes.{den-frame}
-use Rattle.judging.specs.Asking.{Asks, as-sub, subAsk, Small}
+use Rattle.judging.specs.Asking.{mode, Asks, as-sub, subAsk, Small}
 use Rattle.judging.specs.declared.Mode.{Mode}
-use Rattle.steps.specs.Opening.{ForallPre, OpensRight, OpensLeft}
-use Rattle.steps.specs.declared.Body.{Body}
+use Rattle.steps.specs.Opening.{ForallPre, OpensOn}
+use Rattle.steps.specs.Sides.{side, openedTy, openedCtx, binder}
 use Rattle.steps.specs.declared.Instance.{Instance}
-use Rattle.steps.specs.declared.Instance.the-variants.{Of}
+use Rattle.steps.specs.declared.Side as program
 use Rattle.steps.proofs.Going.{forall-pre, ref-small}
 use Rattle.steps.proofs.Under.{Under}
-use Rattle.subtyping.specs.Arms.{Comes, Fits, fits-all-r, fits-all-l, ArmPre}
+use Rattle.subtyping.specs.Arms.{oneOf, subAll, Comes, Fits, fits-all, ArmPre}
 use Rattle.subtyping.specs.declared.Arm.the-variants as arm
-use Rattle.subtyping.proofs.Rules.{sub-small, askd, fits, comes}
+use Rattle.subtyping.proofs.Rules.{one-den, one-small, sub-small, askd, fits, comes}
 
--- ## On the right
-
-record Right (A B : Ty) : Type 0 where
-  b : TyVar
+record Opened (sd : Side) (A B : Ty) : Type 0 where
+  x : TyVar
   T : Ty
-  is : B ≡ forall b T
-  comes-to : Comes A B (λ judge Γ. subAllR judge Γ A (b, T))
+  is : oneOf sd A B ≡ forall x T
+  comes-to : Comes A B (λ judge Γ. subAll sd judge Γ (oneOf sd B A) (x, T))
 
-right : {A B : Ty} → Fits A B arm.AllR → Right A B
-right (fits-all-r {b = b} {T = T} e c) = record { b = b; T = T; is = e; comes-to = c }
+all-fits : {A B : Ty} {z : program.Side} → Fits A B (arm.All z) → Opened (side z) A B
+all-fits (fits-all {x = x} {T = T} e c) = record { x = x; T = T; is = e; comes-to = c }
 
-module _ {q w : List ℕ} {s : State} {g : Span} {a b : ℕ} (pre : ArmPre q w s g a b arm.AllR) where
-  pub right-open : ForallPre q w s g b
+abbrev pub ruleAll : Side → Rule
+ruleAll onL = Syntax.SubAllL
+ruleAll onR = Syntax.SubAllR
+
+pub all-number : (sd : Side) → oneOf sd 27 26 ≡ ruleNumber (ruleAll sd)
+unfolding ruleNumber
+all-number onL = refl
+all-number onR = refl
+
+-- the two rules in one form: the opened type takes the Forall's place
+all-is : (judge : Judge) (Γ : Ctx) (A B : Ty) (x : TyVar) (T : Ty) (l n : ℕ) (sd : Side) → subAll sd judge Γ (oneOf sd B A) (x, T) l n
+    ≡ andThen (openedTy sd x T l n)
+    (λ T′ l n. andThen (judge (subtype (openedCtx sd Γ x) (oneOf sd T′ A) (oneOf sd B T′)) l n)
+    (λ u. give (ruleAll sd, int, rightOf (binder sd x) (u .1), u .2 & leaf)))
+unfolding subAllR subAllL _>>=_ andThen
+all-is judge Γ A B x T l n onL = refl
+all-is judge Γ A B x T l n onR = refl
+
+module _ {q w : List ℕ} {s : State} {g : Span} {a b : ℕ} {z : program.Side} (pre : ArmPre q w s g a b (arm.All z)) where
+  inside : {j : Judgement} (k : Asks q w (s .top) g (subAsk a b) j) → Opened (side z) (askd pre k .A) (askd pre k .B)
+  inside k = all-fits (fits pre k)
+
+  whole : {r : ℕ} → r ≡ oneOf (side z) a b → {j : Judgement} (k : Asks q w (s .top) g (subAsk a b) j)
+      → Den q w (s .top) r (forall (inside k .x) (inside k .T))
+  whole e k = rw e (rw (inside k .is) at (one-den (side z) (askd pre k .left) (askd pre k .right)))
+
+  pub all-open : {r : ℕ} → r ≡ oneOf (side z) a b → ForallPre q w s g r
   unfolding tyCode
-  right-open = let v = askd pre (pre .pre .asks) in forall-pre (pre .pre .room) (v .run) (rw (right (fits pre (pre .pre .asks)) .is) at (v .right)) refl
+  all-open e = let k = pre .pre .asks in forall-pre (pre .pre .room) (askd pre k .run) (whole e k) refl
 
-  pub right-small : {w₁ : List ℕ} {s₁ : State} {k r : ℕ} → Room q w₁ s₁ k → (T : Ty) → Den q w₁ (s₁ .top) r T → Small (subAsk a r)
-  right-small room T d = sub-small (ref-small (pre .pre .room) (askd pre (pre .pre .asks) .left)) (ref-small room d)
+  pub all-small : {w₁ : List ℕ} {s₁ : State} {k t : ℕ} → Room q w₁ s₁ k → (T : Ty) → Den q w₁ (s₁ .top) t T
+      → Small (subAsk (oneOf (side z) t a) (oneOf (side z) b t))
+  all-small room T d =
+      let v = askd pre (pre .pre .asks) in
+      sub-small (one-small (side z) (ref-small room d) (ref-small (pre .pre .room) (v .left)))
+      (one-small (side z) (ref-small (pre .pre .room) (v .right)) (ref-small room d))
 
-  pub under-right : {w₁ : List ℕ} {o : Body} → OpensRight q w w₁ s g b o → (m : Mode) (j : Judgement) → Asks q w (s .top) g (subAsk a b) j
-      → Under m q w w₁ s g (λ p. subAsk a (p .ty)) kTVar Syntax.SubAllR (Of o) j
-  unfolding andThen subAllR _>>=_
-  under-right in₁ m j k =
+  pub under-on : {w₁ : List ℕ} {r : ℕ} {x : Instance} → r ≡ oneOf (side z) a b → OpensOn q w w₁ s g r (side z) x → (m : Mode) (j : Judgement)
+      → Asks q w (s .top) g (subAsk a b) j
+      → Under m q w w₁ s g (λ p. subAsk (oneOf (side z) (p .ty) a) (oneOf (side z) b (p .ty))) (binder (side z)) (ruleAll (side z)) x j
+  under-on e in₁ m j k =
       let v = askd pre k in
-      let f = right (fits pre k) in
+      let f = inside k in
       record {
-        b = f .b;
+        b = f .x;
         Δ = _;
         O = _;
-        opens = in₁ .opens (v .Γ) (f .b) (f .T) (v .run) (rw (f .is) at (v .right));
+        opens = in₁ .opens (v .Γ) (f .x) (f .T) (v .run) (whole e k);
         i = _;
-        asks = λ p T bt op. as-sub refl refl (op .run) (den-frame (bt .keep) (bt .up) (v .left)) (op .den);
-        says = comes pre m k (f .comes-to);
-      }
-
--- ## On the left
-
-record Left (A B : Ty) : Type 0 where
-  a : TyVar
-  T : Ty
-  is : A ≡ forall a T
-  comes-to : Comes A B (λ judge Γ. subAllL judge Γ B (a, T))
-
-left : {A B : Ty} → Fits A B arm.AllL → Left A B
-left (fits-all-l {a = a} {T = T} e c) = record { a = a; T = T; is = e; comes-to = c }
-
-module _ {q w : List ℕ} {s : State} {g : Span} {a b : ℕ} (pre : ArmPre q w s g a b arm.AllL) where
-  pub left-open : ForallPre q w s g a
-  unfolding tyCode
-  left-open = let v = askd pre (pre .pre .asks) in forall-pre (pre .pre .room) (v .run) (rw (left (fits pre (pre .pre .asks)) .is) at (v .left)) refl
-
-  pub left-small : {w₁ : List ℕ} {s₁ : State} {k r : ℕ} → Room q w₁ s₁ k → (T : Ty) → Den q w₁ (s₁ .top) r T → Small (subAsk r b)
-  left-small room T d = sub-small (ref-small room d) (ref-small (pre .pre .room) (askd pre (pre .pre .asks) .right))
-
-  pub under-left : {w₁ : List ℕ} {x : Instance} → OpensLeft q w w₁ s g a x → (m : Mode) (j : Judgement) → Asks q w (s .top) g (subAsk a b) j
-      → Under m q w w₁ s g (λ p. subAsk (p .ty) b) kMark Syntax.SubAllL x j
-  unfolding subAllL _>>=_
-  under-left in₁ m j k =
-      let v = askd pre k in
-      let f = left (fits pre k) in
-      record {
-        b = f .a;
-        Δ = _;
-        O = _;
-        opens = in₁ .opens (v .Γ) (f .a) (f .T) (v .run) (rw (f .is) at (v .left));
-        i = _;
-        asks = λ p T bt op. as-sub refl refl (op .run) (op .den) (den-frame (bt .keep) (bt .up) (v .right));
-        says = comes pre m k (f .comes-to);
+        asks = λ p T bt op.
+            as-sub refl refl (op .run) (one-den (side z) (op .den) (den-frame (bt .keep) (bt .up) (v .left)))
+            (one-den (side z) (den-frame (bt .keep) (bt .up) (v .right)) (op .den));
+        says = comes pre m k (f .comes-to) ∙ all-is (judge (mode m)) (v .Γ) (v .A) (v .B) (f .x) (f .T) (s .left) (s .fresh) (side z);
       }

@@ -3,7 +3,6 @@ use mathlib.Core.Path.{_≡_, refl, _∙_, ap}
 use mathlib.Core.List.{List}
 use Prim.Native.Nat.{ℕ, _<_}
 use native.Mathlib.Omega.{arith}
-use Rattle.definition.specs.Syntax
 use Rattle.definition.specs.Syntax.{TyVar, Ty, int, etvar, Ctx, Side, onL, onR, Judgement, inst, Rule, ruleNumber, leaf, _&_, children, subtypingError}
 use Rattle.definition.specs.Run.{M, andThen, give, refuse, _>>=_}
 use Rattle.definition.specs.Rules.{Fired, Judge, closes, subInst, rule, judge}
@@ -24,8 +23,10 @@ use Rattle.judging.proofs.Chain.{room-ready, begin, refuses, room-within}
 use Rattle.judging.proofs.Steps.{NotDone}
 use Rattle.steps.specs.Ending.{Through}
 use Rattle.steps.specs.Modes.{JudgedBoth, FiresBoth}
-use Rattle.steps.proofs.Going.{ref-small, room-less, either, inst-pre, else-fires, ends, through-ends}
-use Rattle.subtyping.specs.Arms.{BothHeld, Comes, Fits, fits-refl, fits-inst-l, fits-inst-r, fits-none, Chosen, ArmPre}
+use Rattle.steps.specs.Sides.{side}
+use Rattle.steps.specs.declared.Side as program
+use Rattle.steps.proofs.Going.{ref-small, room-less, inst-pre, else-fires, ends, through-ends}
+use Rattle.subtyping.specs.Arms.{oneOf, ruleInst, BothHeld, Comes, Fits, fits-refl, fits-inst, fits-none, Chosen, ArmPre}
 use Rattle.subtyping.specs.declared.Arm.{Arm}
 use Rattle.subtyping.specs.declared.Arm.the-variants as arm
 
@@ -47,6 +48,16 @@ sub-pre {g = g} room run d e = record {
   j = _;
   asks = as-sub refl refl run d e;
 }
+
+-- ## By the side
+
+pub one-den : {q w : List ℕ} {t a b : ℕ} {A B : Ty} (sd : Side) → Den q w t a A → Den q w t b B → Den q w t (oneOf sd a b) (oneOf sd A B)
+one-den onL d e = d
+one-den onR d e = e
+
+pub one-small : {a b n : ℕ} (sd : Side) → a < n → b < n → oneOf sd a b < n
+one-small onL h k = h
+one-small onR h k = k
 
 -- ## What the rule comes to
 
@@ -107,67 +118,54 @@ none-fires {q} {w} {s} {g} {a} {b} pre = record {
 
 -- ## SubInstL and SubInstR: one instantiation, of the unknown u by the type t
 
--- what the rule R for j comes to
-pub record InstWay (m : Mode) (q w : List ℕ) (s : State) (g : Span) (sd : Side) (R : Rule) (u t : ℕ) (j : Judgement) : Type 0 where
-  pub Γ : Ctx
-  pub x : TyVar
-  pub T : Ty
-  pub run : Run q w (s .top) (g .at) (g .n) Γ
-  pub unknown : Den q w (s .top) u (etvar x)
-  pub den : Den q w (s .top) t T
-  pub says : rule (mode m) (judge (mode m)) j (s .left) (s .fresh)
-      ≡ andThen (judge (mode m) (inst sd Γ x T) (s .left) (s .fresh)) (λ v. give (R, int, v .1, v .2 & leaf))
-
-record Unknown (A B : Ty) (R : Rule) (sd : Side) (U : Ty) (T : Ty) : Type 0 where
+record Unknown (sd : Side) (A B : Ty) : Type 0 where
   x : TyVar
-  is : U ≡ etvar x
-  comes-to : Comes A B (λ judge Γ. subInst judge R sd Γ T x)
+  is : oneOf sd A B ≡ etvar x
+  comes-to : Comes A B (λ judge Γ. subInst judge (ruleInst sd) sd Γ (oneOf sd B A) x)
 
-left-unknown : {A B : Ty} → Fits A B arm.InstL → Unknown A B Syntax.SubInstL onL A B
-left-unknown (fits-inst-l {x = x} e c) = record { x = x; is = e; comes-to = c }
+unknown-fits : {A B : Ty} {z : program.Side} → Fits A B (arm.Inst z) → Unknown (side z) A B
+unknown-fits (fits-inst {x = x} e c) = record { x = x; is = e; comes-to = c }
 
-right-unknown : {A B : Ty} → Fits A B arm.InstR → Unknown A B Syntax.SubInstR onR B A
-right-unknown (fits-inst-r {y = y} e c) = record { x = y; is = e; comes-to = c }
+inst-number : (sd : Side) → oneOf sd 28 29 ≡ ruleNumber (ruleInst sd)
+unfolding ruleNumber
+inst-number onL = refl
+inst-number onR = refl
 
-inst-way : {q w : List ℕ} {s : State} {g : Span} {a b : ℕ} {z : Arm} (pre : ArmPre q w s g a b z) (sd : Side) (R : Rule) {u t : ℕ} {U T : Ty} (m : Mode)
-    {j : Judgement} (k : Asks q w (s .top) g (subAsk a b) j) → Unknown (askd pre k .A) (askd pre k .B) R sd U T → Den q w (s .top) u U → Den q w (s .top) t T
-    → InstWay m q w s g sd R u t j
-unfolding subInst _>>=_
-inst-way pre sd R m k f d e = record {
-  Γ = askd pre k .Γ;
-  x = f .x;
-  T = _;
-  run = askd pre k .run;
-  unknown = rw (f .is) at d;
-  den = e;
-  says = comes pre m k (f .comes-to);
-}
+module _ {q w : List ℕ} {s : State} {g : Span} {a b : ℕ} {z : program.Side} (pre : ArmPre q w s g a b (arm.Inst z)) where
+  unknown : {j : Judgement} (k : Asks q w (s .top) g (subAsk a b) j) → Unknown (side z) (askd pre k .A) (askd pre k .B)
+  unknown k = unknown-fits (fits pre k)
 
-pub way-l : {q w : List ℕ} {s : State} {g : Span} {a b : ℕ} → ArmPre q w s g a b arm.InstL → (m : Mode) (j : Judgement)
-    → Asks q w (s .top) g (subAsk a b) j → InstWay m q w s g onL Syntax.SubInstL a b j
-way-l pre m j k = inst-way pre onL Syntax.SubInstL m k (left-unknown (fits pre k)) (askd pre k .left) (askd pre k .right)
+  -- what is asked
+  abbrev way : {j : Judgement} → Asks q w (s .top) g (subAsk a b) j → Judgement
+  way k = inst (side z) (askd pre k .Γ) (unknown k .x) (oneOf (side z) (askd pre k .B) (askd pre k .A))
 
-pub way-r : {q w : List ℕ} {s : State} {g : Span} {a b : ℕ} → ArmPre q w s g a b arm.InstR → (m : Mode) (j : Judgement)
-    → Asks q w (s .top) g (subAsk a b) j → InstWay m q w s g onR Syntax.SubInstR b a j
-way-r pre m j k = inst-way pre onR Syntax.SubInstR m k (right-unknown (fits pre k)) (askd pre k .right) (askd pre k .left)
+  says : (m : Mode) {j : Judgement} (k : Asks q w (s .top) g (subAsk a b) j) → rule (mode m) (judge (mode m)) j (s .left) (s .fresh)
+      ≡ andThen (judge (mode m) (way k) (s .left) (s .fresh)) (λ v. give (ruleInst (side z), int, v .1, v .2 & leaf))
+  unfolding subInst _>>=_
+  says m k = comes pre m k (unknown k .comes-to)
 
-module _ {q w : List ℕ} {s : State} {g : Span} {sd : Side} {R : Rule} {u t a b : ℕ} (pre : RulePre q w s g (subAsk a b))
-    (way : (m : Mode) (j : Judgement) → Asks q w (s .top) g (subAsk a b) j → InstWay m q w s g sd R u t j) where
-  pub inst-first : JudgePre q w s g (instAsk sd u t)
-  inst-first = let v = way either (pre .j) (pre .asks) in inst-pre sd (pre .room) (v .run) (v .unknown) (v .den)
+  module _ {u t : ℕ} (eu : u ≡ oneOf (side z) a b) (et : t ≡ oneOf (side z) b a) where
+    unknown-den : {j : Judgement} (k : Asks q w (s .top) g (subAsk a b) j) → Den q w (s .top) u (etvar (unknown k .x))
+    unknown-den k = rw eu (rw (unknown k .is) at (one-den (side z) (askd pre k .left) (askd pre k .right)))
 
-  module _ {w₁ : List ℕ} {z : Step} (call : JudgedBoth q w w₁ s g (instAsk sd u t) z) where
-    asks₁ : (m : Mode) {j : Judgement} (k : Asks q w (s .top) g (subAsk a b) j)
-        → Asks q w (s .top) g (instAsk sd u t) (inst sd (way m j k .Γ) (way m j k .x) (way m j k .T))
-    asks₁ m k = let v = way m _ k in asks-inst sd (v .run) (v .unknown) (v .den)
+    type-den : {j : Judgement} (k : Asks q w (s .top) g (subAsk a b) j) → Den q w (s .top) t (oneOf (side z) (askd pre k .B) (askd pre k .A))
+    type-den k = rw et (one-den (side z) (askd pre k .right) (askd pre k .left))
 
-    pub inst-else : NotDone z → FiresBoth q w w₁ s g (subAsk a b) z
-    inst-else nd = else-fires (λ m j k. record { ts = leaf; so = begin; i = _; asks = asks₁ m k; next = _; says = way m j k .says }) call nd
+    pub inst-first : JudgePre q w s g (instAsk (side z) u t)
+    inst-first = let k = pre .pre .asks in inst-pre (side z) (pre .pre .room) (askd pre k .run) (unknown-den k) (type-den k)
 
-    pub inst-done : {r : Answer} {n : ℕ} {y : Step} → z ≡ Done r → n ≡ ruleNumber R → Through r n 1 y → FiresBoth q w w₁ s g (subAsk a b) y
-    unfolding children
-    inst-done d en th = record {
-      in-mode = λ m. record {
-        run = λ j k. through-ends begin (call .in-mode m) (asks₁ m k) d R en (λ v. refl) (omega arith) th _ (way m j k .says);
-      };
-    }
+    module _ {w₁ : List ℕ} {y : Step} (call : JudgedBoth q w w₁ s g (instAsk (side z) u t) y) where
+      asks₁ : {j : Judgement} (k : Asks q w (s .top) g (subAsk a b) j) → Asks q w (s .top) g (instAsk (side z) u t) (way k)
+      asks₁ k = asks-inst (side z) (askd pre k .run) (unknown-den k) (type-den k)
+
+      pub inst-else : NotDone y → FiresBoth q w w₁ s g (subAsk a b) y
+      inst-else nd = else-fires (λ m j k. record { ts = leaf; so = begin; i = _; asks = asks₁ k; next = _; says = says m k }) call nd
+
+      pub inst-done : {r : Answer} {n : ℕ} {o : Step} → y ≡ Done r → n ≡ oneOf (side z) 28 29 → Through r n 1 o → FiresBoth q w w₁ s g (subAsk a b) o
+      unfolding children
+      inst-done d en th = record {
+        in-mode = λ m. record {
+          run = λ j k.
+              through-ends begin (call .in-mode m) (asks₁ k) d (ruleInst (side z)) (en ∙ inst-number (side z)) (λ v. refl) (omega arith) th _ (says m k);
+        };
+      }

@@ -5,7 +5,7 @@ use mathlib.Core.List.{List}
 use mathlib.Core.Option.{none, some}
 use Prim.Native.Nat.{ℕ, _≤_}
 use Rattle.definition.specs.Syntax
-use Rattle.definition.specs.Syntax.{TyVar, Ty, etvar, arrow, forall, Ctx, onL, onR, Rule, ruleNumber, subtypingError}
+use Rattle.definition.specs.Syntax.{TyVar, Ty, etvar, arrow, forall, Ctx, Side, onL, onR, Rule, ruleNumber, subtypingError}
 use Rattle.definition.specs.Run.{M, refuse}
 use Rattle.definition.specs.Rules.{Fired, Judge, closes, asVar, asETVar, notIn, sameBase, same, subArr, subAllR, subAllL, subInst, subtypeRule}
 use Rattle.layout.specs.Denotes.{Den}
@@ -13,8 +13,28 @@ use Rattle.layout.specs.declared.Span.{Span}
 use Rattle.layout.specs.declared.State.{State}
 use Rattle.types.specs.Reading.{Held}
 use Rattle.judging.specs.Asking.{subAsk, RulePre}
+use Rattle.steps.specs.Sides.{side}
+use Rattle.steps.specs.declared.Side as program
 use Rattle.subtyping.specs.declared.Arm.{Arm}
 use Rattle.subtyping.specs.declared.Arm.the-variants as arm
+
+-- ## By the side
+
+-- the one of the two that stands on it
+abbrev pub oneOf : {X : Type 0} → Side → X → X → X
+oneOf onL x y = x
+oneOf onR x y = y
+
+-- SubAllL or SubAllR, SubInstL or SubInstR
+abbrev pub subAll : Side → Judge → Ctx → Ty → TyVar × Ty → M Fired
+subAll onL = subAllL
+subAll onR = subAllR
+
+abbrev pub ruleInst : Side → Rule
+ruleInst onL = Syntax.SubInstL
+ruleInst onR = Syntax.SubInstR
+
+-- ## The arms
 
 -- both denote a type
 pub record BothHeld (q w : List ℕ) (t a b : ℕ) : Type 0 where
@@ -53,10 +73,10 @@ pub record Absent (q w : List ℕ) (t a b : ℕ) (r : Bool) : Type 0 where
 pub data Fits (A B : Ty) : Arm → Type 0 where
   fits-refl : {n : ℕ} (R : Rule) → n ≡ ruleNumber R → Comes A B (λ judge Γ. closes R Γ) → Fits A B (arm.Refl n)
   fits-arr : {A₁ A₂ B₁ B₂ : Ty} → A ≡ arrow A₁ A₂ → B ≡ arrow B₁ B₂ → Comes A B (λ judge Γ. subArr judge Γ (A₁, A₂) (B₁, B₂)) → Fits A B arm.Arr
-  fits-all-r : {b : TyVar} {T : Ty} → B ≡ forall b T → Comes A B (λ judge Γ. subAllR judge Γ A (b, T)) → Fits A B arm.AllR
-  fits-all-l : {a : TyVar} {T : Ty} → A ≡ forall a T → Comes A B (λ judge Γ. subAllL judge Γ B (a, T)) → Fits A B arm.AllL
-  fits-inst-l : {x : TyVar} → A ≡ etvar x → Comes A B (λ judge Γ. subInst judge Syntax.SubInstL onL Γ B x) → Fits A B arm.InstL
-  fits-inst-r : {y : TyVar} → B ≡ etvar y → Comes A B (λ judge Γ. subInst judge Syntax.SubInstR onR Γ A y) → Fits A B arm.InstR
+  fits-all : {s : program.Side} {x : TyVar} {T : Ty} → oneOf (side s) A B ≡ forall x T
+      → Comes A B (λ judge Γ. subAll (side s) judge Γ (oneOf (side s) B A) (x, T)) → Fits A B (arm.All s)
+  fits-inst : {s : program.Side} {x : TyVar} → oneOf (side s) A B ≡ etvar x
+      → Comes A B (λ judge Γ. subInst judge (ruleInst (side s)) (side s) Γ (oneOf (side s) B A) x) → Fits A B (arm.Inst s)
   fits-none : Comes A B (λ judge Γ. refuse (subtypingError A B)) → Fits A B arm.Neither
 
 pub record Chosen (q w : List ℕ) (t a b : ℕ) (z : Arm) : Type 0 where

@@ -4,26 +4,36 @@ use judging::Ask;
 use judging::Bad;
 use judging::Entered;
 use judging::Step;
-use layout::Key;
 use layout::Span;
 use layout::State;
 use rules::Mid;
 use steps::Instance;
+use steps::Side;
+ghost use mathlib.Core.Path.{_≡_};
 ghost use Rattle.judging.specs.Asking.{subAsk, JudgePre, RulePre};
 ghost use Rattle.steps.specs.Modes.{JudgedBoth, FiresBoth};
-ghost use Rattle.subtyping.specs.Arms.{BothHeld, Alike, Absent, Chosen, ArmPre};
+ghost use Rattle.steps.specs.Sides.{side};
+ghost use Rattle.subtyping.specs.Arms.{oneOf, BothHeld, Alike, Absent, Chosen, ArmPre};
 ghost use Rattle.subtyping.specs.declared.Arm.the-variants as arm;
 
-// 000's arms: the same Int, Bool, Var or ETVar (with the rule's number), Arrows, a Forall on the right, on the left, an unknown that does
-// not occur on the other side, on the left, on the right.
+// 000's arms: the same Int, Bool, Var or ETVar (with the rule's number), Arrows, a Forall on a side, an unknown on a side that does not
+// occur on the other.
 pub enum Arm {
     Refl(usize),
     Arr,
-    AllR,
-    AllL,
-    InstL,
-    InstR,
+    All(Side),
+    Inst(Side),
     Neither,
+}
+
+// The one of the two that stands on side s.
+fn one(s: Side, left: usize, right: usize) -> usize
+    ensures { λ n. ⌜ n ≡ oneOf (side s) left right ⌝ }
+{
+    match s {
+        Side::L => left,
+        Side::R => right,
+    }
 }
 
 // SubRefl (22), SubReflTVar (23), SubReflETVar (24): the rule by which two types without parts are the same, or 0.
@@ -80,44 +90,35 @@ fn choose(q: &[u32], work: &[u32], top: usize, a: usize, b: usize) -> Arm
         return Arm::Arr;
     }
     if m == 6 {
-        return Arm::AllR;
+        return Arm::All(Side::R);
     }
     if k == 6 {
-        return Arm::AllL;
+        return Arm::All(Side::L);
     }
     let left = absent(q, work, top, a, b);
     if left {
-        return Arm::InstL;
+        return Arm::Inst(Side::L);
     }
     let right = absent(q, work, top, b, a);
     if right {
-        return Arm::InstR;
+        return Arm::Inst(Side::R);
     }
     Arm::Neither
 }
 
-// SubInstL: a is an unknown.
-fn sub_inst_l(q: &[u32], work: &mut [u32], st: State, g: Span, a: usize, b: usize) -> Step
-    requires { ⌜ ArmPre (now q) (now work) st g a b arm.InstL ⌝ }
+// SubInstL (28), SubInstR (29): inst_l or inst_r of the unknown, which stands on side s.
+fn sub_inst(q: &[u32], work: &mut [u32], st: State, g: Span, s: Side, a: usize, b: usize) -> Step
+    requires { ⌜ ArmPre (now q) (now work) st g a b (arm.Inst s) ⌝ }
     ensures { λ z. ⌜ FiresBoth (now (q .entry)) (now (work .entry)) (now (work .exit)) st g (subAsk a b) z ⌝ }
 {
-    let z = instantiation::inst_l(q, work, st, g, a, b);
+    let rule = one(s, 28, 29);
+    let unknown = one(s, a, b);
+    let ty = one(s, b, a);
+    let z = instantiation::inst(q, work, st, g, s, unknown, ty);
     let Step::Done(r) = z else {
         return z;
     };
-    steps::through(r, 28, 1)
-}
-
-// SubInstR: b is an unknown.
-fn sub_inst_r(q: &[u32], work: &mut [u32], st: State, g: Span, a: usize, b: usize) -> Step
-    requires { ⌜ ArmPre (now q) (now work) st g a b arm.InstR ⌝ }
-    ensures { λ z. ⌜ FiresBoth (now (q .entry)) (now (work .entry)) (now (work .exit)) st g (subAsk a b) z ⌝ }
-{
-    let z = instantiation::inst_r(q, work, st, g, a, b);
-    let Step::Done(r) = z else {
-        return z;
-    };
-    steps::through(r, 29, 1)
+    steps::through(r, rule, 1)
 }
 
 // The type a is a subtype of b.
@@ -157,10 +158,8 @@ fn sub_rule(q: &[u32], work: &mut [u32], st: State, g: Span, a: usize, b: usize)
             kids: 0,
         }),
         Arm::Arr => sub_arr(q, work, st, g, a, b),
-        Arm::AllR => sub_all_r(q, work, st, g, a, b),
-        Arm::AllL => sub_all_l(q, work, st, g, a, b),
-        Arm::InstL => sub_inst_l(q, work, st, g, a, b),
-        Arm::InstR => sub_inst_r(q, work, st, g, a, b),
+        Arm::All(s) => sub_all(q, work, st, g, s, a, b),
+        Arm::Inst(s) => sub_inst(q, work, st, g, s, a, b),
         Arm::Neither => Step::Fail(Bad {
             st: st,
             code: 15,
@@ -200,38 +199,26 @@ fn sub_arr(q: &[u32], work: &mut [u32], st: State, g: Span, a: usize, b: usize) 
     }
 }
 
-// SubAllR: a against the body of b, under its name; of the output what stands right of it.
-fn sub_all_r(q: &[u32], work: &mut [u32], st: State, g: Span, a: usize, b: usize) -> Step
-    requires { ⌜ ArmPre (now q) (now work) st g a b arm.AllR ⌝ }
+// SubAllR (26), SubAllL (27): the Forall on side s opened, against the other type; of the output what stands right of what opening pushed.
+fn sub_all(q: &[u32], work: &mut [u32], st: State, g: Span, s: Side, a: usize, b: usize) -> Step
+    requires { ⌜ ArmPre (now q) (now work) st g a b (arm.All s) ⌝ }
     ensures { λ z. ⌜ FiresBoth (now (q .entry)) (now (work .entry)) (now (work .exit)) st g (subAsk a b) z ⌝ }
 {
-    let o = steps::open_right(q, work, st, g, b);
-    let st1 = o.st;
-    let g1 = o.g;
-    let x = o.b;
-    let body = o.ty;
-    let z = subtype(q, work, st1, g1, a, body);
-    let Step::Done(r) = z else {
-        return z;
-    };
-    steps::right_alone(work, r, Key::TVar(x), 26)
-}
-
-// SubAllL: an instance of a against b; of the output what stands right of the mark.
-fn sub_all_l(q: &[u32], work: &mut [u32], st: State, g: Span, a: usize, b: usize) -> Step
-    requires { ⌜ ArmPre (now q) (now work) st g a b arm.AllL ⌝ }
-    ensures { λ z. ⌜ FiresBoth (now (q .entry)) (now (work .entry)) (now (work .exit)) st g (subAsk a b) z ⌝ }
-{
-    let Instance::Of(o) = steps::open_left(q, work, st, g, a) else {
+    let rule = one(s, 27, 26);
+    let ty = one(s, a, b);
+    let Instance::Of(o) = steps::open_on(q, work, st, g, s, ty) else {
         return Step::Spent;
     };
     let st1 = o.st;
     let g1 = o.g;
     let x = o.b;
     let body = o.ty;
-    let z = subtype(q, work, st1, g1, body, b);
+    let left = one(s, body, a);
+    let right = one(s, b, body);
+    let z = subtype(q, work, st1, g1, left, right);
     let Step::Done(r) = z else {
         return z;
     };
-    steps::right_alone(work, r, Key::Mark(x), 27)
+    let k = steps::pushed(s, x);
+    steps::right_alone(work, r, k, rule)
 }

@@ -54,6 +54,7 @@ pub +inst+inst-all+inst-arr+inst-l+inst-r+inst-rule+on-side-spec : {M : Type 1} 
     inst-all.Post
     (inst-all-first-requires t)
     (inst-all-add-rule t)
+    (inst-all-other-requires t)
     (inst-all-open-on-requires t)
     (inst-all-enum-known-o t)
     (inst-all-enum-told t)

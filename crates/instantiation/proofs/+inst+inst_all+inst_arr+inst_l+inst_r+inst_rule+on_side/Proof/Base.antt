@@ -26,13 +26,13 @@ use Rattle.instantiation.proofs.+inst+inst_all+inst_arr+inst_l+inst_r+i
 use Rattle.instantiation.proofs.asked.Reads as asked-reads
 use Rattle.instantiation.proofs.first.Reads as first-reads
 use Rattle.instantiation.proofs.meet.Reads as meet-reads
-use Rattle.instantiation.proofs.open_on.Reads as open-on-reads
 use Rattle.instantiation.proofs.other.Reads as other-reads
-use Rattle.instantiation.proofs.pushed.Reads as pushed-reads
 use Rattle.instantiation.proofs.solve.Reads as solve-reads
 use Rattle.judging.proofs.enter.Reads as enter-reads
 use Rattle.judging.proofs.leave.Reads as leave-reads
+use Rattle.steps.proofs.open_on.Reads as open-on-reads
 use Rattle.steps.proofs.part.Reads as part-reads
+use Rattle.steps.proofs.pushed.Reads as pushed-reads
 use Rattle.steps.proofs.right_alone.Reads as right-alone-reads
 use Rattle.steps.proofs.through.Reads as through-reads
 use Rattle.substitution.proofs.apply_ctx_type.Reads as apply-ctx-type-reads
@@ -123,6 +123,8 @@ abbrev pub inst-all-claims : ℕ → inst-all-lts.Claims
 inst-all-claims t = (
   first-reads.Asked,
   first-reads.Learnt,
+  other-reads.Asked,
+  other-reads.Learnt,
   open-on-reads.Asked,
   open-on-reads.Learnt,
   on-side-below t,

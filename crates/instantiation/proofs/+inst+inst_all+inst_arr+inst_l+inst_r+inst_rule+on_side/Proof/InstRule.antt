@@ -1,6 +1,6 @@
 -- What `inst_rule` needs.
 use native.Mathlib.Omega.{arith}
-use Rattle.instantiation.specs.Sides.{side}
+use Rattle.steps.specs.Sides.{side}
 use Rattle.instantiation.proofs.Solving.{side-held}
 use Rattle.instantiation.proofs.Choosing.{choose-form, choose-solve}
 use Prim.Native.Nat.{ℕ}

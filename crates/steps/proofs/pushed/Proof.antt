@@ -1,7 +1,7 @@
 -- `pushed` meets its contract.
 use borrow.Author.Needs.{needs}
-use Rattle.instantiation.proofs.pushed.Statement.{statement}
-use Rattle.instantiation.proofs.pushed.Tie as tie
+use Rattle.steps.proofs.pushed.Statement.{statement}
+use Rattle.steps.proofs.pushed.Tie as tie
 
 enum-told : tie.Need-enum-told
 enum-told c = search needs

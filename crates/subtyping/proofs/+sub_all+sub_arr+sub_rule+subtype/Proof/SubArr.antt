@@ -6,8 +6,8 @@ use Rattle.definition.specs.Syntax.{ruleNumber}
 use Rattle.subtyping.proofs.Arrow.{arr-left, arr-right, arr-first, arr-else₁, arr-two, arr-end, arr-second, arr-falls, arr-else₂, arr-done}
 use Prim.Native.Nat.{ℕ}
 use Rattle.subtyping.proofs.sub_arr.Reads as sub-arr
-use Rattle.subtyping.proofs.+sub_all_l+sub_all_r+sub_arr+sub_rule+subtype.Lts-sub_arr as sub-arr-lts
-use Rattle.subtyping.proofs.+sub_all_l+sub_all_r+sub_arr+sub_rule+subtype.Proof.Base.{sub-arr-at, sub-arr-claims}
+use Rattle.subtyping.proofs.+sub_all+sub_arr+sub_rule+subtype.Lts-sub_arr as sub-arr-lts
+use Rattle.subtyping.proofs.+sub_all+sub_arr+sub_rule+subtype.Proof.Base.{sub-arr-at, sub-arr-claims}
 
 pub sub-arr-left-of-requires : (t : ℕ) → sub-arr-lts.Need-left-of-requires (sub-arr-claims t) (sub-arr-at t) sub-arr.Post
 sub-arr-left-of-requires t c κs = arr-left (c .before .before .before .pre .1)

@@ -7,8 +7,8 @@ use Rattle.judging.proofs.Whole.{whole-rule, whole-less}
 use Rattle.steps.proofs.Whole.{whole-spent, whole-else, whole-leave, whole-done}
 use Prim.Native.Nat.{ℕ}
 use Rattle.subtyping.proofs.subtype.Reads as subtype
-use Rattle.subtyping.proofs.+sub_all_l+sub_all_r+sub_arr+sub_rule+subtype.Lts-subtype as subtype-lts
-use Rattle.subtyping.proofs.+sub_all_l+sub_all_r+sub_arr+sub_rule+subtype.Proof.Base.{subtype-at, subtype-claims}
+use Rattle.subtyping.proofs.+sub_all+sub_arr+sub_rule+subtype.Lts-subtype as subtype-lts
+use Rattle.subtyping.proofs.+sub_all+sub_arr+sub_rule+subtype.Proof.Base.{subtype-at, subtype-claims}
 
 pub subtype-enter-requires : (t : ℕ) → subtype-lts.Need-enter-requires (subtype-claims t) (subtype-at t) subtype.Post
 subtype-enter-requires t c κs = may-enter (c .before .before .pre .1)
