@@ -36,14 +36,17 @@ fn refusal(code: u32, at: u32) -> Reply
     }
 }
 
+// Work is zeroed in blocks of so many words.
+const BLOCK: usize = 256;
+
 // All bits of a block's words in one: 0 where all words are 0, and nowhere else.
 fn any_bits(block: &[u32]) -> u32
-    requires { ⌜ length (now block) ≡ 128 ⌝ }
+    requires { ⌜ length (now block) ≡ 256 ⌝ }
     ensures { λ b. ⌜ ZeroBits (now (block .entry)) b ⌝ }
 {
     let mut bits: u32 = 0;
     let mut i = 0;
-    while i < 128 {
+    while i < BLOCK {
         bits = bits | block[i];
         i += 1;
     }
@@ -64,7 +67,7 @@ fn zero(words: &mut [u32])
 
 // Zeroes a block where it is not zero yet. Most of work is: a call left it so, and to read a word costs less than to write it.
 fn clear_block(block: &mut [u32])
-    requires { ⌜ length (now block) ≡ 128 ⌝ }
+    requires { ⌜ length (now block) ≡ 256 ⌝ }
     ensures { λ _. ⌜ now (block .exit) ≡ replicate (length (now (block .entry))) 0 ⌝ }
 {
     let bits = any_bits(block);
@@ -79,11 +82,11 @@ fn clear(work: &mut [u32], n: usize)
     ensures { λ _. ⌜ now (work .exit) ≡ replicate n 0 ++ drop n (now (work .entry)) ⌝ }
 {
     let mut i = 0;
-    let mut end: usize = 128;
+    let mut end: usize = BLOCK;
     while end <= n {
         clear_block(&mut work[i..end]);
         i = end;
-        end = i + 128;
+        end = i + BLOCK;
     }
     zero(&mut work[i..n]);
 }

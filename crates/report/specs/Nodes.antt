@@ -7,9 +7,12 @@ use lib.Dec.{eqb}
 use lib.ListN.{length, getD}
 use Rattle.definition.specs.Syntax.{Ty, Ctx, Judgement, Rule, ruleNumber, judgementWords, Trees, treesWords}
 use Rattle.judging.specs.Nodes.{NodeAt, NodesAt}
-use Rattle.writing.specs.Spelling.{Spells, Just}
+use Rattle.writing.specs.Spelling.{Spells, Just, Long, Writes}
+use Rattle.writing.specs.After.{Measures, Stands}
 use Rattle.report.specs.declared.Filled.{Filled}
 use Rattle.report.specs.declared.Node.{Node}
+use Rattle.report.specs.declared.Measured.{Measured}
+use Rattle.report.specs.declared.Wrote.{Wrote}
 
 -- which type sections are filled, by the judgement's kind
 abbrev pub fills : ℕ → Filled
@@ -55,6 +58,16 @@ pub record NodeIn (q w : List ℕ) (t m : ℕ) (n : Said) : Type 0 where
 
 abbrev pub OfNode : List ℕ → List ℕ → ℕ → ℕ → List ℕ → Type 0
 OfNode q w t m = Spells (NodeIn q w t m) saidWords
+
+-- the node's length, and that of its output context
+pub record NodeLong (q w : List ℕ) (t m : ℕ) (z : Measured) : Type 0 where
+  pub long : Long (2 ^ 32) (OfNode q w t m) (z .length)
+  pub output : Measures q w t (z .output .g) (z .output)
+
+-- the node was written at p, and its output context stands in it
+pub record WritesNode (q w : List ℕ) (t m : ℕ) (s s′ : List ℕ) (p : ℕ) (z : Wrote) : Type 0 where
+  pub writes : Writes (OfNode q w t m) s s′ p (z .end)
+  pub output : Stands q w t s′ (z .end) (z .output)
 
 pub record NodesIn (q w : List ℕ) (t lo hi : ℕ) (ts : Trees) : Type 0 where
   pub nodes : NodesAt q w t lo hi ts

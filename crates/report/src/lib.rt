@@ -5,9 +5,13 @@ use layout::MOST;
 use layout::Span;
 use layout::put;
 use layout::word;
+use writing::Known;
+use writing::Standing;
 use writing::context_length;
+use writing::length_after;
 use writing::section_length;
 use writing::sum;
+use writing::write_after;
 use writing::write_context;
 use writing::write_section;
 ghost use mathlib.Core.Path.{_≡_};
@@ -15,7 +19,8 @@ ghost use Prim.Native.Nat.{_+_, _≤_, _^_};
 ghost use lib.ListN.{length};
 ghost use Rattle.definition.specs.Reply.{givesType};
 ghost use Rattle.writing.specs.Spelling.{Section, Long, Spelled, Writable, Writes};
-ghost use Rattle.report.specs.Nodes.{fills, NodeRead, WordsFit, Three, OfNode, OfNodes};
+ghost use Rattle.writing.specs.After.{Measures, Stands};
+ghost use Rattle.report.specs.Nodes.{fills, NodeRead, WordsFit, Three, OfNode, OfNodes, NodeLong, WritesNode};
 ghost use Rattle.report.specs.Reports.{OfResult, ResultParts, namesTwo, OfError, ErrorParts, Told, Reports};
 
 // What became of a report: its length; or the slice is too short for it, and the length that is needed (at most MOST).
@@ -105,23 +110,33 @@ fn node_at(work: &[u32], m: usize) -> Node
     }
 }
 
-// How long the node at m is.
-fn node_length(q: &[u32], work: &[u32], top: usize, m: usize) -> usize
-    requires { ⌜ Spelled (now q) (now work) top (OfNode (now q) (now work) top m) ⌝ }
-    ensures { λ n. ⌜ Long (2 ^ 32) (OfNode (now (q .entry)) (now (work .entry)) top m) n ⌝ }
+// How long a node is, and its output context, by which the next node's contexts are known.
+struct Measured {
+    length: usize,
+    output: Known,
+}
+
+// How long the node at m is, after another context.
+fn node_length(q: &[u32], work: &[u32], top: usize, m: usize, last: Known) -> Measured
+    requires { ⌜ (Spelled (now q) (now work) top (OfNode (now q) (now work) top m)) × Measures (now q) (now work) top (last .g) last ⌝ }
+    ensures { λ z. ⌜ NodeLong (now (q .entry)) (now (work .entry)) top m z ⌝ }
 {
     let n = node_at(work, m);
     let f = n.filled;
-    let input = context_length(q, work, top, n.input);
+    let input = length_after(q, work, top, n.input, last);
     let left = section_length(q, work, top, f.left, n.left);
     let right = section_length(q, work, top, f.right, n.right);
-    let output = context_length(q, work, top, n.output);
+    let output = length_after(q, work, top, n.output, input);
     let result = section_length(q, work, top, f.result, n.result);
-    let last = sum(output, result);
-    let types = sum(right, last);
+    let end = sum(output.length, result);
+    let types = sum(right, end);
     let rest = sum(left, types);
-    let sections = sum(input, rest);
-    sum(3, sections)
+    let sections = sum(input.length, rest);
+    let length = sum(3, sections);
+    Measured {
+        length: length,
+        output: output,
+    }
 }
 
 // Writes three words.
@@ -138,37 +153,64 @@ fn write_three(report: &mut [u32], at: usize, a: usize, b: usize, c: usize) -> u
     next
 }
 
-// Writes the node at m: rule, number of children, place, five sections.
-fn write_node(q: &[u32], work: &[u32], top: usize, m: usize, report: &mut [u32], at: usize) -> usize
-    requires { ⌜ Writable (now q) (now work) top (OfNode (now q) (now work) top m) (now report) at ⌝ }
-    ensures { λ z. ⌜ Writes (OfNode (now (q .entry)) (now (work .entry)) top m) (now (report .entry)) (now (report .exit)) at z ⌝ }
+// Where a node ends that was written, and where its output context stands.
+struct Wrote {
+    end: usize,
+    output: Standing,
+}
+
+// Writes the node at m, after another context: rule, number of children, place, five sections.
+fn write_node(
+    q: &[u32],
+    work: &[u32],
+    top: usize,
+    m: usize,
+    report: &mut [u32],
+    at: usize,
+    last: Standing,
+) -> Wrote
+    requires { ⌜ (Writable (now q) (now work) top (OfNode (now q) (now work) top m) (now report) at) × Stands (now q) (now work) top (now report) at last ⌝ }
+    ensures { λ z. ⌜ WritesNode (now (q .entry)) (now (work .entry)) top m (now (report .entry)) (now (report .exit)) at z ⌝ }
 {
     let n = node_at(work, m);
     let f = n.filled;
-    let input = write_three(report, at, n.rule, n.kids, n.place);
-    let left = write_context(q, work, top, n.input, report, input);
-    let right = write_section(q, work, top, f.left, n.left, report, left);
-    let output = write_section(q, work, top, f.right, n.right, report, right);
-    let result = write_context(q, work, top, n.output, report, output);
-    write_section(q, work, top, f.result, n.result, report, result)
+    let first = write_three(report, at, n.rule, n.kids, n.place);
+    let input = write_after(q, work, top, n.input, report, first, last);
+    let right = write_section(q, work, top, f.left, n.left, report, input.end);
+    let next = write_section(q, work, top, f.right, n.right, report, right);
+    let output = write_after(q, work, top, n.output, report, next, input);
+    let end = write_section(q, work, top, f.result, n.result, report, output.end);
+    Wrote {
+        end: end,
+        output: output,
+    }
 }
 
-// How long the tree's section is, whose nodes stand from high down to low.
-fn tree_length(q: &[u32], work: &[u32], top: usize, low: usize, high: usize) -> usize
-    requires { ⌜ Spelled (now q) (now work) top (Section (OfNodes (now q) (now work) top low high)) ⌝ }
+// How long the tree's section is, whose nodes stand from high down to low, after another context.
+fn tree_length(
+    q: &[u32],
+    work: &[u32],
+    top: usize,
+    low: usize,
+    high: usize,
+    context: Known,
+) -> usize
+    requires { ⌜ (Spelled (now q) (now work) top (Section (OfNodes (now q) (now work) top low high))) × Measures (now q) (now work) top (context .g) context ⌝ }
     ensures { λ n. ⌜ Long (2 ^ 32) (Section (OfNodes (now (q .entry)) (now (work .entry)) top low high)) n ⌝ }
 {
     let mut total: usize = 0;
     let mut m = high;
+    let mut last = context;
     while low < m {
         m -= 12;
-        let n = node_length(q, work, top, m);
-        total = sum(total, n);
+        let z = node_length(q, work, top, m, last);
+        total = sum(total, z.length);
+        last = z.output;
     }
     sum(1, total)
 }
 
-// Writes the tree's section: its nodes, parent first, and before them the count of their words.
+// Writes the tree's section after another context: its nodes, parent first, and before them the count of their words.
 fn write_tree(
     q: &[u32],
     work: &[u32],
@@ -177,16 +219,20 @@ fn write_tree(
     high: usize,
     report: &mut [u32],
     at: usize,
+    context: Standing,
 ) -> usize
-    requires { ⌜ Writable (now q) (now work) top (Section (OfNodes (now q) (now work) top low high)) (now report) at ⌝ }
+    requires { ⌜ (Writable (now q) (now work) top (Section (OfNodes (now q) (now work) top low high)) (now report) at) × Stands (now q) (now work) top (now report) at context ⌝ }
     ensures { λ z. ⌜ Writes (Section (OfNodes (now (q .entry)) (now (work .entry)) top low high)) (now (report .entry)) (now (report .exit)) at z ⌝ }
 {
     let first = at + 1;
     let mut next = first;
     let mut m = high;
+    let mut last = context;
     while low < m {
         m -= 12;
-        next = write_node(q, work, top, m, report, next);
+        let z = write_node(q, work, top, m, report, next, last);
+        next = z.end;
+        last = z.output;
     }
     let count = next - first;
     put(report, at, count);
@@ -222,9 +268,14 @@ fn result_length(q: &[u32], work: &[u32], gives: bool, a: Answer, high: usize) -
     ensures { λ n. ⌜ Long (2 ^ 32) (ResultParts (now (q .entry)) (now (work .entry)) gives a high) n ⌝ }
 {
     let st = a.st;
+    let g = a.g;
     let ty = section_length(q, work, st.top, gives, a.ty);
-    let context = context_length(q, work, st.top, a.g);
-    let tree = tree_length(q, work, st.top, st.low, high);
+    let context = context_length(q, work, st.top, g);
+    let known = Known {
+        g: g,
+        length: context,
+    };
+    let tree = tree_length(q, work, st.top, st.low, high, known);
     let rest = sum(context, tree);
     sum(ty, rest)
 }
@@ -242,9 +293,15 @@ fn write_result(
     ensures { λ z. ⌜ Writes (ResultParts (now (q .entry)) (now (work .entry)) gives a high) (now (report .entry)) (now (report .exit)) 0 z ⌝ }
 {
     let st = a.st;
+    let g = a.g;
     let context = write_section(q, work, st.top, gives, a.ty, report, 0);
-    let tree = write_context(q, work, st.top, a.g, report, context);
-    write_tree(q, work, st.top, st.low, high, report, tree)
+    let tree = write_context(q, work, st.top, g, report, context);
+    let standing = Standing {
+        g: g,
+        at: context,
+        end: tree,
+    };
+    write_tree(q, work, st.top, st.low, high, report, tree, standing)
 }
 
 // How long a type error's report is: two types, of which none, the first or both are used.

@@ -1,4 +1,4 @@
--- Copying words of the question: one more at a time, and what follows where they are a type's.
+-- Types that are not walked: Int and Bool, put as their code, and words of the question, copied one more at a time.
 use mathlib.Core.Path.{_≡_, refl, sym, _∙_, ap}
 use mathlib.Core.List.{List, [], _∷_, _++_}
 use Prim.Native.Nat.{ℕ, _+_, _≤_, _<_}
@@ -9,12 +9,22 @@ use lib.Seq.{length-take-le, take-suc, getD-drop, sets, length-sets}
 use Rattle.layout.specs.Places.{size}
 use Rattle.layout.proofs.Places.{size-is, ty-within}
 use Rattle.layout.proofs.Denotes.{den-written}
-use Rattle.types.specs.Reading.{LengthOf}
+use Rattle.types.specs.Reading.{Tagged, LengthOf}
 use Rattle.types.proofs.Words.{ty-words}
 use Rattle.writing.specs.Spelling.{Room, Copied, Writes}
 use Rattle.writing.specs.Types.{OfType}
 use Rattle.writing.proofs.Placing.{sets-append}
+use Rattle.writing.proofs.Steps.{base-words}
 use Rattle.writing.proofs.Types.{far-end}
+
+-- ## Int and Bool
+
+module _ {q w : List ℕ} {t r k : ℕ} (c : Tagged q w t r k) (h : k < 3) where
+  pub base-room : {s : List ℕ} {p : ℕ} {ws : List ℕ} → OfType q w t r ws → Room s p ws → p < length s
+  base-room x o = omega (arith, o .room, ap length (x .is ∙ base-words c h (x .it) (x .stands)))
+
+  pub writes-base : {s s′ : List ℕ} {p : ℕ} → s′ ≡ set s p k → Writes (OfType q w t r) s s′ p (p + 1)
+  writes-base e = record { past = λ ws x o. rw (x .is, base-words c h (x .it) (x .stands)) (record { is = e; next = refl }) }
 
 -- ## None, and one more
 

@@ -6,3 +6,4 @@ pub mod Types
 pub mod Copying
 pub mod Loops
 pub mod Contexts
+pub mod After

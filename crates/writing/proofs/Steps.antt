@@ -74,6 +74,12 @@ name-put s p k n e f = sets-cons s p k (p + 1) (n ∷ []) e refl f
 named-words : {k : ℕ} {a : TyVar} {b : syntax.TyVar} (n : ℕ) (vs : List ℕ) → k ≡ n → ty a ≡ b → n ∷ b .number ∷ vs ≡ k ∷ a .0 ∷ vs
 named-words n vs e f = rw (e, ← f)
 
+-- Int and Bool are their code
+pub base-words : {q w : List ℕ} {t r k : ℕ} → Tagged q w t r k → k < 3 → (T : Ty) → Den q w t r T → tyWords T ≡ k ∷ []
+unfolding tyWords tyCode
+base-words {k = k} c l =
+    by-base (λ T. tyWords T ≡ k ∷ []) c l (λ d. ap (λ (n : ℕ). n ∷ []) (sym (c .is int d))) (λ d. ap (λ (n : ℕ). n ∷ []) (sym (c .is bool d)))
+
 module _ {q w : List ℕ} {t : ℕ} {s : List ℕ} {p low k : ℕ} (within : low < length s) (c : Tagged q w t (getD s low 0) k) where
   -- all words are put
   step-whole : {T : Ty} {s′ : List ℕ} (ws : List ℕ) → 1 ≤ length ws → tyWords T ≡ ws → s′ ≡ sets s p ws
@@ -89,12 +95,7 @@ module _ {q w : List ℕ} {t : ℕ} {s : List ℕ} {p low k : ℕ} (within : low
   }
 
   pub step-base : {s₁ : List ℕ} → k < 3 → s₁ ≡ set s p k → Steps q w t s s₁ p low (record { at = p + 1; low = low + 1 })
-  unfolding tyWords tyCode
-  step-base {s₁} l e = record {
-    is = by-base (λ T. p + size T ≤ low + 1 → Stepped q w t s s₁ p low T (record { at = p + 1; low = low + 1 })) c l
-        (λ d o. step-whole (k ∷ []) (omega arith) (ap (λ (n : ℕ). n ∷ []) (sym (c .is int d))) e)
-        (λ d o. step-whole (k ∷ []) (omega arith) (ap (λ (n : ℕ). n ∷ []) (sym (c .is bool d))) e);
-  }
+  step-base l e = record { is = λ T d o. step-whole (k ∷ []) (omega arith) (base-words c l T d) e }
 
   pub step-name : {a : TyVar} {s₁ s₂ : List ℕ} → Named q w t (getD s low 0) a → 3 ≤ k → k < 5 → s₁ ≡ set s p k → s₂ ≡ set s₁ (p + 1) (a .0)
       → Steps q w t s s₂ p low (record { at = p + 2; low = low + 1 })

@@ -2,3 +2,4 @@
 pub mod Spelling
 pub mod Types
 pub mod Contexts
+pub mod After

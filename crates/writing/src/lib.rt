@@ -1,6 +1,7 @@
 // Words into the report: types with no recursion, sections, contexts; each function writes at a place and returns the next.
 use layout::BASE;
 use layout::Span;
+use layout::copy;
 use layout::put;
 use layout::word;
 use types::body_of;
@@ -10,11 +11,14 @@ use types::right_of;
 use types::tag;
 use types::type_length;
 ghost use mathlib.Core.Path.{_≡_};
+ghost use mathlib.Core.Bool.{_&&_};
 ghost use Prim.Native.Nat.{_+_, _≤_, _^_, min};
+ghost use lib.Dec.{eqb};
 ghost use lib.ListN.{length};
 ghost use Rattle.writing.specs.Spelling.{Section, Long, Spelled, Copied, Writable, Writes};
 ghost use Rattle.writing.specs.Types.{OfType, OfPart, Waiting, Steps};
 ghost use Rattle.writing.specs.Contexts.{holdsType, OfEntry, OfContext};
+ghost use Rattle.writing.specs.After.{Measures, Stands, WritesAfter};
 
 // A length stops at this, one more than the longest report.
 const OVER: usize = 4_294_967_296;
@@ -98,7 +102,7 @@ fn copy_words(q: &[u32], from: usize, n: usize, report: &mut [u32], at: usize)
     }
 }
 
-// Writes a type. One that stands in the question has its words there, in the same order, and is copied.
+// Writes a type. Int and Bool are their code; one that stands in the question has its words there, in the same order, and is copied.
 pub fn write_type(
     q: &[u32],
     work: &[u32],
@@ -110,6 +114,11 @@ pub fn write_type(
     requires { ⌜ Writable (now q) (now work) top (OfType (now q) (now work) top r) (now report) at ⌝ }
     ensures { λ z. ⌜ Writes (OfType (now (q .entry)) (now (work .entry)) top r) (now (report .entry)) (now (report .exit)) at z ⌝ }
 {
+    let k = tag(q, work, top, r);
+    if k < 3 {
+        put(report, at, k);
+        return at + 1;
+    }
     if r < BASE {
         let n = type_length(q, work, top, r);
         let end = at + n;
@@ -279,4 +288,73 @@ pub fn write_context(
     let count = next - first;
     put(report, at, count);
     next
+}
+
+// A context, and how long its section is.
+pub struct Known {
+    pub g: Span,
+    pub length: usize,
+}
+
+// A context, and where its section stands in the report.
+pub struct Standing {
+    pub g: Span,
+    pub at: usize,
+    pub end: usize,
+}
+
+// Whether two contexts are the same entries of work.
+fn same(g: Span, h: Span) -> bool
+    ensures { λ r. ⌜ r ≡ (eqb (g .at) (h .at) && eqb (g .n) (h .n)) ⌝ }
+{
+    if g.at == h.at {
+        return g.n == h.n;
+    }
+    false
+}
+
+// How long a context's section is, after another: most nodes have the context of the node before.
+pub fn length_after(q: &[u32], work: &[u32], top: usize, g: Span, last: Known) -> Known
+    requires { ⌜ (Spelled (now q) (now work) top (Section (OfContext (now q) (now work) top g))) × Measures (now q) (now work) top (last .g) last ⌝ }
+    ensures { λ k. ⌜ Measures (now (q .entry)) (now (work .entry)) top g k ⌝ }
+{
+    let again = same(g, last.g);
+    if again {
+        return last;
+    }
+    let n = context_length(q, work, top, g);
+    Known { g: g, length: n }
+}
+
+// Writes a context's section after another; where it is the same context, its words are copied.
+pub fn write_after(
+    q: &[u32],
+    work: &[u32],
+    top: usize,
+    g: Span,
+    report: &mut [u32],
+    at: usize,
+    last: Standing,
+) -> Standing
+    requires { ⌜ (Writable (now q) (now work) top (Section (OfContext (now q) (now work) top g)) (now report) at) × Stands (now q) (now work) top (now report) at last ⌝ }
+    ensures { λ z. ⌜ WritesAfter (now (q .entry)) (now (work .entry)) top g (now (report .entry)) (now (report .exit)) at z ⌝ }
+{
+    let again = same(g, last.g);
+    if again {
+        let from = last.at;
+        let n = last.end - from;
+        let end = at + n;
+        copy(report, from, at, n);
+        return Standing {
+            g: g,
+            at: at,
+            end: end,
+        };
+    }
+    let end = write_context(q, work, top, g, report, at);
+    Standing {
+        g: g,
+        at: at,
+        end: end,
+    }
 }

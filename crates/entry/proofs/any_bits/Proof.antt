@@ -9,10 +9,10 @@ use Rattle.entry.proofs.any_bits.Statement.{statement}
 use Rattle.entry.proofs.any_bits.Tie as tie
 
 abbrev Inv-loop : tie.InvT-loop
-Inv-loop block bits₀ i₀ bits i = (i ≤ 128) × (bits ≡ 0 → block ≡ replicate i 0 ++ drop i block) × (block ≡ replicate (length block) 0 → bits ≡ 0)
+Inv-loop block bits₀ i₀ bits i = (i ≤ 256) × (bits ≡ 0 → block ≡ replicate i 0 ++ drop i block) × (block ≡ replicate (length block) 0 → bits ≡ 0)
 
 abbrev μ-loop : tie.MeasureT-loop
-μ-loop block bits₀ i₀ bits i = 128 - i
+μ-loop block bits₀ i₀ bits i = 256 - i
 
 loop-holds : tie.Need-loop-holds Inv-loop μ-loop
 loop-holds c = (omega arith, λ e. refl, λ e. refl)

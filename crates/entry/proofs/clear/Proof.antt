@@ -8,7 +8,7 @@ use Rattle.entry.proofs.clear.Statement.{statement}
 use Rattle.entry.proofs.clear.Tie as tie
 
 abbrev Inv-loop : tie.InvT-loop
-Inv-loop work₀ n i₀ end₀ work i end = (i ≤ n) × (end ≡ i + 128) × (n ≤ length work₀) × Front work₀ work i
+Inv-loop work₀ n i₀ end₀ work i end = (i ≤ n) × (end ≡ i + 256) × (n ≤ length work₀) × Front work₀ work i
 
 abbrev μ-loop : tie.MeasureT-loop
 μ-loop work₀ n i₀ end₀ work i end = n - i

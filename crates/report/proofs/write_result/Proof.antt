@@ -1,17 +1,20 @@
 -- `write_result` meets its contract.
 use Rattle.writing.proofs.Spelling.{writable-first, writable-next, writes-then}
+use Rattle.writing.proofs.After.{stands-written}
 use borrow.Author.Needs.{needs}
 use Rattle.report.proofs.write_result.Statement.{statement}
 use Rattle.report.proofs.write_result.Tie as tie
 
 write-section-requires : tie.Need-write-section-requires
-write-section-requires c κs = writable-first (c .before .before .before .before .before .pre)
+write-section-requires c κs = writable-first (c .before .before .before .before .before .before .pre)
 
 write-context-requires : tie.Need-write-context-requires
-write-context-requires c κs = writable-first (writable-next (c .before .before .before .before .before .before .before .before .before .pre) (c .before .before .before .write-section .ensures))
+write-context-requires c κs = writable-first (writable-next (c .before .before .before .before .before .before .before .before .before .before .pre) (c .before .before .before .write-section .ensures))
 
 write-tree-requires : tie.Need-write-tree-requires
-write-tree-requires c κs = writable-next (writable-next (c .before .before .before .before .before .before .before .before .before .before .before .before .before .pre) (c .before .before .before .before .before .before .before .write-section .ensures)) (c .before .before .before .write-context .ensures)
+write-tree-requires c κs =
+    let x₁ = writable-next (c .before .before .before .before .before .before .before .before .before .before .before .before .before .before .pre) (c .before .before .before .before .before .before .before .write-section .ensures) in
+    (writable-next x₁ (c .before .before .before .write-context .ensures), stands-written (writable-first x₁) (c .before .before .before .write-context .ensures))
 
 same-length : tie.Need-same-length
 same-length c = search needs

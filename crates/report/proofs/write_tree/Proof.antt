@@ -2,48 +2,50 @@
 use mathlib.Core.Path.{_∙_, ap}
 use native.Mathlib.Omega.{arith}
 use lib.ListN.{length, length-set}
+use Rattle.writing.specs.After.{Stands}
 use Rattle.writing.proofs.Spelling.{writable-as, writable-first, writable-inner, counted, writes-section}
 use Rattle.writing.proofs.Loops.{Putting, put-first, put-next, put-end}
+use Rattle.writing.proofs.After.{stands-before}
 use Rattle.report.specs.Nodes.{OfNodes}
 use Rattle.report.proofs.Nodes.{nodes-room, nodes-first, nodes-none}
 use Rattle.report.proofs.write_tree.Statement.{statement}
 use Rattle.report.proofs.write_tree.Tie as tie
 
 abbrev Inv-loop : tie.InvT-loop
-Inv-loop q work top low high report₀ at first next₀ m₀ report next m = Putting q work top (OfNodes q work top low high) report₀ next₀ (OfNodes q work top low m) report next
+Inv-loop q work top low high report₀ at first next₀ m₀ last₀ report next m last = Putting q work top (OfNodes q work top low high) report₀ next₀ (OfNodes q work top low m) report next × Stands q work top report next last
 
 abbrev μ-loop : tie.MeasureT-loop
-μ-loop q work top low high report₀ at first next₀ m₀ report next m = m
+μ-loop q work top low high report₀ at first next₀ m₀ last₀ report next m last = m
 
 add-first : tie.Need-add-first Inv-loop μ-loop
-add-first c = omega (arith, writable-inner (c .before .before .before .pre) .room .small)
+add-first c = omega (arith, writable-inner (c .before .before .before .pre .0) .room .small)
 
 loop-holds : tie.Need-loop-holds Inv-loop μ-loop
-loop-holds c = put-first (writable-inner (c .before .before .before .pre))
+loop-holds c = (put-first (writable-inner (c .before .before .before .pre .0)), stands-before (omega arith) (c .before .before .before .pre .1))
 
 sub-m : tie.Need-sub-m Inv-loop μ-loop
-sub-m c = nodes-room (c .loop-test .taken) (c .before .loop .inv .rest .spelled .says)
+sub-m c = nodes-room (c .loop-test .taken) (c .before .loop .inv .0 .rest .spelled .says)
 
 write-node-requires : tie.Need-write-node-requires Inv-loop μ-loop
-write-node-requires c κs = writable-first (writable-as (nodes-first (c .before .loop-test .taken)) (c .before .before .loop .inv .rest))
+write-node-requires c κs = (writable-first (writable-as (nodes-first (c .before .loop-test .taken)) (c .before .before .loop .inv .0 .rest)), c .before .before .loop .inv .1)
 
 loop-less : tie.Need-loop-less Inv-loop μ-loop
-loop-less c = omega (arith, nodes-room (c .before .before .before .before .loop-test .taken) (c .before .before .before .before .before .loop .inv .rest .spelled .says))
+loop-less c = omega (arith, nodes-room (c .before .before .before .before .before .loop-test .taken) (c .before .before .before .before .before .before .loop .inv .0 .rest .spelled .says))
 
 loop-again : tie.Need-loop-again Inv-loop μ-loop
-loop-again c = put-next (nodes-first (c .before .before .before .before .loop-test .taken)) (c .before .before .before .before .before .loop .inv) (c .before .before .write-node .ensures)
+loop-again c = (put-next (nodes-first (c .before .before .before .before .before .loop-test .taken)) (c .before .before .before .before .before .before .loop .inv .0) (c .before .before .before .write-node .ensures .writes), c .before .before .before .write-node .ensures .output)
 
 sub-count : tie.Need-sub-count Inv-loop μ-loop
-sub-count c = omega (arith, counted (c .before .before .before .before .before .pre) (put-end (nodes-none (c .loop-test .left)) (c .before .loop .inv)) .first)
+sub-count c = omega (arith, counted (c .before .before .before .before .before .pre .0) (put-end (nodes-none (c .loop-test .left)) (c .before .loop .inv .0)) .first)
 
 put-requires : tie.Need-put-requires Inv-loop μ-loop
-put-requires c κs = let k = counted (c .before .before .before .before .before .before .pre) (put-end (nodes-none (c .before .loop-test .left)) (c .before .before .loop .inv)) in (k .place, omega (arith, k .small))
+put-requires c κs = let k = counted (c .before .before .before .before .before .before .pre .0) (put-end (nodes-none (c .before .loop-test .left)) (c .before .before .loop .inv .0)) in (k .place, omega (arith, k .small))
 
 same-length : tie.Need-same-length Inv-loop μ-loop
-same-length c = ap length (c .before .before .put .ensures) ∙ simp length-set (counted (c .before .before .before .before .before .before .before .before .before .pre) (put-end (nodes-none (c .before .before .before .before .loop-test .left)) (c .before .before .before .before .before .loop .inv)) .long)
+same-length c = ap length (c .before .before .put .ensures) ∙ simp length-set (counted (c .before .before .before .before .before .before .before .before .before .pre .0) (put-end (nodes-none (c .before .before .before .before .loop-test .left)) (c .before .before .before .before .before .loop .inv .0)) .long)
 
 returns : tie.Need-returns Inv-loop μ-loop
-returns c = writes-section (put-end (nodes-none (c .before .before .before .before .loop-test .left)) (c .before .before .before .before .before .loop .inv)) (c .before .before .put .ensures)
+returns c = writes-section (put-end (nodes-none (c .before .before .before .before .loop-test .left)) (c .before .before .before .before .before .loop .inv .0)) (c .before .before .put .ensures)
 
 pub write-tree-spec : {M : Type 1} → statement M
 write-tree-spec =

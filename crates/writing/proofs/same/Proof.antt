@@ -1,0 +1,16 @@
+-- `same` meets its contract.
+use mathlib.Core.Path.{sym, ap}
+use mathlib.Core.Bool.{Bool, _&&_}
+use lib.Dec.{eqb}
+use borrow.Author.Tests.{eq-eqb, ne-eqb}
+use Rattle.writing.proofs.same.Statement.{statement}
+use Rattle.writing.proofs.same.Tie as tie
+
+returns : tie.Need-returns
+returns c = sym (ap (λ (b : Bool). b && eqb (c .before .before .before .before .before .args .g .n) (c .before .before .before .before .before .args .h .n)) (eq-eqb _ _ (c .before .before .if1 .taken)))
+
+returns-2 : tie.Need-returns-2
+returns-2 c = sym (ap (λ (b : Bool). b && eqb (c .before .before .before .args .g .n) (c .before .before .before .args .h .n)) (ne-eqb _ _ (c .if1 .left)))
+
+pub same-spec : {M : Type 1} → statement M
+same-spec = tie.close (tie.spec returns returns-2)
