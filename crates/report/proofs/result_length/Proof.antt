@@ -1,5 +1,6 @@
 -- `result_length` meets its contract.
-use Rattle.writing.proofs.Spelling.{long-then}
+use mathlib.Core.Path.{refl}
+use Rattle.writing.proofs.Spelling.{spelled-second, long-then}
 use borrow.Author.Needs.{needs}
 use Rattle.report.proofs.result_length.Statement.{statement}
 use Rattle.report.proofs.result_length.Tie as tie
@@ -11,7 +12,7 @@ context-length-requires : tie.Need-context-length-requires
 context-length-requires c κs = search needs
 
 tree-length-requires : tie.Need-tree-length-requires
-tree-length-requires c κs = search needs
+tree-length-requires c κs = (spelled-second (spelled-second (c .before .before .before .before .before .before .pre)), record { span = refl; long = c .context-length .ensures })
 
 sum-requires : tie.Need-sum-requires
 sum-requires c κs = search needs
