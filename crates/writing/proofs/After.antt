@@ -1,59 +1,32 @@
 -- A context's section after another: copied where it is the same, and standing where it was written.
 use mathlib.Core.Path.{_≡_, refl, sym, _∙_, ap}
 use mathlib.Core.Bool.{Bool, true, false, false≢true, _&&_}
-use mathlib.Core.List.{List, [], _∷_}
-use Prim.Native.Nat.{ℕ, zero, suc, _+_, _-_, _≤_, _<_}
+use mathlib.Core.List.{List}
+use Prim.Native.Nat.{ℕ, _+_, _-_, _≤_}
 use native.Mathlib.Omega.{arith}
 use borrow.Author.Tests.{eqb-true}
 use lib.Dec.{eqb}
-use lib.ListN.{length, getD, set, length-set}
-use lib.Seq.{getD-set-same, set-getD, sets}
+use lib.ListN.{length, getD}
 use Rattle.layout.specs.Words.{Keep, Copied}
 use Rattle.layout.specs.declared.Span.{Span}
 use Rattle.writing.specs.declared.Known.{Known}
 use Rattle.writing.specs.declared.Standing.{Standing}
-use Rattle.writing.specs.Spelling.{Section, Room, Past, Writable, Writes}
+use Rattle.writing.specs.Spelling.{Section, Room, Writable, Writes}
 use Rattle.writing.specs.Contexts.{OfContext}
-use Rattle.writing.specs.After.{Measures, Reads, Stands, WritesAfter}
-use Rattle.writing.proofs.Placing.{keep-sets, keep-both, keep-same}
-use Rattle.writing.proofs.Spelling.{past-length, writes-length}
-
--- ## Words at a place, one by one
-
--- what was put is read
-sets-read : (ws s : List ℕ) (p : ℕ) → p + length ws ≤ length s → (i : ℕ) → i < length ws → getD (sets s p ws) (p + i) 0 ≡ getD ws i 0
-sets-read [] s p r i l = absurd (omega arith)
-sets-read (v ∷ vs) s p r zero l =
-    let e : p + 0 ≡ p = omega arith in
-    rw e (sym (keep-sets vs (set s p v) (suc p) (suc p + length vs) refl .below p (omega arith)) ∙ getD-set-same s p v 0 (omega arith))
-sets-read (v ∷ vs) s p r (suc i) l =
-    let e : p + suc i ≡ suc p + i = omega arith in
-    rw e (sets-read vs (set s p v) (suc p) (omega (arith, length-set s p v)) i (omega arith))
-
--- words that are there already change nothing
-sets-same : (ws s : List ℕ) (p : ℕ) → ((i : ℕ) → i < length ws → getD s (p + i) 0 ≡ getD ws i 0) → sets s p ws ≡ s
-sets-same [] s p f = refl
-sets-same (v ∷ vs) s p f =
-    let e : p + 0 ≡ p = omega arith in
-    let g : getD s p 0 ≡ v = rw e at (f 0 (omega arith)) in
-    ap (λ (x : List ℕ). sets x (suc p) vs) (ap (λ (a : ℕ). set s p a) (sym g) ∙ set-getD s p 0)
-    ∙ sets-same vs s (suc p) (λ i l. let h : p + suc i ≡ suc p + i = omega arith in rw h at (f (suc i) (omega arith)))
-
--- where all else stays, they were put
-pub put-same : {s s′ : List ℕ} {p z : ℕ} (ws : List ℕ) → z ≡ p + length ws → z ≤ length s → Keep p z s s′ → ((i : ℕ) → i < length ws → getD s′ (p + i) 0 ≡ getD ws i 0)
-    → s′ ≡ sets s p ws
-put-same {s} {s′} {p} {z} ws e r k f = sym (keep-same (keep-both ws p z e r (omega arith) k) ∙ sets-same ws s′ p f)
+use Rattle.writing.specs.After.{Measures, Stands, WritesAfter}
+use Rattle.writing.proofs.Placing.{keep-sets, sets-read, put-same}
+use Rattle.writing.proofs.Spelling.{past-length}
 
 -- ## The same entries of work
 
-abbrev mk : ℕ → ℕ → Span
-mk at n = record { at = at; n = n }
+abbrev span : ℕ → ℕ → Span
+span at n = record { at = at; n = n }
 
 pub same-span : {g h : Span} {r : Bool} → r ≡ (eqb (g .at) (h .at) && eqb (g .n) (h .n)) → r ≡ true → g ≡ h
 same-span {g} {h} e f = go (eqb (g .at) (h .at)) refl (eqb (g .n) (h .n)) refl (sym e ∙ f)
   where
     go : (a : Bool) → eqb (g .at) (h .at) ≡ a → (b : Bool) → eqb (g .n) (h .n) ≡ b → (a && b) ≡ true → g ≡ h
-    go true x true y z = ap (λ (i : ℕ). mk i (g .n)) (eqb-true (g .at) (h .at) x) ∙ ap (λ (i : ℕ). mk (h .at) i) (eqb-true (g .n) (h .n) y)
+    go true x true y z = ap (λ (i : ℕ). span i (g .n)) (eqb-true (g .at) (h .at) x) ∙ ap (λ (i : ℕ). span (h .at) i) (eqb-true (g .n) (h .n) y)
     go true x false y z = absurd (false≢true z)
     go false x b y z = absurd (false≢true z)
 
@@ -74,7 +47,8 @@ module _ {q w : List ℕ} {t : ℕ} {k : Standing} where
   }
 
   -- after something was written at p
-  pub stands-next : {S : List ℕ → Type 0} {s s′ : List ℕ} {p z : ℕ} → Writable q w t S s p → Writes S s s′ p z → Stands q w t s p k → Stands q w t s′ z k
+  pub stands-next : {S : List ℕ → Type 0} {s s′ : List ℕ} {p z : ℕ} → Writable q w t S s p → Writes S s s′ p z → Stands q w t s p k
+      → Stands q w t s′ z k
   stands-next {s = s} {p = p} {z = z} v u x =
       let ws = v .spelled .words in
       let a = u .past ws (v .spelled .says) (v .room) in

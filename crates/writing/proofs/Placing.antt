@@ -3,14 +3,14 @@ use mathlib.Core.Path.{_≡_, refl, sym, _∙_, ap}
 use mathlib.Core.Logic.{_⊎_, inl, inr}
 use mathlib.Core.Bool.{Bool, true, false}
 use mathlib.Core.List.{List, [], _∷_, _++_}
-use Prim.Native.Nat.{ℕ, suc, _+_, _≤_, _<_}
+use Prim.Native.Nat.{ℕ, zero, suc, _+_, _≤_, _<_}
 use native.Mathlib.Nat.{le-refl}
 use native.Mathlib.Numerals.{add-one}
 use native.Mathlib.Omega.{arith}
 use borrow.Author.Tests.{ltb-true, ltb-false}
 use lib.Dec.{ltb}
 use lib.ListN.{length, getD, set, length-set}
-use lib.Seq.{getD-set-same, getD-set-other, set-comm, sets, ext-getD}
+use lib.Seq.{getD-set-same, getD-set-other, set-getD, set-comm, sets, ext-getD}
 use Rattle.layout.specs.Words.{Keep}
 use Rattle.layout.proofs.Words.{keep-refl, keep-trans, keep-less, keep-set}
 
@@ -70,3 +70,29 @@ keep-same {p} {a} {b} k = ext-getD 0 a b (k .long) (λ i l. go i (cases i p))
     go : (i : ℕ) → (i < p) ⊎ (p ≤ i) → getD a i 0 ≡ getD b i 0
     go i (inl x) = k .below i x
     go i (inr x) = k .above i x
+
+-- ## One by one
+
+-- what was put is read
+pub sets-read : (ws s : List ℕ) (p : ℕ) → p + length ws ≤ length s → (i : ℕ) → i < length ws → getD (sets s p ws) (p + i) 0 ≡ getD ws i 0
+sets-read [] s p r i l = absurd (omega arith)
+sets-read (v ∷ vs) s p r zero l =
+    let e : p + 0 ≡ p = omega arith in
+    rw e (sym (keep-sets vs (set s p v) (suc p) (suc p + length vs) refl .below p (omega arith)) ∙ getD-set-same s p v 0 (omega arith))
+sets-read (v ∷ vs) s p r (suc i) l =
+    let e : p + suc i ≡ suc p + i = omega arith in
+    rw e (sets-read vs (set s p v) (suc p) (omega (arith, length-set s p v)) i (omega arith))
+
+-- words that are there already change nothing
+sets-same : (ws s : List ℕ) (p : ℕ) → ((i : ℕ) → i < length ws → getD s (p + i) 0 ≡ getD ws i 0) → sets s p ws ≡ s
+sets-same [] s p f = refl
+sets-same (v ∷ vs) s p f =
+    let e : p + 0 ≡ p = omega arith in
+    let g : getD s p 0 ≡ v = rw e at (f 0 (omega arith)) in
+    ap (λ (x : List ℕ). sets x (suc p) vs) (ap (λ (a : ℕ). set s p a) (sym g) ∙ set-getD s p 0)
+    ∙ sets-same vs s (suc p) (λ i l. let h : p + suc i ≡ suc p + i = omega arith in rw h at (f (suc i) (omega arith)))
+
+-- where all else stays, they were put
+pub put-same : {s s′ : List ℕ} {p z : ℕ} (ws : List ℕ) → z ≡ p + length ws → z ≤ length s → Keep p z s s′
+    → ((i : ℕ) → i < length ws → getD s′ (p + i) 0 ≡ getD ws i 0) → s′ ≡ sets s p ws
+put-same {s} {s′} {p} {z} ws e r k f = sym (keep-same (keep-both ws p z e r (omega arith) k) ∙ sets-same ws s′ p f)

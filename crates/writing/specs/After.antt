@@ -19,7 +19,7 @@ pub record Reads (s : List ℕ) (at end : ℕ) (ws : List ℕ) : Type 0 where
   pub end-is : end ≡ at + length ws
   pub same : (i : ℕ) → i < length ws → getD s (at + i) 0 ≡ getD ws i 0
 
--- k's section stands where k says, before the place p
+-- where there is room for it, k's section stands where k says, before the place p
 pub record Stands (q w : List ℕ) (t : ℕ) (s : List ℕ) (p : ℕ) (k : Standing) : Type 0 where
   pub below : (k .at ≤ k .end) × (k .end ≤ p)
   pub reads : (ws : List ℕ) → Section (OfContext q w t (k .g)) ws → Room s (k .at) ws → Reads s (k .at) (k .end) ws
