@@ -1,6 +1,6 @@
 -- Reading entries, one after the other.
 use Prim.Native.Nat.{ℕ, _+_, _*_, _≤_, _<_}
-use mathlib.Core.Path.{_≡_, refl, sym, subst, _∙_}
+use mathlib.Core.Path.{_≡_, refl, _∙_}
 use mathlib.Core.Logic.{_⊎_, ⊎-elim}
 use mathlib.Core.List.{List, [], _∷_}
 use native.Mathlib.Omega.{arith}
@@ -15,7 +15,7 @@ use Rattle.reading.specs.declared.Item.the-variants as item
 use Rattle.reading.specs.declared.Part.{Part}
 use Rattle.reading.specs.declared.Part.the-variants as part
 use Rattle.reading.specs.Items as items
-use Rattle.reading.specs.Items.{from, Inside, TyTo, Reads, NameRead, TypeThen}
+use Rattle.reading.specs.Items.{from, Inside, WordTo, TyTo, Reads, NameRead, TypeThen}
 use Rattle.reading.specs.Contexts.{RestTo, var-rest, tvar-rest, etvar-rest, setvar-rest, mark-rest, EntryTo, EntriesTo, none, some, ListTo, ContextTo, Leaves, past, refused, EntryRead, ContextRead}
 use Rattle.reading.proofs.Depth.{more, context-eq}
 use Rattle.reading.proofs.Items.{bad, from-end, Nones, oneOf-end, oneOf-is, oneOf-none, reads-at, reads-map, reads-two, code-at, after-word, variable-read, typeName-read}
@@ -44,43 +44,30 @@ module _ {q : List ℕ} {p e : ℕ} (i : Inside q p e) (h : p < e) where
   unfolding entry entryRows
   entry-none n = reads-at (oneOf-none entryRows q p e h (i .high) n) (items.refused (bad i))
 
+  -- the entry of the kind that stands at p, of the name after it and of the rest after that
+  entry-to : {x : Entry} {j m : ℕ} → getD q p 0 ≡ kindOf (keyOf x) → WordTo q (p + 1) (nameOf (keyOf x)) j → RestTo q j x m → EntryTo q p x m
+  entry-to k s t = record { kind = code-at i h k; name = s .at; rest = rw (after-word p s) at t }
+
   module _ {r : Item} (x : NameRead q (p + 1) e r) where
     pub entry-var : {r′ : Item} → getD q p 0 ≡ 32 → TypeThen q e r r′ → EntryRead q p e r′
     unfolding row pick entryRows _>>=_ keyOf kindOf nameOf
-    entry-var k y =
-        reads-at (entry-row k)
-        (reads-two varBnd
-        (λ v A m n s t. record { kind = code-at i h k; name = s .at; rest = var-rest (subst (λ (j : ℕ). TyTo q j A n) (after-word p s) t) })
-        (variable-read x) y)
+    entry-var k y = reads-at (entry-row k) (reads-two varBnd (λ v A m n s t. entry-to k s (var-rest t)) (variable-read x) y)
 
     pub entry-tvar : getD q p 0 ≡ 33 → EntryRead q p e r
     unfolding row pick entryRows _>>=_ keyOf kindOf nameOf
-    entry-tvar k =
-        reads-at (entry-row k)
-        (reads-map tvarBnd
-        (λ a m s. record { kind = code-at i h k; name = s .at; rest = subst (RestTo q (p + 2) (tvarBnd a)) (sym (after-word p s)) tvar-rest }) (typeName-read x))
+    entry-tvar k = reads-at (entry-row k) (reads-map tvarBnd (λ a m s. entry-to k s tvar-rest) (typeName-read x))
 
     pub entry-etvar : getD q p 0 ≡ 34 → EntryRead q p e r
     unfolding row pick entryRows _>>=_ keyOf kindOf nameOf
-    entry-etvar k =
-        reads-at (entry-row k)
-        (reads-map etvarBnd
-        (λ a m s. record { kind = code-at i h k; name = s .at; rest = subst (RestTo q (p + 2) (etvarBnd a)) (sym (after-word p s)) etvar-rest }) (typeName-read x))
+    entry-etvar k = reads-at (entry-row k) (reads-map etvarBnd (λ a m s. entry-to k s etvar-rest) (typeName-read x))
 
     pub entry-setvar : {r′ : Item} → getD q p 0 ≡ 35 → TypeThen q e r r′ → EntryRead q p e r′
     unfolding row pick entryRows _>>=_ keyOf kindOf nameOf
-    entry-setvar k y =
-        reads-at (entry-row k)
-        (reads-two setvarBnd
-        (λ a A m n s t. record { kind = code-at i h k; name = s .at; rest = setvar-rest (subst (λ (j : ℕ). TyTo q j A n) (after-word p s) t) })
-        (typeName-read x) y)
+    entry-setvar k y = reads-at (entry-row k) (reads-two setvarBnd (λ a A m n s t. entry-to k s (setvar-rest t)) (typeName-read x) y)
 
     pub entry-mark : getD q p 0 ≡ 36 → EntryRead q p e r
     unfolding row pick entryRows _>>=_ keyOf kindOf nameOf
-    entry-mark k =
-        reads-at (entry-row k)
-        (reads-map mark
-        (λ a m s. record { kind = code-at i h k; name = s .at; rest = subst (RestTo q (p + 2) (mark a)) (sym (after-word p s)) mark-rest }) (typeName-read x))
+    entry-mark k = reads-at (entry-row k) (reads-map mark (λ a m s. entry-to k s mark-rest) (typeName-read x))
 
 -- an entry has two words at least
 rest-on : {q : List ℕ} {p m : ℕ} {x : Entry} → RestTo q p x m → p ≤ m

@@ -1,6 +1,6 @@
 -- Reading an expression, code by code.
 use Prim.Native.Nat.{ℕ, _+_, _≤_, _<_}
-use mathlib.Core.Path.{_≡_, refl, ap, subst, _∙_}
+use mathlib.Core.Path.{_≡_, refl, ap, _∙_}
 use mathlib.Core.List.{List}
 use native.Mathlib.Nat.{le-refl}
 use native.Mathlib.Decide.{decLe}
@@ -8,7 +8,7 @@ use native.Mathlib.Omega.{arith}
 use lib.ListN.{getD}
 use Rattle.definition.specs.Syntax.{pick, Expr, evar, app, abs, tapp, tabs, ann, litInt, litBool, letIn, ifThenElse, binOp}
 use Rattle.definition.specs.Question.{Reader, fault, next, _>>=_, give, badShape, any, row, exprRows, expression}
-use Rattle.layout.specs.Places.{TyAt, ExprAt, evar-at, app-at, abs-at, tapp-at, tabs-at, ann-at, litInt-at, litBool-at, letIn-at, ifThenElse-at, binOp-at}
+use Rattle.layout.specs.Places.{evar-at, app-at, abs-at, tapp-at, tabs-at, ann-at, litInt-at, litBool-at, letIn-at, ifThenElse-at, binOp-at}
 use Rattle.reading.specs.declared.Item.{Item}
 use Rattle.reading.specs.declared.Item.the-variants.{Past, Fault}
 use Rattle.reading.specs.Items.{from, Inside, ExprTo, past, refused, NameRead, WithinRead, TypeThen, ExprRead, ExprThen}
@@ -37,17 +37,15 @@ module _ {q : List ℕ} {p e : ℕ} (i : Inside q p e) (h : p < e) where
     expr-abs k y z =
         reads-at (expr-row k)
         (reads-three (abs p)
-        (λ v A f j m n s t u. record {
-          at = abs-at (code-at i h k) (s .at) (subst (λ (j : ℕ). TyAt q j A) (after-word p s) (t .at)) (omega arith) (u .at);
-          to = omega arith;
-        }) (variable-read x) y z)
+        (λ v A f j m n s t u. record { at = abs-at (code-at i h k) (s .at) (rw (after-word p s) at (t .at)) (omega arith) (u .at); to = omega arith })
+        (variable-read x) y z)
 
     pub expr-tabs : {r′ : Item} → getD q p 0 ≡ 20 → ExprThen q e r r′ → ExprRead q p e r′
     unfolding row pick exprRows _>>=_
     expr-tabs k y =
         reads-at (expr-row k)
         (reads-two (tabs p)
-        (λ a f j m s t. record { at = tabs-at (code-at i h k) (s .at) (subst (λ (j : ℕ). ExprAt q j f) (after-word p s) (t .at)); to = omega arith })
+        (λ a f j m s t. record { at = tabs-at (code-at i h k) (s .at) (rw (after-word p s) at (t .at)); to = omega arith })
         (typeName-read x) y)
 
     pub expr-let : {r′ r″ : Item} → getD q p 0 ≡ 24 → ExprThen q e r r′ → ExprThen q e r′ r″ → ExprRead q p e r″
@@ -55,10 +53,8 @@ module _ {q : List ℕ} {p e : ℕ} (i : Inside q p e) (h : p < e) where
     expr-let k y z =
         reads-at (expr-row k)
         (reads-three (letIn p)
-        (λ v f g j m n s t u. record {
-          at = letIn-at (code-at i h k) (s .at) (subst (λ (j : ℕ). ExprAt q j f) (after-word p s) (t .at)) (omega arith) (u .at);
-          to = omega arith;
-        }) (variable-read x) y z)
+        (λ v f g j m n s t u. record { at = letIn-at (code-at i h k) (s .at) (rw (after-word p s) at (t .at)) (omega arith) (u .at); to = omega arith })
+        (variable-read x) y z)
 
   -- ## What begins with an expression
 
@@ -89,10 +85,7 @@ module _ {q : List ℕ} {p e : ℕ} (i : Inside q p e) (h : p < e) where
     expr-if k y z =
         reads-at (expr-row k)
         (reads-three (ifThenElse p)
-        (λ f g g′ j m n s t u. record {
-          at = ifThenElse-at (code-at i h k) (s .at) (s .to) (t .at) (t .to) (u .at);
-          to = omega arith;
-        }) x y z)
+        (λ f g g′ j m n s t u. record { at = ifThenElse-at (code-at i h k) (s .at) (s .to) (t .at) (t .to) (u .at); to = omega arith }) x y z)
 
   -- ## What begins with a number
 
@@ -108,7 +101,7 @@ module _ {q : List ℕ} {p e : ℕ} (i : Inside q p e) (h : p < e) where
       reads-at (expr-row k)
       (reads-three (binOp p)
       (λ o f g j m n s t u. record {
-        at = binOp-at (code-at i h k) (s .word .at) (s .least) (s .most) (subst (λ (j : ℕ). ExprAt q j f) (after-word p (s .word)) (t .at)) (omega arith) (u .at);
+        at = binOp-at (code-at i h k) (s .word .at) (s .least) (s .most) (rw (after-word p (s .word)) at (t .at)) (omega arith) (u .at);
         to = omega arith;
       }) x y z)
 

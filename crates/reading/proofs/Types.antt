@@ -1,12 +1,12 @@
 -- Reading a type, code by code.
 use Prim.Native.Nat.{ℕ, _+_, _≤_, _<_}
-use mathlib.Core.Path.{_≡_, refl, subst, _∙_}
+use mathlib.Core.Path.{_≡_, refl, _∙_}
 use mathlib.Core.List.{List}
 use native.Mathlib.Omega.{arith}
 use lib.ListN.{getD}
 use Rattle.definition.specs.Syntax.{pick, int, bool, var, etvar, arrow, forall}
 use Rattle.definition.specs.Question.{_>>=_, give, badShape, row, tyRows, type}
-use Rattle.layout.specs.Places.{TyAt, int-at, bool-at, var-at, etvar-at, arrow-at, forall-at}
+use Rattle.layout.specs.Places.{int-at, bool-at, var-at, etvar-at, arrow-at, forall-at}
 use Rattle.reading.specs.declared.Item.{Item}
 use Rattle.reading.specs.declared.Item.the-variants.{Past, Fault}
 use Rattle.reading.specs.Items.{from, Inside, TyTo, past, refused, NameRead, TypeRead, TypeThen}
@@ -51,7 +51,7 @@ module _ {q : List ℕ} {p e : ℕ} (i : Inside q p e) (h : p < e) where
     type-forall k y =
         reads-at (type-row k)
         (reads-two forall
-        (λ a A m n s t. record { at = forall-at (code-at i h k) (s .at) (subst (λ (j : ℕ). TyAt q j A) (after-word p s) (t .at)); to = omega arith })
+        (λ a A m n s t. record { at = forall-at (code-at i h k) (s .at) (rw (after-word p s) at (t .at)); to = omega arith })
         (typeName-read x) y)
 
   pub type-arrow : {r r′ : Item} → getD q p 0 ≡ 5 → TypeRead q (p + 1) e r → TypeThen q e r r′ → TypeRead q p e r′
