@@ -34,8 +34,8 @@ use Rattle.inference.proofs.Premise.{At, Premise, ask-check, returns}
 -- ## InfAppArr
 
 module _ (m : Mode) {q w : List ℕ} {s : State} {g : Span} {r ex : ℕ} (pre : AppPre q w s g r ex 5) where
-  pub arr : {j : Judgement} (k : At (pre .rule) j) → IsArrow (app-asked r ex k .A)
-  arr k = let v = app-asked r ex k in is-arrow (v .A) (sym (pre .tag .is (v .A) (v .den)))
+  pub arr : {j : Judgement} (k : At (pre .rule) j) → IsArrow (app-asked r ex k .T)
+  arr k = let v = app-asked r ex k in is-arrow (v .T) (sym (pre .tag .is (v .T) (v .den)))
 
   arr-den : {j : Judgement} (k : At (pre .rule) j) → Den q w (s .top) r (arrow (arr k .A) (arr k .B))
   arr-den k = rw (arr k .is) at (app-asked r ex k .den)
@@ -66,8 +66,8 @@ module _ (m : Mode) {q w : List ℕ} {s : State} {g : Span} {r ex : ℕ} (pre : 
 -- ## InfAppETVar
 
 module _ (m : Mode) {q w : List ℕ} {s : State} {g : Span} {r ex : ℕ} (pre : AppPre q w s g r ex 4) where
-  pub unknown : {j : Judgement} (k : At (pre .rule) j) → IsETVar (app-asked r ex k .A)
-  unknown k = let v = app-asked r ex k in is-etvar (v .A) (sym (pre .tag .is (v .A) (v .den)))
+  pub unknown : {j : Judgement} (k : At (pre .rule) j) → IsETVar (app-asked r ex k .T)
+  unknown k = let v = app-asked r ex k in is-etvar (v .T) (sym (pre .tag .is (v .T) (v .den)))
 
   unknown-den : {j : Judgement} (k : At (pre .rule) j) → Den q w (s .top) r (etvar (unknown k .a))
   unknown-den k = rw (unknown k .is) at (app-asked r ex k .den)

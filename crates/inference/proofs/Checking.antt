@@ -82,8 +82,8 @@ module _ (m : Mode) {q w : List ℕ} {s : State} {g : Span} {ex r : ℕ} (pre : 
   pub lam-parts : {j : Judgement} (k : At (pre .rule) j) → Abs q ex (check-asked ex r k .e)
   lam-parts k = form 18 (pre .code ∙ chosen-lam (pre .choice) .0) (check-asked ex r k .at)
 
-  pub lam-arrow : {j : Judgement} (k : At (pre .rule) j) → IsArrow (check-asked ex r k .B)
-  lam-arrow k = let v = check-asked ex r k in is-arrow (v .B) (sym (pre .tag .is (v .B) (v .den)) ∙ chosen-lam (pre .choice) .1)
+  pub lam-arrow : {j : Judgement} (k : At (pre .rule) j) → IsArrow (check-asked ex r k .T)
+  lam-arrow k = let v = check-asked ex r k in is-arrow (v .T) (sym (pre .tag .is (v .T) (v .den)) ∙ chosen-lam (pre .choice) .1)
 
   lam-den : {j : Judgement} (k : At (pre .rule) j) → Den q w (s .top) r (arrow (lam-arrow k .A) (lam-arrow k .B))
   lam-den k = rw (lam-arrow k .is) at (check-asked ex r k .den)
@@ -175,8 +175,8 @@ opened-body : {q w w₁ : List ℕ} {s : State} {g : Span} {o : Body} {b : TyVar
 opened-body {T = T} e (opened {T = U} b p) = let i : U ≡ T = cc in record { built = b; opens = rw i at p; left = cc }
 
 module _ (m : Mode) {q w : List ℕ} {s : State} {g : Span} {ex r : ℕ} (pre : CheckPre q w s g ex r 20) where
-  pub all-parts : {j : Judgement} (k : At (pre .rule) j) → IsForall (check-asked ex r k .B)
-  all-parts k = let v = check-asked ex r k in is-forall (v .B) (sym (pre .tag .is (v .B) (v .den)) ∙ chosen-all (pre .choice))
+  pub all-parts : {j : Judgement} (k : At (pre .rule) j) → IsForall (check-asked ex r k .T)
+  all-parts k = let v = check-asked ex r k in is-forall (v .T) (sym (pre .tag .is (v .T) (v .den)) ∙ chosen-all (pre .choice))
 
   pub all-pre : ForallPre q w s g r
   all-pre = let v = check-asked ex r (pre .rule .asks) in
@@ -222,12 +222,12 @@ module _ (m : Mode) {q w : List ℕ} {s : State} {g : Span} {ex r : ℕ} (pre : 
   pub sub-way : {j : Judgement} (k : At (pre .rule) j)
       → Way q w w s s leaf (20 + 28 * g .n) (outcome m s j)
       (judge (mode m) (infer (check-asked ex r k .Γ) (check-asked ex r k .e))
-      >>= λ r₁. apply (r₁ .1) (r₁ .0) >>= λ A. apply (r₁ .1) (check-asked ex r k .B)
+      >>= λ r₁. apply (r₁ .1) (r₁ .0) >>= λ A. apply (r₁ .1) (check-asked ex r k .T)
       >>= λ B. judge (mode m) (subtype (r₁ .1) A B) >>= λ r₂. give (Syntax.ChkSub, int, r₂ .1, r₁ .2 & r₂ .2 & leaf))
   unfolding chkSub
   sub-way k =
       let v = check-asked ex r k in
-      begin-check m (pre .rule) (v .is) refl refl (chosen-sub (mode m) (judge (mode m)) (v .Γ) (v .e) (v .B) (sym (pre .code) ∙ expr-code (v .at) .is) (pre .tag .is (v .B) (v .den)) (pre .choice))
+      begin-check m (pre .rule) (v .is) refl refl (chosen-sub (mode m) (judge (mode m)) (v .Γ) (v .e) (v .T) (sym (pre .code) ∙ expr-code (v .at) .is) (pre .tag .is (v .T) (v .den)) (pre .choice))
 
   pub sub-asks : Premise m (pre .rule) _ _ (λ j k. sub-way k) g (inferAsk ex)
   sub-asks = record { at = λ j k. ask-infer (check-asked ex r k .run) (check-asked ex r k .at) }
@@ -243,12 +243,12 @@ module _ (m : Mode) {q w : List ℕ} {s : State} {g : Span} {ex r : ℕ} (pre : 
     module _ {w₂ : List ℕ} {y : Step} (call₂ : Related true q w₁ w₂ (t .st) (t .g) (t .ty) r y) where
       sub-way₂ : {j : Judgement} (k : At (pre .rule) j)
           → Way q w w₁ s (t .st) (sub-back k .t & leaf) (4 * t .g .n + 4) (outcome m s j)
-          (relate m true (sub-back k .Δ) (sub-back k .C) (check-asked ex r k .B) >>= λ r₂. give (Syntax.ChkSub, int, r₂ .1, sub-back k .t & r₂ .2 & leaf))
+          (relate m true (sub-back k .Δ) (sub-back k .C) (check-asked ex r k .T) >>= λ r₂. give (Syntax.ChkSub, int, r₂ .1, sub-back k .t & r₂ .2 & leaf))
       unfolding branch
       sub-way₂ k = turn (sub-back k .way) (regroup _ _ _ _)
 
       sub-runs : {j : Judgement} (k : At (pre .rule) j)
-          → RunsJ q w₁ w₂ (t .st) y (relate m true (sub-back k .Δ) (sub-back k .C) (check-asked ex r k .B) (t .st .left) (t .st .fresh))
+          → RunsJ q w₁ w₂ (t .st) y (relate m true (sub-back k .Δ) (sub-back k .C) (check-asked ex r k .T) (t .st .left) (t .st .fresh))
       sub-runs k = let b = sub-back k in call₂ .run m _ _ _ (b .run) (b .den) (b .stays (check-asked ex r k .den))
 
       pub sub-else₂ : NotDone y → Fires m q w w₂ s g (checkAsk ex r) y

@@ -1,12 +1,13 @@
 -- What is asked, taken apart: a judgement that is asked as an inference is one, and so for the others.
 use mathlib.Core.Path.{_≡_, refl}
-use mathlib.Core.List.{List}
-use Prim.Native.Nat.{ℕ, _+_, _<_, _≤_, _^_}
+use mathlib.Core.List.{List, [], _∷_}
+use Prim.Native.Nat.{ℕ, zero, suc, _+_, _-_, _<_, _≤_, _^_}
 use native.Mathlib.Omega.{arith}
 use Rattle.definition.specs.Syntax.{TyVar, Ty, etvar, Expr, Ctx, Side, onL, onR, Judgement, infer, check, inferApp, subtype, inst}
 use Rattle.layout.specs.Places.{ExprAt}
 use Rattle.layout.specs.Denotes.{Den, Run}
 use Rattle.layout.specs.declared.Span.{Span}
+use Rattle.judging.specs.declared.Ask.{Ask}
 use Rattle.judging.specs.Asking.{Asks, as-infer, as-check, as-app, as-sub, as-inst-l, as-inst-r, inferAsk, checkAsk, appAsk, subAsk, instAsk, Small}
 
 -- ## Small enough to be written
@@ -36,47 +37,15 @@ pub record InferAsked (q w : List ℕ) (t : ℕ) (g : Span) (p : ℕ) (j : Judge
   pub run : Run q w t (g .at) (g .n) Γ
   pub at : ExprAt q p e
 
-pub infer-asked : {q w : List ℕ} {t : ℕ} {g : Span} (p : ℕ) {j : Judgement} → Asks q w t g (inferAsk p) j → InferAsked q w t g p j
-infer-asked p (as-infer {Γ = Γ} {e = e} k r x) = record { Γ = Γ; e = e; is = refl; run = r; at = x }
-infer-asked p (as-check k r x d) = absurd (omega arith)
-infer-asked p (as-app k r x d) = absurd (omega arith)
-infer-asked p (as-sub k z r d e) = absurd (omega arith)
-infer-asked p (as-inst-l k z r d e) = absurd (omega arith)
-infer-asked p (as-inst-r k z r d e) = absurd (omega arith)
-
-pub record CheckAsked (q w : List ℕ) (t : ℕ) (g : Span) (p b : ℕ) (j : Judgement) : Type 0 where
+-- of an expression and a type: check and inferApp
+pub record TypedAsked (form : Ctx → Expr → Ty → Judgement) (q w : List ℕ) (t : ℕ) (g : Span) (p b : ℕ) (j : Judgement) : Type 0 where
   pub Γ : Ctx
   pub e : Expr
-  pub B : Ty
-  pub is : j ≡ check Γ e B
+  pub T : Ty
+  pub is : j ≡ form Γ e T
   pub run : Run q w t (g .at) (g .n) Γ
   pub at : ExprAt q p e
-  pub den : Den q w t b B
-
-pub check-asked : {q w : List ℕ} {t : ℕ} {g : Span} (p b : ℕ) {j : Judgement} → Asks q w t g (checkAsk p b) j → CheckAsked q w t g p b j
-check-asked p b (as-infer k r x) = absurd (omega arith)
-check-asked p b (as-check {Γ = Γ} {e = e} {B = B} k r x d) = record { Γ = Γ; e = e; B = B; is = refl; run = r; at = x; den = d }
-check-asked p b (as-app k r x d) = absurd (omega arith)
-check-asked p b (as-sub k z r d e) = absurd (omega arith)
-check-asked p b (as-inst-l k z r d e) = absurd (omega arith)
-check-asked p b (as-inst-r k z r d e) = absurd (omega arith)
-
-pub record AppAsked (q w : List ℕ) (t : ℕ) (g : Span) (a p : ℕ) (j : Judgement) : Type 0 where
-  pub Γ : Ctx
-  pub e : Expr
-  pub A : Ty
-  pub is : j ≡ inferApp Γ e A
-  pub run : Run q w t (g .at) (g .n) Γ
-  pub at : ExprAt q p e
-  pub den : Den q w t a A
-
-pub app-asked : {q w : List ℕ} {t : ℕ} {g : Span} (a p : ℕ) {j : Judgement} → Asks q w t g (appAsk a p) j → AppAsked q w t g a p j
-app-asked a p (as-infer k r x) = absurd (omega arith)
-app-asked a p (as-check k r x d) = absurd (omega arith)
-app-asked a p (as-app {Γ = Γ} {e = e} {A = A} k r x d) = record { Γ = Γ; e = e; A = A; is = refl; run = r; at = x; den = d }
-app-asked a p (as-sub k z r d e) = absurd (omega arith)
-app-asked a p (as-inst-l k z r d e) = absurd (omega arith)
-app-asked a p (as-inst-r k z r d e) = absurd (omega arith)
+  pub den : Den q w t b T
 
 pub record SubAsked (q w : List ℕ) (t : ℕ) (g : Span) (a b : ℕ) (j : Judgement) : Type 0 where
   pub Γ : Ctx
@@ -87,14 +56,6 @@ pub record SubAsked (q w : List ℕ) (t : ℕ) (g : Span) (a b : ℕ) (j : Judge
   pub left : Den q w t a A
   pub right : Den q w t b B
 
-pub sub-asked : {q w : List ℕ} {t : ℕ} {g : Span} (a b : ℕ) {j : Judgement} → Asks q w t g (subAsk a b) j → SubAsked q w t g a b j
-sub-asked a b (as-infer k r x) = absurd (omega arith)
-sub-asked a b (as-check k r x d) = absurd (omega arith)
-sub-asked a b (as-app k r x d) = absurd (omega arith)
-sub-asked a b (as-sub {Γ = Γ} {A = A} {B = B} k z r d e) = record { Γ = Γ; A = A; B = B; is = refl; run = r; left = d; right = e }
-sub-asked a b (as-inst-l k z r d e) = absurd (omega arith)
-sub-asked a b (as-inst-r k z r d e) = absurd (omega arith)
-
 pub record InstAsked (q w : List ℕ) (t : ℕ) (g : Span) (s : Side) (a b : ℕ) (j : Judgement) : Type 0 where
   pub Γ : Ctx
   pub x : TyVar
@@ -104,19 +65,42 @@ pub record InstAsked (q w : List ℕ) (t : ℕ) (g : Span) (s : Side) (a b : ℕ
   pub unknown : Den q w t a (etvar x)
   pub den : Den q w t b T
 
-pub inst-asked : {q w : List ℕ} {t : ℕ} {g : Span} (s : Side) (a b : ℕ) {j : Judgement} → Asks q w t g (instAsk s a b) j → InstAsked q w t g s a b j
-inst-asked onL a b (as-infer k r x) = absurd (omega arith)
-inst-asked onL a b (as-check k r x d) = absurd (omega arith)
-inst-asked onL a b (as-app k r x d) = absurd (omega arith)
-inst-asked onL a b (as-sub k z r d e) = absurd (omega arith)
-inst-asked onL a b (as-inst-l {Γ = Γ} {x = x} {T = T} k z r d e) = record { Γ = Γ; x = x; T = T; is = refl; run = r; unknown = d; den = e }
-inst-asked onL a b (as-inst-r k z r d e) = absurd (omega arith)
-inst-asked onR a b (as-infer k r x) = absurd (omega arith)
-inst-asked onR a b (as-check k r x d) = absurd (omega arith)
-inst-asked onR a b (as-app k r x d) = absurd (omega arith)
-inst-asked onR a b (as-sub k z r d e) = absurd (omega arith)
-inst-asked onR a b (as-inst-l k z r d e) = absurd (omega arith)
-inst-asked onR a b (as-inst-r {Γ = Γ} {x = x} {T = T} k z r d e) = record { Γ = Γ; x = x; T = T; is = refl; run = r; unknown = e; den = d }
+-- one type of several, by its number
+abbrev pub nth : List {1} (Type 0) → ℕ → Type 0
+nth [] n = ⊥
+nth (T ∷ Ts) zero = T
+nth (T ∷ Ts) (suc n) = nth Ts n
+
+-- what a judgement of kind k is
+abbrev Asked : List ℕ → List ℕ → ℕ → Span → Ask → Judgement → ℕ → Type 0
+Asked q w t g a j k =
+    nth (InferAsked q w t g (a .ex) j ∷ TypedAsked check q w t g (a .ex) (a .right) j ∷ TypedAsked inferApp q w t g (a .ex) (a .left) j
+    ∷ SubAsked q w t g (a .left) (a .right) j ∷ InstAsked q w t g onL (a .left) (a .right) j ∷ InstAsked q w t g onR (a .right) (a .left) j ∷ []) (k - 1)
+
+asked : {q w : List ℕ} {t : ℕ} {g : Span} {a : Ask} {j : Judgement} → Asks q w t g a j → Asked q w t g a j (a .kind)
+asked (as-infer {Γ = Γ} {e = e} k r x) = rw k (record { Γ = Γ; e = e; is = refl; run = r; at = x })
+asked (as-check {Γ = Γ} {e = e} {B = B} k r x d) = rw k (record { Γ = Γ; e = e; T = B; is = refl; run = r; at = x; den = d })
+asked (as-app {Γ = Γ} {e = e} {A = A} k r x d) = rw k (record { Γ = Γ; e = e; T = A; is = refl; run = r; at = x; den = d })
+asked (as-sub {Γ = Γ} {A = A} {B = B} k z r d e) = rw k (record { Γ = Γ; A = A; B = B; is = refl; run = r; left = d; right = e })
+asked (as-inst-l {Γ = Γ} {x = x} {T = T} k z r d e) = rw k (record { Γ = Γ; x = x; T = T; is = refl; run = r; unknown = d; den = e })
+asked (as-inst-r {Γ = Γ} {x = x} {T = T} k z r d e) = rw k (record { Γ = Γ; x = x; T = T; is = refl; run = r; unknown = e; den = d })
+
+module _ {q w : List ℕ} {t : ℕ} {g : Span} where
+  pub infer-asked : (p : ℕ) {j : Judgement} → Asks q w t g (inferAsk p) j → InferAsked q w t g p j
+  infer-asked p x = asked x
+
+  pub check-asked : (p b : ℕ) {j : Judgement} → Asks q w t g (checkAsk p b) j → TypedAsked check q w t g p b j
+  check-asked p b x = asked x
+
+  pub app-asked : (a p : ℕ) {j : Judgement} → Asks q w t g (appAsk a p) j → TypedAsked inferApp q w t g p a j
+  app-asked a p x = asked x
+
+  pub sub-asked : (a b : ℕ) {j : Judgement} → Asks q w t g (subAsk a b) j → SubAsked q w t g a b j
+  sub-asked a b x = asked x
+
+  pub inst-asked : (s : Side) (a b : ℕ) {j : Judgement} → Asks q w t g (instAsk s a b) j → InstAsked q w t g s a b j
+  inst-asked onL a b x = asked x
+  inst-asked onR a b x = asked x
 
 -- an instantiation is asked from its parts
 pub asks-inst : {q w : List ℕ} {t : ℕ} {g : Span} (s : Side) {a b : ℕ} {Γ : Ctx} {x : TyVar} {T : Ty} → Run q w t (g .at) (g .n) Γ → Den q w t a (etvar x)

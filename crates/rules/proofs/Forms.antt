@@ -1,10 +1,11 @@
 -- What an expression's code tells of the expression: one inversion for all eleven forms.
 use mathlib.Core.Path.{_≡_, refl, sym, _∙_}
 use mathlib.Core.List.{List, [], _∷_}
-use Prim.Native.Nat.{ℕ, zero, suc, _+_, _-_, _≤_}
+use Prim.Native.Nat.{ℕ, _+_, _-_, _≤_}
 use lib.ListN.{getD}
 use Rattle.definition.specs.Syntax.{TmVar, TyVar, Ty, Expr, evar, app, abs, tapp, tabs, ann, litInt, litBool, letIn, ifThenElse, binOp}
 use Rattle.layout.specs.Places.{exprSize, size, CodeAt, WordAt, TyAt, ExprAt, evar-at, app-at, abs-at, tapp-at, tabs-at, ann-at, litInt-at, litBool-at, letIn-at, ifThenElse-at, binOp-at}
+use Rattle.judging.proofs.Asking.{nth}
 
 -- ## The forms, each with where its parts stand
 
@@ -82,11 +83,6 @@ pub record BinOp (q : List ℕ) (p : ℕ) (e : Expr) : Type 0 where
   pub second : ExprAt q (p + 2 + exprSize f) d
 
 -- ## The inversion
-
-abbrev nth : List {1} (Type 0) → ℕ → Type 0
-nth [] n = ⊥
-nth (T ∷ Ts) zero = T
-nth (T ∷ Ts) (suc n) = nth Ts n
 
 -- what the expression of code k at p is
 abbrev pub Form : List ℕ → ℕ → Expr → ℕ → Type 0

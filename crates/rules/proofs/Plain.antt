@@ -108,7 +108,7 @@ module _ {q w : List ℕ} {s : State} {g : Span} {ex : ℕ} where
           (λ m j k.
           let v = check-asked ex ty k in
           let f : LitInt ex (v .e) = form 22 (pre .code ∙ e) (v .at) in
-          let b : v .B ≡ int = is-int (v .B) (sym (pre .tag .is (v .B) (v .den)) ∙ t) in
+          let b : v .T ≡ int = is-int (v .T) (sym (pre .tag .is (v .T) (v .den)) ∙ t) in
           let c : checkRule (mode m) (judge (mode m)) (v .Γ) (litInt ex (f .l) (f .h)) int ≡ closes Syntax.ChkLitInt (v .Γ) = chk-int _ _ _ ex (f .l) (f .h) in
           record { C = int; Γ = v .Γ; run = v .run; den = int-den (pre .rule .room .base); is = checks (mode m) _ _ (v .is) (f .is) b (rw c refl) })
       go (lit-bool i e t) =
@@ -116,7 +116,7 @@ module _ {q w : List ℕ} {s : State} {g : Span} {ex : ℕ} where
           (λ m j k.
           let v = check-asked ex ty k in
           let f : LitBool ex (v .e) = form 23 (pre .code ∙ e) (v .at) in
-          let b : v .B ≡ bool = is-bool (v .B) (sym (pre .tag .is (v .B) (v .den)) ∙ t) in
+          let b : v .T ≡ bool = is-bool (v .T) (sym (pre .tag .is (v .T) (v .den)) ∙ t) in
           let c : checkRule (mode m) (judge (mode m)) (v .Γ) (litBool ex (f .b)) bool ≡ closes Syntax.ChkLitBool (v .Γ) = chk-bool _ _ _ ex (f .b) in
           record { C = int; Γ = v .Γ; run = v .run; den = int-den (pre .rule .room .base); is = checks (mode m) _ _ (v .is) (f .is) b (rw c refl) })
       go (lam i e t) = absurd (omega arith)
@@ -131,10 +131,10 @@ module _ {q w : List ℕ} {s : State} {g : Span} {ex : ℕ} where
       errors (pre .app .rule)
       (λ m j k.
       let v = app-asked ty ex k in
-      let c = pre .app .tag .is (v .A) (v .den) in
-      let n = no-app (judge (mode m)) (v .Γ) (v .e) (v .A) (λ e. pre .no-arrow (c ∙ e)) (λ e. pre .no-etvar (c ∙ e)) in
+      let c = pre .app .tag .is (v .T) (v .den) in
+      let n = no-app (judge (mode m)) (v .Γ) (v .e) (v .T) (λ e. pre .no-arrow (c ∙ e)) (λ e. pre .no-etvar (c ∙ e)) in
       record {
-        e = applicationTypeError (v .A);
+        e = applicationTypeError (v .T);
         failed = record { base = pre .app .rule .room .base; within = room-within (pre .app .rule .room); code = refl; name = refl; types = e-application (v .den); left = refl };
         is = applies (mode m) _ _ (v .is) refl (rw n refl);
       })
