@@ -35,9 +35,6 @@ module _ (m : Mode) {q w : List ℕ} {s : State} {g : Span} {ex : ℕ} (pre : In
   pub ifs : {j : Judgement} (k : At (pre .rule) j) → If q ex (infer-asked ex k .e)
   ifs k = shape pre k
 
-  pub if-table : 16 + (ex + 1) < length w
-  if-table = in-table (pre .rule .room) (expr-code (ifs (pre .rule .asks) .first) .inside)
-
   pub if-way : {j : Judgement} (k : At (pre .rule) j)
       → Way q w w s s leaf (20 + 28 * g .n) (outcome m s j)
       (judge (mode m) (check (infer-asked ex k .Γ) (ifs k .f) bool)

@@ -20,7 +20,6 @@ use Rattle.layout.specs.declared.TmVar as tmvar
 use Rattle.layout.specs.declared.TyVar as tyvar
 use Rattle.layout.specs.declared.Made.{Made}
 use Rattle.layout.specs.declared.Made.the-variants as made
-use Rattle.layout.proofs.Places.{ty-code, expr-code}
 use Rattle.layout.proofs.Denotes.{run-frame}
 use Rattle.types.proofs.Held.{room-held}
 use Rattle.contexts.specs.Build.{Space, Pushed}
@@ -43,7 +42,7 @@ use Rattle.rules.specs.Going.{LamPre, LamIn, Two, DenOne, Instantiated, PlainOu
 use Rattle.rules.proofs.Forms.{Abs, Typed, TAbs}
 use Rattle.rules.proofs.Before.{tvar-entry}
 use Rattle.rules.proofs.Ways.{Way, went, grown, apply-pre, AppliedTo, apply-spent, apply-done, onward, there, finish}
-use Rattle.inference.proofs.Starting.{outcome, begin-infer, shape, after-expr, type-next, in-table}
+use Rattle.inference.proofs.Starting.{outcome, begin-infer, shape, after-expr, type-next}
 use Rattle.inference.proofs.Premise.{At, Premise, ask-infer, ask-check, Returns, returns}
 
 -- ## InfAnn
@@ -51,9 +50,6 @@ use Rattle.inference.proofs.Premise.{At, Premise, ask-infer, ask-check,
 module _ (m : Mode) {q w : List ℕ} {s : State} {g : Span} {ex : ℕ} (pre : InferPre q w s g ex 21) where
   pub ann : {j : Judgement} (k : At (pre .rule) j) → Typed Syntax.ann q ex (infer-asked ex k .e)
   ann k = shape pre k
-
-  pub ann-table : 16 + (ex + 1) < length w
-  ann-table = in-table (pre .rule .room) (expr-code (ann (pre .rule .asks) .first) .inside)
 
   module _ {a : ℕ} (h : a ≡ getD w (16 + (ex + 1)) 0) where
     ann-type : {j : Judgement} (k : At (pre .rule) j) → Den q w (s .top) a (ann k .A)
@@ -86,9 +82,6 @@ module _ (m : Mode) {q w : List ℕ} {s : State} {g : Span} {ex : ℕ} (pre : In
 
   pub abs-name : ex + 1 < length q
   abs-name = lam (pre .rule .asks) .name .within
-
-  pub abs-table : 16 + (ex + 2) < length w
-  abs-table = in-table (pre .rule .room) (ty-code (lam (pre .rule .asks) .type) .inside)
 
   pub abs-lam : LamPre q w s g (ex + 2)
   abs-lam = let k = pre .rule .asks in
@@ -188,9 +181,6 @@ module _ (m : Mode) {q w : List ℕ} {s : State} {g : Span} {ex : ℕ} (pre : In
 module _ (m : Mode) {q w : List ℕ} {s : State} {g : Span} {ex : ℕ} (pre : InferPre q w s g ex 19) where
   pub tapp : {j : Judgement} (k : At (pre .rule) j) → Typed Syntax.tapp q ex (infer-asked ex k .e)
   tapp k = shape pre k
-
-  pub tapp-table : 16 + (ex + 1) < length w
-  tapp-table = in-table (pre .rule .room) (expr-code (tapp (pre .rule .asks) .first) .inside)
 
   pub tapp-way : {j : Judgement} (k : At (pre .rule) j)
       → Way q w w s s leaf (20 + 28 * g .n) (outcome m s j)

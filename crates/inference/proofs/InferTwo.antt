@@ -20,7 +20,6 @@ use Rattle.layout.specs.declared.State.{State}
 use Rattle.layout.specs.declared.TmVar as tmvar
 use Rattle.layout.specs.declared.Made.{Made}
 use Rattle.layout.specs.declared.Made.the-variants as made
-use Rattle.layout.proofs.Places.{expr-code}
 use Rattle.contexts.specs.Build.{Space, Pushed}
 use Rattle.contexts.specs.declared.Opened.{Opened}
 use Rattle.substitution.specs.Calls.{ApplyPre, Applied}
@@ -40,7 +39,7 @@ use Rattle.rules.proofs.Before.{var-entry}
 use Rattle.rules.proofs.Ways.{Way, grown, apply-pre, AppliedTo, apply-spent, apply-done, finish}
 use Rattle.inference.specs.declared.Sides.{Sides}
 use Rattle.inference.specs.Rules.{infSides, Operates}
-use Rattle.inference.proofs.Starting.{outcome, begin-infer, shape, expr-next, in-table}
+use Rattle.inference.proofs.Starting.{outcome, begin-infer, shape, expr-next}
 use Rattle.inference.proofs.Premise.{At, Asked, Premise, ask-infer, ask-check, ask-app, Returns, returns}
 
 -- ## InfApp
@@ -48,9 +47,6 @@ use Rattle.inference.proofs.Premise.{At, Asked, Premise, ask-infer, ask
 module _ (m : Mode) {q w : List ℕ} {s : State} {g : Span} {ex : ℕ} (pre : InferPre q w s g ex 17) where
   pub app : {j : Judgement} (k : At (pre .rule) j) → App q ex (infer-asked ex k .e)
   app k = shape pre k
-
-  pub app-table : 16 + (ex + 1) < length w
-  app-table = in-table (pre .rule .room) (expr-code (app (pre .rule .asks) .first) .inside)
 
   pub app-way : {j : Judgement} (k : At (pre .rule) j)
       → Way q w w s s leaf (20 + 28 * g .n) (outcome m s j)
@@ -98,9 +94,6 @@ module _ (m : Mode) {q w : List ℕ} {s : State} {g : Span} {ex : ℕ} (pre : In
 
   pub let-name : ex + 1 < length q
   let-name = lets (pre .rule .asks) .name .within
-
-  pub let-table : 16 + (ex + 2) < length w
-  let-table = in-table (pre .rule .room) (expr-code (lets (pre .rule .asks) .first) .inside)
 
   pub let-way : {j : Judgement} (k : At (pre .rule) j)
       → Way q w w s s leaf (20 + 28 * g .n) (outcome m s j)
@@ -178,9 +171,6 @@ module _ (m : Mode) {q w : List ℕ} {s : State} {g : Span} {ex : ℕ} (pre : In
 
   pub op-word : ex + 1 < length q
   op-word = op (pre .rule .asks) .op .within
-
-  pub op-table : 16 + (ex + 2) < length w
-  op-table = in-table (pre .rule .room) (expr-code (op (pre .rule .asks) .first) .inside)
 
   module _ {n : ℕ} {o : Sides} (h : n ≡ getD q (ex + 1) 0) (by : Operates n o) where
     op-side : Den q w (s .top) (o .1) (by .A)

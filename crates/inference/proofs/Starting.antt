@@ -1,7 +1,7 @@
 -- How the rules of infer, check and infer_app start: what is to be done, and where the parts of an expression stand.
 use mathlib.Core.Path.{_≡_, refl, _∙_}
 use mathlib.Core.List.{List}
-use Prim.Native.Nat.{ℕ, _+_, _*_, _<_}
+use Prim.Native.Nat.{ℕ, _+_, _*_, _≤_, _<_}
 use native.Mathlib.Omega.{arith}
 use lib.ListN.{length, getD}
 use Rattle.definition.specs.Syntax.{Ty, Expr, Ctx, Judgement, infer, check, inferApp, leaf}
@@ -66,6 +66,10 @@ in-table r h = omega (arith, r .base .floor, r .fits, r .low)
 -- the expression's place is small
 pub place : {q w : List ℕ} {s : State} {g : Span} {ex n : ℕ} → InferPre q w s g ex n → ex < 2048
 place {ex = ex} pre = expr-code (infer-asked ex (pre .rule .asks) .at) .inside
+
+-- and the table has words for the two places after it too
+pub table : {q w : List ℕ} {s : State} {g : Span} {ex n : ℕ} (i : ℕ) → i ≤ 2 → InferPre q w s g ex n → 16 + (ex + i) < length w
+table i h pre = let r = pre .rule .room in omega (arith, place pre, r .base .floor, r .fits, r .low)
 
 pub check-place : {q w : List ℕ} {s : State} {g : Span} {ex ty : ℕ} → RulePre q w s g (checkAsk ex ty) → ex < 2048
 check-place {ex = ex} {ty = ty} pre = expr-code (check-asked ex ty (pre .asks) .at) .inside

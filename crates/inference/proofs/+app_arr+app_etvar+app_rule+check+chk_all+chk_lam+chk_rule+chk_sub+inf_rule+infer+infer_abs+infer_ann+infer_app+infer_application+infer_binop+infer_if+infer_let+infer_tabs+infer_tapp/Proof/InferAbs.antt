@@ -1,9 +1,9 @@
 -- `infer_abs`: InfLam.
 use borrow.Author.Needs.{needs}
 use Prim.Native.Nat.{ℕ}
-use Rattle.inference.proofs.InferOne.{abs-name, abs-table, abs-lam, abs-done, abs-asks}
+use Rattle.inference.proofs.InferOne.{abs-name, abs-lam, abs-done, abs-asks}
 use Rattle.inference.proofs.Premise.{may-ask, unless, space-back}
-use Rattle.inference.proofs.Starting.{place}
+use Rattle.inference.proofs.Starting.{place, table}
 use mathlib.Core.Path.{refl}
 use native.Mathlib.Omega.{arith}
 use Rattle.inference.proofs.infer_abs.Reads as infer-abs
@@ -26,7 +26,7 @@ pub infer-abs-add-word : (t : ℕ) → infer-abs-lts.Need-add-word (infer-abs-cl
 infer-abs-add-word t c = omega (arith, place (c .before .before .before .before .pre .1))
 
 pub infer-abs-word-requires : (t : ℕ) → infer-abs-lts.Need-word-requires (infer-abs-claims t) (infer-abs-at t) infer-abs.Post
-infer-abs-word-requires t c κs = abs-table (c .before .before .before .before .args .m) (c .before .before .before .before .pre .1)
+infer-abs-word-requires t c κs = table 2 (omega arith) (c .before .before .before .before .pre .1)
 
 pub infer-abs-lam-in-requires : (t : ℕ) → infer-abs-lts.Need-lam-in-requires (infer-abs-claims t) (infer-abs-at t) infer-abs.Post
 infer-abs-lam-in-requires t c κs = abs-lam (c .before .before .before .before .before .before .args .m) (c .before .before .before .before .before .before .pre .1)

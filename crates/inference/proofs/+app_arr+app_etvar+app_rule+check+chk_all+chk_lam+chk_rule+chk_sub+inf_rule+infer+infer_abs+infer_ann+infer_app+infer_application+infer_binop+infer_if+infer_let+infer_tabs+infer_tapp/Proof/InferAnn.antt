@@ -1,9 +1,9 @@
 -- `infer_ann`: InfAnn.
 use borrow.Author.Needs.{needs}
 use Prim.Native.Nat.{ℕ}
-use Rattle.inference.proofs.InferOne.{ann-table, ann-done, ann-asks}
+use Rattle.inference.proofs.InferOne.{ann-done, ann-asks}
 use Rattle.inference.proofs.Premise.{unless, may-ask}
-use Rattle.inference.proofs.Starting.{place}
+use Rattle.inference.proofs.Starting.{place, table}
 use native.Mathlib.Omega.{arith}
 use Rattle.inference.proofs.infer_ann.Reads as infer-ann
 use Rattle.inference.proofs.+app_arr+app_etvar+app_rule+check+chk_all+chk_lam+chk_rule+chk_sub+inf_rule+infer+infer_abs+infer_ann+infer_app+infer_application+infer_binop+infer_if+infer_let+infer_tabs+infer_tapp.Lts-infer_ann as infer-ann-lts
@@ -16,7 +16,7 @@ pub infer-ann-add-word : (t : ℕ) → infer-ann-lts.Need-add-word (infer-ann-cl
 infer-ann-add-word t c = omega (arith, place (c .before .before .before .pre .1))
 
 pub infer-ann-word-requires : (t : ℕ) → infer-ann-lts.Need-word-requires (infer-ann-claims t) (infer-ann-at t) infer-ann.Post
-infer-ann-word-requires t c κs = ann-table (c .before .before .before .args .m) (c .before .before .before .pre .1)
+infer-ann-word-requires t c κs = table 1 (omega arith) (c .before .before .before .pre .1)
 
 pub infer-ann-check-requires : (t : ℕ) → infer-ann-lts.Need-check-requires (infer-ann-claims t) (infer-ann-at t) infer-ann.Post
 infer-ann-check-requires t c κs = may-ask (ann-asks (c .before .before .before .before .before .args .m) (c .before .before .before .before .before .pre .1) (c .before .word .ensures .0)) (c .before .before .before .before .before .pre .0)

@@ -2,9 +2,9 @@
 use borrow.Author.Needs.{needs}
 use Prim.Native.Nat.{ℕ}
 use mathlib.Core.Path.{_∙_}
-use Rattle.inference.proofs.InferTwo.{app-table, app-apply, app-spent, app-done, app-asks, app-asks₂}
+use Rattle.inference.proofs.InferTwo.{app-apply, app-spent, app-done, app-asks, app-asks₂}
 use Rattle.inference.proofs.Premise.{unless, may-ask}
-use Rattle.inference.proofs.Starting.{place}
+use Rattle.inference.proofs.Starting.{place, table}
 use native.Mathlib.Omega.{arith}
 use Rattle.inference.proofs.infer_application.Reads as infer-application
 use Rattle.inference.proofs.+app_arr+app_etvar+app_rule+check+chk_all+chk_lam+chk_rule+chk_sub+inf_rule+infer+infer_abs+infer_ann+infer_app+infer_application+infer_binop+infer_if+infer_let+infer_tabs+infer_tapp.Lts-infer_application as infer-application-lts
@@ -17,7 +17,7 @@ pub infer-application-add-word : (t : ℕ) → infer-application-lts.Need-add-wo
 infer-application-add-word t c = omega (arith, place (c .before .before .before .pre .1))
 
 pub infer-application-word-requires : (t : ℕ) → infer-application-lts.Need-word-requires (infer-application-claims t) (infer-application-at t) infer-application.Post
-infer-application-word-requires t c κs = app-table (c .before .before .before .args .m) (c .before .before .before .pre .1)
+infer-application-word-requires t c κs = table 1 (omega arith) (c .before .before .before .pre .1)
 
 pub infer-application-infer-requires : (t : ℕ) → infer-application-lts.Need-infer-requires (infer-application-claims t) (infer-application-at t) infer-application.Post
 infer-application-infer-requires t c κs = may-ask (app-asks (c .before .before .before .before .before .args .m) (c .before .before .before .before .before .pre .1)) (c .before .before .before .before .before .pre .0)

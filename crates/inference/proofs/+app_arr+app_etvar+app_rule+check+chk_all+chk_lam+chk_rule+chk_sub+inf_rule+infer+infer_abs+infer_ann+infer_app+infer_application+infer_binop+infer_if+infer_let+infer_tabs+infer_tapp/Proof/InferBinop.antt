@@ -6,9 +6,9 @@ use lib.ListN.{length}
 use mathlib.Core.Logic.{⊎-elim, inl, inr}
 use Rattle.definition.specs.Syntax.{pick}
 use Rattle.judging.specs.Ending.{Judged}
-use Rattle.inference.proofs.InferTwo.{leftAsk, Picks, op-word, op-table, op-done, op-asks, op-asks₂}
+use Rattle.inference.proofs.InferTwo.{leftAsk, Picks, op-word, op-done, op-asks, op-asks₂}
 use Rattle.inference.proofs.Premise.{unless, may-ask}
-use Rattle.inference.proofs.Starting.{place}
+use Rattle.inference.proofs.Starting.{place, table}
 use native.Mathlib.Omega.{arith}
 use Rattle.inference.proofs.infer_binop.Reads as infer-binop
 use Rattle.inference.proofs.+app_arr+app_etvar+app_rule+check+chk_all+chk_lam+chk_rule+chk_sub+inf_rule+infer+infer_abs+infer_ann+infer_app+infer_application+infer_binop+infer_if+infer_let+infer_tabs+infer_tapp.Lts-infer_binop as infer-binop-lts
@@ -42,7 +42,7 @@ pub infer-binop-add-word : (t : ℕ) → infer-binop-lts.Need-add-word (infer-bi
 infer-binop-add-word t c = omega (arith, place (c .before .before .before .before .pre .1))
 
 pub infer-binop-word-requires-2 : (t : ℕ) → infer-binop-lts.Need-word-requires-2 (infer-binop-claims t) (infer-binop-at t) infer-binop.Post
-infer-binop-word-requires-2 t c κs = op-table (c .before .before .before .before .args .m) (c .before .before .before .before .pre .1)
+infer-binop-word-requires-2 t c κs = table 2 (omega arith) (c .before .before .before .before .pre .1)
 
 pub infer-binop-operator-requires : (t : ℕ) → infer-binop-lts.Need-operator-requires (infer-binop-claims t) (infer-binop-at t) infer-binop.Post
 infer-binop-operator-requires t c κs = tt

@@ -2,9 +2,9 @@
 use borrow.Author.Needs.{needs}
 use Prim.Native.Nat.{ℕ}
 use mathlib.Core.Path.{_∙_}
-use Rattle.inference.proofs.InferIf.{if-table, if-place, if-table₂, if-two, if-else₄, if-done, if-asks, if-asks₂, if-asks₃}
+use Rattle.inference.proofs.InferIf.{if-place, if-table₂, if-two, if-else₄, if-done, if-asks, if-asks₂, if-asks₃}
 use Rattle.inference.proofs.Premise.{unless, may-ask}
-use Rattle.inference.proofs.Starting.{place}
+use Rattle.inference.proofs.Starting.{place, table}
 use native.Mathlib.Omega.{arith}
 use Rattle.inference.proofs.infer_if.Reads as infer-if
 use Rattle.inference.proofs.+app_arr+app_etvar+app_rule+check+chk_all+chk_lam+chk_rule+chk_sub+inf_rule+infer+infer_abs+infer_ann+infer_app+infer_application+infer_binop+infer_if+infer_let+infer_tabs+infer_tapp.Lts-infer_if as infer-if-lts
@@ -17,7 +17,7 @@ pub infer-if-add-word : (t : ℕ) → infer-if-lts.Need-add-word (infer-if-claim
 infer-if-add-word t c = omega (arith, place (c .before .before .before .pre .1))
 
 pub infer-if-word-requires : (t : ℕ) → infer-if-lts.Need-word-requires (infer-if-claims t) (infer-if-at t) infer-if.Post
-infer-if-word-requires t c κs = if-table (c .before .before .before .args .m) (c .before .before .before .pre .1)
+infer-if-word-requires t c κs = table 1 (omega arith) (c .before .before .before .pre .1)
 
 pub infer-if-add-word-2 : (t : ℕ) → infer-if-lts.Need-add-word-2 (infer-if-claims t) (infer-if-at t) infer-if.Post
 infer-if-add-word-2 t c = omega (arith, if-place (c .before .before .before .before .before .args .m) (c .before .before .before .before .before .pre .1) (c .before .word .ensures .0))

@@ -1,9 +1,9 @@
 -- `infer_let`: InfLet.
 use borrow.Author.Needs.{needs}
 use Prim.Native.Nat.{ℕ}
-use Rattle.inference.proofs.InferTwo.{let-name, let-table, let-space, let-done, let-asks, let-asks₂}
+use Rattle.inference.proofs.InferTwo.{let-name, let-space, let-done, let-asks, let-asks₂}
 use Rattle.inference.proofs.Premise.{may-ask, unless, space-back}
-use Rattle.inference.proofs.Starting.{place}
+use Rattle.inference.proofs.Starting.{place, table}
 use mathlib.Core.Path.{refl, _∙_}
 use native.Mathlib.Omega.{arith}
 use Rattle.inference.proofs.infer_let.Reads as infer-let
@@ -26,7 +26,7 @@ pub infer-let-add-word : (t : ℕ) → infer-let-lts.Need-add-word (infer-let-cl
 infer-let-add-word t c = omega (arith, place (c .before .before .before .before .pre .1))
 
 pub infer-let-word-requires : (t : ℕ) → infer-let-lts.Need-word-requires (infer-let-claims t) (infer-let-at t) infer-let.Post
-infer-let-word-requires t c κs = let-table (c .before .before .before .before .args .m) (c .before .before .before .before .pre .1)
+infer-let-word-requires t c κs = table 2 (omega arith) (c .before .before .before .before .pre .1)
 
 pub infer-let-infer-requires : (t : ℕ) → infer-let-lts.Need-infer-requires (infer-let-claims t) (infer-let-at t) infer-let.Post
 infer-let-infer-requires t c κs = may-ask (let-asks (c .before .before .before .before .before .before .args .m) (c .before .before .before .before .before .before .pre .1)) (c .before .before .before .before .before .before .pre .0)

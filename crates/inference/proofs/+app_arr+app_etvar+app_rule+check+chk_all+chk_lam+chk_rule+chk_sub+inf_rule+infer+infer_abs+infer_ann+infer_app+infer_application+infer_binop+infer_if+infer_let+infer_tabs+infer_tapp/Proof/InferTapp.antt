@@ -1,9 +1,9 @@
 -- `infer_tapp`: InfTApp.
 use borrow.Author.Needs.{needs}
 use Prim.Native.Nat.{ℕ}
-use Rattle.inference.proofs.InferOne.{tapp-table, tapp-two, tapp-end, tapp-done, tapp-asks}
+use Rattle.inference.proofs.InferOne.{tapp-two, tapp-end, tapp-done, tapp-asks}
 use Rattle.inference.proofs.Premise.{unless, may-ask}
-use Rattle.inference.proofs.Starting.{place}
+use Rattle.inference.proofs.Starting.{place, table}
 use native.Mathlib.Omega.{arith}
 use Rattle.inference.proofs.infer_tapp.Reads as infer-tapp
 use Rattle.inference.proofs.+app_arr+app_etvar+app_rule+check+chk_all+chk_lam+chk_rule+chk_sub+inf_rule+infer+infer_abs+infer_ann+infer_app+infer_application+infer_binop+infer_if+infer_let+infer_tabs+infer_tapp.Lts-infer_tapp as infer-tapp-lts
@@ -16,7 +16,7 @@ pub infer-tapp-add-word : (t : ℕ) → infer-tapp-lts.Need-add-word (infer-tapp
 infer-tapp-add-word t c = omega (arith, place (c .before .before .before .pre .1))
 
 pub infer-tapp-word-requires : (t : ℕ) → infer-tapp-lts.Need-word-requires (infer-tapp-claims t) (infer-tapp-at t) infer-tapp.Post
-infer-tapp-word-requires t c κs = tapp-table (c .before .before .before .args .m) (c .before .before .before .pre .1)
+infer-tapp-word-requires t c κs = table 1 (omega arith) (c .before .before .before .pre .1)
 
 pub infer-tapp-infer-requires : (t : ℕ) → infer-tapp-lts.Need-infer-requires (infer-tapp-claims t) (infer-tapp-at t) infer-tapp.Post
 infer-tapp-infer-requires t c κs = may-ask (tapp-asks (c .before .before .before .before .before .args .m) (c .before .before .before .before .before .pre .1)) (c .before .before .before .before .before .pre .0)
