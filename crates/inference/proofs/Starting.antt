@@ -67,7 +67,7 @@ in-table r h = omega (arith, r .base .floor, r .fits, r .low)
 pub place : {q w : List ℕ} {s : State} {g : Span} {ex n : ℕ} → InferPre q w s g ex n → ex < 2048
 place {ex = ex} pre = expr-code (infer-asked ex (pre .rule .asks) .at) .inside
 
--- and the table has words for the two places after it too
+-- and work reaches past the words that the table has, or would have, for the two places after it
 pub table : {q w : List ℕ} {s : State} {g : Span} {ex n : ℕ} (i : ℕ) → i ≤ 2 → InferPre q w s g ex n → 16 + (ex + i) < length w
 table i h pre = let r = pre .rule .room in omega (arith, place pre, r .base .floor, r .fits, r .low)
 

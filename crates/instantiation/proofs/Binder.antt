@@ -11,12 +11,12 @@ use Rattle.layout.specs.declared.State.{State}
 use Rattle.layout.proofs.Denotes.{den-frame}
 use Rattle.judging.specs.Asking.{mode, Asks, instAsk, Small}
 use Rattle.judging.specs.declared.Mode.{Mode}
-use Rattle.judging.proofs.Asking.{InstAsked, inst-asked, asks-inst}
+use Rattle.judging.proofs.Asking.{small-inst, InstAsked, inst-asked, asks-inst}
 use Rattle.steps.specs.Opening.{ForallPre, OpensOn}
 use Rattle.steps.specs.Sides.{binder}
 use Rattle.steps.specs.declared.Instance.{Instance}
 use Rattle.steps.proofs.Forms.{IsForall, is-forall}
-use Rattle.steps.proofs.Going.{forall-pre, ref-small, small-inst}
+use Rattle.steps.proofs.Going.{forall-pre, ref-small}
 use Rattle.steps.proofs.Under.{Under}
 use Rattle.instantiation.specs.Sides.{FormPre}
 use Rattle.instantiation.proofs.Sides.{instAll}

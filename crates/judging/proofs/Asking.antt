@@ -1,7 +1,7 @@
 -- What is asked, taken apart: a judgement that is asked as an inference is one, and so for the others.
 use mathlib.Core.Path.{_≡_, refl}
 use mathlib.Core.List.{List, [], _∷_}
-use Prim.Native.Nat.{ℕ, zero, suc, _+_, _-_, _<_, _≤_, _^_}
+use Prim.Native.Nat.{ℕ, zero, suc, _-_, _<_, _^_}
 use native.Mathlib.Omega.{arith}
 use Rattle.definition.specs.Syntax.{TyVar, Ty, etvar, Expr, Ctx, Side, onL, onR, Judgement, infer, check, inferApp, subtype, inst}
 use Rattle.layout.specs.Places.{ExprAt}
@@ -15,18 +15,18 @@ use Rattle.judging.specs.Asking.{Asks, as-infer, as-check, as-app, as-su
 pub small-infer : (e : ℕ) → e < 2048 → Small (inferAsk e)
 small-infer e h = record { kind = omega arith; ex = omega arith; left = omega arith; right = omega arith }
 
-pub small-check : (e B : ℕ) → e < 2048 → B < 1002048 → Small (checkAsk e B)
-small-check e B h k = record { kind = omega arith; ex = omega arith; left = omega arith; right = omega arith }
+pub small-check : (e B : ℕ) → e < 2048 → B < 2 ^ 32 → Small (checkAsk e B)
+small-check e B h k = record { kind = omega arith; ex = omega arith; left = omega arith; right = k }
 
-pub small-app : (A e : ℕ) → A < 1002048 → e < 2048 → Small (appAsk A e)
-small-app A e h k = record { kind = omega arith; ex = omega arith; left = omega arith; right = omega arith }
+pub small-app : (A e : ℕ) → A < 2 ^ 32 → e < 2048 → Small (appAsk A e)
+small-app A e h k = record { kind = omega arith; ex = omega arith; left = h; right = omega arith }
 
-pub small-sub : (A B : ℕ) → A < 1002048 → B < 1002048 → Small (subAsk A B)
-small-sub A B h k = record { kind = omega arith; ex = omega arith; left = omega arith; right = omega arith }
+pub small-sub : {A B : ℕ} → A < 2 ^ 32 → B < 2 ^ 32 → Small (subAsk A B)
+small-sub h k = record { kind = omega arith; ex = omega arith; left = h; right = k }
 
-pub small-inst : (s : Side) (a T : ℕ) → a < 1002048 → T < 1002048 → Small (instAsk s a T)
-small-inst onL a T h k = record { kind = omega arith; ex = omega arith; left = omega arith; right = omega arith }
-small-inst onR a T h k = record { kind = omega arith; ex = omega arith; left = omega arith; right = omega arith }
+pub small-inst : (s : Side) {a T : ℕ} → a < 2 ^ 32 → T < 2 ^ 32 → Small (instAsk s a T)
+small-inst onL h k = record { kind = omega arith; ex = omega arith; left = h; right = k }
+small-inst onR h k = record { kind = omega arith; ex = omega arith; left = k; right = h }
 
 -- ## Taken apart
 

@@ -120,14 +120,14 @@ pub fn put4(w: &mut [u32], i: usize, a: usize, b: usize, c: usize, d: usize)
 }
 
 // Copies n words to a place past them.
-pub fn copy(work: &mut [u32], from: usize, to: usize, n: usize)
-    requires { ⌜ (from + n ≤ to) × (to + n ≤ length (now work)) ⌝ }
-    ensures { λ _. ⌜ Copied (now (work .entry)) (now (work .exit)) from to n ⌝ }
+pub fn copy(words: &mut [u32], from: usize, to: usize, n: usize)
+    requires { ⌜ (from + n ≤ to) × (to + n ≤ length (now words)) ⌝ }
+    ensures { λ _. ⌜ Copied (now (words .entry)) (now (words .exit)) from to n ⌝ }
 {
     let mut i = 0;
     while i < n {
-        let x = work[from + i];
-        work[to + i] = x;
+        let x = words[from + i];
+        words[to + i] = x;
         i += 1;
     }
 }

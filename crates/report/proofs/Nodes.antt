@@ -2,9 +2,9 @@
 use mathlib.Core.Path.{_≡_, refl, sym, _∙_, ap}
 use mathlib.Core.Bool.{true, false}
 use mathlib.Core.List.{List, [], _∷_, _++_, append-assoc}
-use Prim.Native.Nat.{ℕ, _-_, _≤_, _<_}
+use Prim.Native.Nat.{ℕ, _+_, _-_, _≤_, _<_}
 use native.Mathlib.Omega.{arith}
-use lib.ListN.{length}
+use lib.ListN.{length, getD}
 use Rattle.definition.specs.Syntax.{Ty, tyWords, Ctx, ctxWords, Judgement, section, noSection, sections, ctxSection, tySection, judgementWords, node, Trees, leaf, _&_, children, treeWords, treesWords}
 use Rattle.layout.specs.Denotes.{Den, Run}
 use Rattle.layout.specs.declared.Span.{Span}
@@ -17,9 +17,10 @@ use Rattle.writing.specs.Spelling.{_Then_, Section}
 use Rattle.writing.specs.Types.{OfPart}
 use Rattle.writing.specs.Contexts.{OfEntries}
 use Rattle.writing.proofs.Spelling.{join, if-filled, if-unused}
+use Rattle.writing.proofs.After.{span}
 use Rattle.report.specs.declared.Filled.{Filled}
 use Rattle.report.specs.declared.Node.{Node}
-use Rattle.report.specs.Nodes.{fills, NodeRead, Three, Said, saidWords, OfNode, OfNodes}
+use Rattle.report.specs.Nodes.{fills, NodeRead, Three, Said, saidWords, OfNode, OfNodes, outputAt}
 
 -- ## Sections
 
@@ -85,6 +86,9 @@ node-parts {q} {w} {t} {m} {n} y ws x =
     let p : Sections q w t (n .input) (n .left) (n .right) (n .output) (n .result) (n .filled) (s .rest) =
     rw (y .in-at, y .in-n, y .left, y .right, y .out-at, y .out-n, y .result, y .filled, k .in-at, k .in-n, k .left-is, k .right-is, k .out-at, k .out-n, k .ty-is, k .kind-is) (s .parts) in
     rw e (join (n .rule ∷ n .kids ∷ n .place ∷ []) (s .rest) (record { is = refl }) p)
+
+pub output-read : {w : List ℕ} {m : ℕ} {n : Node} → NodeRead w m n → n .output ≡ outputAt w m
+output-read {w} {m} {n} y = ap (λ (i : ℕ). span i (n .output .n)) (y .out-at) ∙ ap (λ (i : ℕ). span (getD w (m + 7) 0) i) (y .out-n)
 
 -- ## The tree
 

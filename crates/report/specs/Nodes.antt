@@ -6,6 +6,7 @@ use Prim.Native.Nat.{ℕ, _+_, _≤_, _<_, _^_}
 use lib.Dec.{eqb}
 use lib.ListN.{length, getD}
 use Rattle.definition.specs.Syntax.{Ty, Ctx, Judgement, Rule, ruleNumber, judgementWords, Trees, treesWords}
+use Rattle.layout.specs.declared.Span.{Span}
 use Rattle.judging.specs.Nodes.{NodeAt, NodesAt}
 use Rattle.writing.specs.Spelling.{Spells, Just, Long, Writes}
 use Rattle.writing.specs.After.{Measures, Stands}
@@ -59,14 +60,19 @@ pub record NodeIn (q w : List ℕ) (t m : ℕ) (n : Said) : Type 0 where
 abbrev pub OfNode : List ℕ → List ℕ → ℕ → ℕ → List ℕ → Type 0
 OfNode q w t m = Spells (NodeIn q w t m) saidWords
 
+-- a node's output context
+abbrev pub outputAt : List ℕ → ℕ → Span
+outputAt w m = record { at = getD w (m + 7) 0; n = getD w (m + 8) 0 }
+
 -- the node's length, and that of its output context
 pub record NodeLong (q w : List ℕ) (t m : ℕ) (z : Measured) : Type 0 where
   pub long : Long (2 ^ 32) (OfNode q w t m) (z .length)
-  pub output : Measures q w t (z .output .g) (z .output)
+  pub output : Measures q w t (outputAt w m) (z .output)
 
--- the node was written at p, and its output context stands in it
+-- the node was written at p, and its output context stands before its end
 pub record WritesNode (q w : List ℕ) (t m : ℕ) (s s′ : List ℕ) (p : ℕ) (z : Wrote) : Type 0 where
   pub writes : Writes (OfNode q w t m) s s′ p (z .end)
+  pub span : z .output .g ≡ outputAt w m
   pub output : Stands q w t s′ (z .end) (z .output)
 
 pub record NodesIn (q w : List ℕ) (t lo hi : ℕ) (ts : Trees) : Type 0 where

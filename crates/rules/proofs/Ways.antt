@@ -18,7 +18,7 @@ use Rattle.layout.specs.declared.Made.{Made}
 use Rattle.layout.specs.declared.Made.the-variants as made
 use Rattle.layout.proofs.Words.{keep-less, keep-trans}
 use Rattle.layout.proofs.Places.{expr-code}
-use Rattle.layout.proofs.Denotes.{den-frame, den-small, run-frame}
+use Rattle.layout.proofs.Denotes.{den-frame, run-frame}
 use Rattle.contexts.specs.Build.{Grown}
 use Rattle.contexts.specs.declared.Opened.{Opened}
 use Rattle.substitution.specs.Passing.{Passed}
@@ -33,6 +33,7 @@ use Rattle.judging.proofs.Asking.{small-infer, small-check, small-app, small-su
 use Rattle.judging.proofs.Nodes.{_+++_, nodes-frame, nodes-join}
 use Rattle.judging.proofs.Steps.{NotDone, else-ends, came}
 use Rattle.judging.proofs.Chain.{Sofar, begin, built, stopped, refuses, fires, room-on, room-ready}
+use Rattle.steps.proofs.Going.{ref-small}
 use Rattle.rules.specs.declared.Mid.{Mid}
 use Rattle.rules.specs.declared.Mid.the-variants.{On, End}
 use Rattle.rules.specs.Going.{Passes, goes, fails, stops, Finished}
@@ -48,9 +49,6 @@ start r e = record { so = begin; room = r; is = e }
 
 -- ## What a judgement that is asked requires
 
-reference : {q w : List ℕ} {s : State} {k a : ℕ} {A : Ty} → Room q w s k → Den q w (s .top) a A → a < 1002048
-reference r d = let u = den-small d in omega (arith, r .fits, r .low, r .cap)
-
 module _ {q w : List ℕ} {s : State} {g : Span} {k : ℕ} {j : Judgement} (r : Room q w s k) where
   pub asks-infer : {p : ℕ} → Asks q w (s .top) g (inferAsk p) j → JudgePre q w s g (inferAsk p)
   asks-infer {p} x = let v = infer-asked p x in record { ready = room-ready g r; small = small-infer _ (expr-code (v .at) .inside); j = _; asks = x }
@@ -58,17 +56,17 @@ module _ {q w : List ℕ} {s : State} {g : Span} {k : ℕ} {j : Judgement} (r : 
   pub asks-check : {p b : ℕ} → Asks q w (s .top) g (checkAsk p b) j → JudgePre q w s g (checkAsk p b)
   asks-check {p} {b} x =
       let v = check-asked p b x in
-      record { ready = room-ready g r; small = small-check _ _ (expr-code (v .at) .inside) (reference r (v .den)); j = _; asks = x }
+      record { ready = room-ready g r; small = small-check _ _ (expr-code (v .at) .inside) (ref-small r (v .den)); j = _; asks = x }
 
   pub asks-app : {a p : ℕ} → Asks q w (s .top) g (appAsk a p) j → JudgePre q w s g (appAsk a p)
   asks-app {a} {p} x =
       let v = app-asked a p x in
-      record { ready = room-ready g r; small = small-app _ _ (reference r (v .den)) (expr-code (v .at) .inside); j = _; asks = x }
+      record { ready = room-ready g r; small = small-app _ _ (ref-small r (v .den)) (expr-code (v .at) .inside); j = _; asks = x }
 
   pub asks-sub : {a b : ℕ} → Asks q w (s .top) g (subAsk a b) j → JudgePre q w s g (subAsk a b)
   asks-sub {a} {b} x =
       let v = sub-asked a b x in
-      record { ready = room-ready g r; small = small-sub _ _ (reference r (v .left)) (reference r (v .right)); j = _; asks = x }
+      record { ready = room-ready g r; small = small-sub (ref-small r (v .left)) (ref-small r (v .right)); j = _; asks = x }
 
 -- apply_ctx_type for what came back
 pub apply-pre : {q w : List ℕ} {s : State} {g : Span} {k r : ℕ} {Γ : Ctx} {A : Ty} → Room q w s k → Run q w (s .top) (g .at) (g .n) Γ → Den q w (s .top) r A

@@ -17,14 +17,14 @@ use Rattle.layout.proofs.Denotes.{den-small, int-den}
 use Rattle.types.specs.Reading.{HeldAs, HeldNamed}
 use Rattle.contexts.specs.Build.{Space}
 use Rattle.substitution.specs.Passing.{Passed}
-use Rattle.judging.specs.Asking.{mode, Asks, instAsk, Small, JudgePre}
+use Rattle.judging.specs.Asking.{mode, Asks, instAsk, JudgePre}
 use Rattle.judging.specs.Ending.{RunsR, Judged}
 use Rattle.judging.specs.declared.Answer.{Answer}
 use Rattle.judging.specs.declared.Ask.{Ask}
 use Rattle.judging.specs.declared.Mode.{Mode}
 use Rattle.judging.specs.declared.Step.{Step}
 use Rattle.judging.specs.declared.Step.the-variants.{Done}
-use Rattle.judging.proofs.Asking.{asks-inst}
+use Rattle.judging.proofs.Asking.{small-inst, asks-inst}
 use Rattle.judging.proofs.Nodes.{_+++_}
 use Rattle.judging.proofs.Steps.{NotDone, Came}
 use Rattle.judging.proofs.Chain.{room-on, room-ready, Sofar, built, ended, gave, on, fires}
@@ -81,10 +81,6 @@ built-on so b = built _ so (b .keep) (b .up) (b .low) (b .less)
 -- any mode, for what does not depend on it
 abbrev pub either : Mode
 either = record { «compares_parameter» = false; «applies_branches» = false }
-
-pub small-inst : (sd : Side) {a b : ℕ} → a < 2 ^ 32 → b < 2 ^ 32 → Small (instAsk sd a b)
-small-inst onL h k = record { kind = omega arith; ex = omega arith; left = h; right = k }
-small-inst onR h k = record { kind = omega arith; ex = omega arith; left = k; right = h }
 
 pub inst-pre : {q w : List ℕ} {s : State} {k : ℕ} {g : Span} (sd : Side) {a b : ℕ} {Γ : Ctx} {x : TyVar} {T : Ty} → Room q w s k
     → Run q w (s .top) (g .at) (g .n) Γ → Den q w (s .top) a (etvar x) → Den q w (s .top) b T → JudgePre q w s g (instAsk sd a b)

@@ -14,6 +14,7 @@ use Rattle.layout.specs.declared.State.{State}
 use Rattle.layout.proofs.Denotes.{den-frame}
 use Rattle.judging.specs.Asking.{mode, Asks, as-sub, subAsk, Small}
 use Rattle.judging.specs.declared.Mode.{Mode}
+use Rattle.judging.proofs.Asking.{small-sub}
 use Rattle.steps.specs.Opening.{ForallPre, OpensOn}
 use Rattle.steps.specs.Sides.{side, openedTy, openedCtx, binder}
 use Rattle.steps.specs.declared.Instance.{Instance}
@@ -22,7 +23,7 @@ use Rattle.steps.proofs.Going.{forall-pre, ref-small}
 use Rattle.steps.proofs.Under.{Under}
 use Rattle.subtyping.specs.Arms.{oneOf, subAll, Comes, Fits, fits-all, ArmPre}
 use Rattle.subtyping.specs.declared.Arm.the-variants as arm
-use Rattle.subtyping.proofs.Rules.{one-den, one-small, sub-small, askd, fits, comes}
+use Rattle.subtyping.proofs.Rules.{one-den, one-small, askd, fits, comes}
 
 record Opened (sd : Side) (A B : Ty) : Type 0 where
   x : TyVar
@@ -67,7 +68,7 @@ module _ {q w : List ℕ} {s : State} {g : Span} {a b : ℕ} {z : program.Side} 
       → Small (subAsk (oneOf (side z) t a) (oneOf (side z) b t))
   all-small room T d =
       let v = askd pre (pre .pre .asks) in
-      sub-small (one-small (side z) (ref-small room d) (ref-small (pre .pre .room) (v .left)))
+      small-sub (one-small (side z) (ref-small room d) (ref-small (pre .pre .room) (v .left)))
       (one-small (side z) (ref-small (pre .pre .room) (v .right)) (ref-small room d))
 
   pub under-on : {w₁ : List ℕ} {r : ℕ} {x : Instance} → r ≡ oneOf (side z) a b → OpensOn q w w₁ s g r (side z) x → (m : Mode) (j : Judgement)

@@ -12,13 +12,13 @@ use Rattle.layout.specs.Room.{Room}
 use Rattle.layout.specs.declared.Span.{Span}
 use Rattle.layout.specs.declared.State.{State}
 use Rattle.types.proofs.Held.{room-held}
-use Rattle.judging.specs.Asking.{mode, Asks, as-sub, subAsk, instAsk, Small, JudgePre, RulePre}
+use Rattle.judging.specs.Asking.{mode, Asks, as-sub, subAsk, instAsk, JudgePre, RulePre}
 use Rattle.judging.specs.Ending.{e-subtyping, Failed}
 use Rattle.judging.specs.declared.Answer.{Answer}
 use Rattle.judging.specs.declared.Mode.{Mode}
 use Rattle.judging.specs.declared.Step.{Step}
 use Rattle.judging.specs.declared.Step.the-variants.{Done, Fail}
-use Rattle.judging.proofs.Asking.{SubAsked, sub-asked, asks-inst}
+use Rattle.judging.proofs.Asking.{small-sub, SubAsked, sub-asked, asks-inst}
 use Rattle.judging.proofs.Chain.{room-ready, begin, refuses, room-within}
 use Rattle.judging.proofs.Steps.{NotDone}
 use Rattle.steps.specs.Ending.{Through}
@@ -37,14 +37,11 @@ both-held {a = a} {b = b} pre =
     let v = sub-asked a b (pre .asks) in
     record { left = room-held (pre .room) (v .left); right = room-held (pre .room) (v .right) }
 
-pub sub-small : {a b : ℕ} → a < 4294967296 → b < 4294967296 → Small (subAsk a b)
-sub-small h k = record { kind = omega arith; ex = omega arith; left = h; right = k }
-
 pub sub-pre : {q w : List ℕ} {s : State} {k : ℕ} {g : Span} {a b : ℕ} {Γ : Ctx} {A B : Ty} → Room q w s k → Run q w (s .top) (g .at) (g .n) Γ
     → Den q w (s .top) a A → Den q w (s .top) b B → JudgePre q w s g (subAsk a b)
 sub-pre {g = g} room run d e = record {
   ready = room-ready g room;
-  small = sub-small (ref-small room d) (ref-small room e);
+  small = small-sub (ref-small room d) (ref-small room e);
   j = _;
   asks = as-sub refl refl run d e;
 }

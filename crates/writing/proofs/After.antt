@@ -9,6 +9,7 @@ use lib.Dec.{eqb}
 use lib.ListN.{length, getD}
 use Rattle.layout.specs.Words.{Keep, Copied}
 use Rattle.layout.specs.declared.Span.{Span}
+use Rattle.layout.proofs.Words.{keep-refl}
 use Rattle.writing.specs.declared.Known.{Known}
 use Rattle.writing.specs.declared.Standing.{Standing}
 use Rattle.writing.specs.Spelling.{Section, Room, Writable, Writes}
@@ -19,7 +20,7 @@ use Rattle.writing.proofs.Spelling.{past-length}
 
 -- ## The same entries of work
 
-abbrev span : ℕ → ℕ → Span
+abbrev pub span : ℕ → ℕ → Span
 span at n = record { at = at; n = n }
 
 pub same-span : {g h : Span} {r : Bool} → r ≡ (eqb (g .at) (h .at) && eqb (g .n) (h .n)) → r ≡ true → g ≡ h
@@ -33,10 +34,6 @@ same-span {g} {h} e f = go (eqb (g .at) (h .at)) refl (eqb (g .n) (h .n)) refl (
 -- ## What stands
 
 module _ {q w : List ℕ} {t : ℕ} {k : Standing} where
-  -- before a later place
-  pub stands-before : {s : List ℕ} {p z : ℕ} → p ≤ z → Stands q w t s p k → Stands q w t s z k
-  stands-before l x = record { below = (x .below .0, omega (arith, x .below .1)); reads = x .reads }
-
   -- where only words past it changed
   stands-keep : {s s′ : List ℕ} {p z y : ℕ} → p ≤ y → Keep p z s s′ → Stands q w t s p k → Stands q w t s′ y k
   stands-keep {s} {s′} {p} l o x = record {
@@ -45,6 +42,10 @@ module _ {q w : List ℕ} {t : ℕ} {k : Standing} where
         let a = x .reads ws y (record { room = omega (arith, r .room, o .long); small = r .small }) in
         record { end-is = a .end-is; same = λ i j. sym (o .below (k .at + i) (omega (arith, x .below .1, a .end-is))) ∙ a .same i j };
   }
+
+  -- before a later place
+  pub stands-before : {s : List ℕ} {p z : ℕ} → p ≤ z → Stands q w t s p k → Stands q w t s z k
+  stands-before {s} {p} {z} l x = stands-keep l (keep-refl p z s) x
 
   -- after something was written at p
   pub stands-next : {S : List ℕ → Type 0} {s s′ : List ℕ} {p z : ℕ} → Writable q w t S s p → Writes S s s′ p z → Stands q w t s p k
@@ -77,7 +78,7 @@ module _ {q w : List ℕ} {t : ℕ} {g : Span} {s : List ℕ} {p : ℕ} {k : Sta
 
   pub after-copied : {s′ : List ℕ} → g ≡ k .g → Stands q w t s p k → Copied s s′ (k .at) p (k .end - k .at)
       → WritesAfter q w t g s s′ p (record { g = g; at = p; end = p + (k .end - k .at) })
-  after-copied {s′} e x c = record { span = refl; writes = writes; stands = stands-written v writes }
+  after-copied {s′} e x c = record { span = refl; place = refl; writes = writes; stands = stands-written v writes }
     where
       writes : Writes (Section (OfContext q w t g)) s s′ p (p + (k .end - k .at))
       writes = record {
@@ -91,7 +92,7 @@ module _ {q w : List ℕ} {t : ℕ} {g : Span} {s : List ℕ} {p : ℕ} {k : Sta
 
 pub after-written : {q w : List ℕ} {t : ℕ} {g : Span} {s s′ : List ℕ} {p z : ℕ} → Writable q w t (Section (OfContext q w t g)) s p
     → Writes (Section (OfContext q w t g)) s s′ p z → WritesAfter q w t g s s′ p (record { g = g; at = p; end = z })
-after-written v u = record { span = refl; writes = u; stands = stands-written v u }
+after-written v u = record { span = refl; place = refl; writes = u; stands = stands-written v u }
 
 pub measures-same : {q w : List ℕ} {t : ℕ} {g : Span} {k : Known} → g ≡ k .g → Measures q w t (k .g) k → Measures q w t g k
 measures-same e x = rw e x

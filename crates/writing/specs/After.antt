@@ -27,5 +27,6 @@ pub record Stands (q w : List ℕ) (t : ℕ) (s : List ℕ) (p : ℕ) (k : Stand
 -- g's section was written at p, and k says that it stands there
 pub record WritesAfter (q w : List ℕ) (t : ℕ) (g : Span) (s s′ : List ℕ) (p : ℕ) (k : Standing) : Type 0 where
   pub span : k .g ≡ g
+  pub place : k .at ≡ p
   pub writes : Writes (Section (OfContext q w t g)) s s′ p (k .end)
   pub stands : Stands q w t s′ (k .end) k

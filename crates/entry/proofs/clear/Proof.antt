@@ -1,7 +1,7 @@
 -- `clear` meets its contract.
 use native.Mathlib.Omega.{arith}
 use mathlib.Core.Path.{_≡_, refl, _∙_}
-use Prim.Native.Nat.{ℕ, _+_, _≤_, _-_}
+use Prim.Native.Nat.{_+_, _≤_, _-_}
 use lib.ListN.{length}
 use Rattle.entry.proofs.Clearing.{Front, part-long, front-more}
 use Rattle.entry.proofs.clear.Statement.{statement}

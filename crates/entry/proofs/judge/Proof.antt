@@ -23,13 +23,13 @@ infer-app-requires : tie.Need-infer-app-requires
 infer-app-requires c κs = kind-pre (c .before .before .before .before .before .pre) 3 (c .before .match .keys3) (asks-3 (c .before .before .before .before .before .pre .run)) (λ p. small-app _ _ (omega (arith, p .1)) (p .0))
 
 subtype-requires : tie.Need-subtype-requires
-subtype-requires c κs = kind-pre (c .before .before .before .before .before .pre) 4 (c .before .match .keys4) (asks-4 (c .before .before .before .before .before .pre .run)) (λ p. small-sub _ _ (omega (arith, p .1)) (omega (arith, p .2)))
+subtype-requires c κs = kind-pre (c .before .before .before .before .before .pre) 4 (c .before .match .keys4) (asks-4 (c .before .before .before .before .before .pre .run)) (λ p. small-sub (omega (arith, p .1)) (omega (arith, p .2)))
 
 inst-l-requires : tie.Need-inst-l-requires
-inst-l-requires c κs = kind-pre (c .before .before .before .before .before .pre) 5 (c .before .match .keys5) (asks-5 (c .before .before .before .before .before .pre .run)) (λ p. small-inst onL _ _ (omega (arith, p .1)) (omega (arith, p .2)))
+inst-l-requires c κs = kind-pre (c .before .before .before .before .before .pre) 5 (c .before .match .keys5) (asks-5 (c .before .before .before .before .before .pre .run)) (λ p. small-inst onL (omega (arith, p .1)) (omega (arith, p .2)))
 
 inst-r-requires : tie.Need-inst-r-requires
-inst-r-requires c κs = kind-pre (c .before .before .before .before .before .pre) 6 (c .before .match .keys6) (asks-6 (c .before .before .before .before .before .pre .run)) (λ p. small-inst onR _ _ (omega (arith, p .2)) (omega (arith, p .1)))
+inst-r-requires c κs = kind-pre (c .before .before .before .before .before .pre) 6 (c .before .match .keys6) (asks-6 (c .before .before .before .before .before .pre .run)) (λ p. small-inst onR (omega (arith, p .2)) (omega (arith, p .1)))
 
 infer-requires-2 : tie.Need-infer-requires-2
 infer-requires-2 c κs = kind-pre (c .before .before .before .before .before .pre) 7 (kind-seven (c .before .before .before .before .before .pre) (c .before .match .rest)) (asks-7 (c .before .before .before .before .before .pre .run)) (λ p. small-infer _ (p .0))

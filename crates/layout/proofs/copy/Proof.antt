@@ -10,10 +10,10 @@ use Rattle.layout.proofs.copy.Statement.{statement}
 use Rattle.layout.proofs.copy.Tie as tie
 
 abbrev Inv-loop : tie.InvT-loop
-Inv-loop work₀ from to n i₀ work i = (i ≤ n) × Keep to (to + n) work₀ work × ((j : ℕ) → j < i → getD work (to + j) 0 ≡ getD work₀ (from + j) 0)
+Inv-loop words₀ from to n i₀ words i = (i ≤ n) × Keep to (to + n) words₀ words × ((j : ℕ) → j < i → getD words (to + j) 0 ≡ getD words₀ (from + j) 0)
 
 abbrev μ-loop : tie.MeasureT-loop
-μ-loop work₀ from to n i₀ work i = n - i
+μ-loop words₀ from to n i₀ words i = n - i
 
 loop-holds : tie.Need-loop-holds Inv-loop μ-loop
 loop-holds c = (omega arith, keep-refl _ _ _, λ j l. absurd (omega arith))
@@ -27,14 +27,14 @@ mul-x c = omega arith
 slice-read-x : tie.Need-slice-read-x Inv-loop μ-loop
 slice-read-x c = omega arith
 
-add-work : tie.Need-add-work Inv-loop μ-loop
-add-work c = omega arith
+add-words : tie.Need-add-words Inv-loop μ-loop
+add-words c = omega arith
 
-mul-work : tie.Need-mul-work Inv-loop μ-loop
-mul-work c = omega arith
+mul-words : tie.Need-mul-words Inv-loop μ-loop
+mul-words c = omega arith
 
-slice-write-work : tie.Need-slice-write-work Inv-loop μ-loop
-slice-write-work c = omega arith
+slice-write-words : tie.Need-slice-write-words Inv-loop μ-loop
+slice-write-words c = omega arith
 
 add-i : tie.Need-add-i Inv-loop μ-loop
 add-i c = omega arith
@@ -61,9 +61,9 @@ copy-spec =
     add-x
     mul-x
     slice-read-x
-    add-work
-    mul-work
-    slice-write-work
+    add-words
+    mul-words
+    slice-write-words
     add-i
     loop-less
     loop-again

@@ -3,7 +3,7 @@ use mathlib.Core.List.{[], _∷_}
 use native.Mathlib.Omega.{arith}
 use Rattle.writing.proofs.Spelling.{spelled-as, spelled-first, spelled-second, long-as, long-just, long-then}
 use Rattle.writing.proofs.After.{measures-own}
-use Rattle.report.proofs.Nodes.{node-parts}
+use Rattle.report.proofs.Nodes.{node-parts, output-read}
 use borrow.Author.Needs.{needs}
 use Rattle.report.proofs.node_length.Statement.{statement}
 use Rattle.report.proofs.node_length.Tie as tie
@@ -49,7 +49,7 @@ returns c = record {
       (long-then (c .before .before .before .before .before .before .before .before .section-length .ensures)
       (long-then (c .before .before .before .before .before .before .before .section-length2 .ensures)
       (long-then (c .before .before .before .before .before .before .length-after2 .ensures .long) (c .before .before .before .before .before .section-length3 .ensures) (c .before .before .before .before .sum .ensures)) (c .before .before .before .sum2 .ensures)) (c .before .before .sum3 .ensures)) (c .before .sum4 .ensures)) (c .sum5 .ensures));
-  output = measures-own (c .before .before .before .before .before .before .length-after2 .ensures);
+  output = rw (output-read (c .before .before .before .before .before .before .before .before .before .before .before .node-at .ensures)) at (c .before .before .before .before .before .before .length-after2 .ensures);
 }
 
 pub node-length-spec : {M : Type 1} → statement M

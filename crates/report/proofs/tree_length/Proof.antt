@@ -3,6 +3,7 @@ use native.Mathlib.Omega.{arith}
 use Rattle.writing.specs.After.{Measures}
 use Rattle.writing.proofs.Spelling.{spelled-as, spelled-first, spelled-inner, long-section}
 use Rattle.writing.proofs.Loops.{Summing, sum-first, sum-next, sum-end}
+use Rattle.writing.proofs.After.{measures-own}
 use Rattle.report.specs.Nodes.{OfNodes}
 use Rattle.report.proofs.Nodes.{nodes-room, nodes-first, nodes-none}
 use Rattle.report.proofs.tree_length.Statement.{statement}
@@ -30,7 +31,7 @@ loop-less : tie.Need-loop-less Inv-loop μ-loop
 loop-less c = omega (arith, nodes-room (c .before .before .before .loop-test .taken) (c .before .before .before .before .loop .inv .0 .rest .says))
 
 loop-again : tie.Need-loop-again Inv-loop μ-loop
-loop-again c = (sum-next (nodes-first (c .before .before .before .loop-test .taken)) (c .before .before .before .before .loop .inv .0) (c .before .before .node-length .ensures .long) (c .before .sum .ensures), c .before .before .node-length .ensures .output)
+loop-again c = (sum-next (nodes-first (c .before .before .before .loop-test .taken)) (c .before .before .before .before .loop .inv .0) (c .before .before .node-length .ensures .long) (c .before .sum .ensures), measures-own (c .before .before .node-length .ensures .output))
 
 sum-requires-2 : tie.Need-sum-requires-2 Inv-loop μ-loop
 sum-requires-2 c κs = tt

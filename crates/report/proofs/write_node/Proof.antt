@@ -1,7 +1,8 @@
 -- `write_node` meets its contract.
+use mathlib.Core.Path.{_∙_}
 use Rattle.writing.proofs.Spelling.{just-room, writable-as, writable-first, writable-next, writes-as, writes-then, writes-length}
 use Rattle.writing.proofs.After.{stands-next}
-use Rattle.report.proofs.Nodes.{node-parts}
+use Rattle.report.proofs.Nodes.{node-parts, output-read}
 use borrow.Author.Needs.{needs}
 use Rattle.report.proofs.write_node.Statement.{statement}
 use Rattle.report.proofs.write_node.Tie as tie
@@ -70,6 +71,7 @@ returns c =
           (writes-then (c .before .before .before .before .before .before .before .before .before .before .before .before .before .before .before .before .before .before .before .before .before .before .write-three .ensures)
           (writes-then (c .before .before .before .before .before .before .before .before .before .before .before .before .before .before .before .before .before .before .write-after .ensures .writes)
           (writes-then (c .before .before .before .before .before .before .before .before .before .before .before .before .before .before .write-section .ensures) (writes-then (c .before .before .before .before .before .before .before .before .before .before .write-section2 .ensures) (writes-then (c .before .before .before .before .before .before .write-after2 .ensures .writes) (c .before .before .write-section3 .ensures))))));
+      span = c .before .before .before .before .before .before .write-after2 .ensures .span ∙ output-read (c .before .before .before .before .before .before .before .before .before .before .before .before .before .before .before .before .before .before .before .before .before .before .before .before .before .node-at .ensures);
       output = stands-next x₅ (c .before .before .write-section3 .ensures) (c .before .before .before .before .before .before .write-after2 .ensures .stands);
     }
 
