@@ -11,7 +11,7 @@ use Rattle.definition.specs.Question.{Read, Question}
 use Rattle.definition.specs.Run.{Out}
 use Rattle.definition.specs.Rules.{Result, judge}
 use Rattle.definition.specs.Reply.{refusal, most, reported, errorCode, errorAt, errorWords, givesType, resultWords, answer, outReply, readReply}
-use Rattle.alike.specs.Alike.{Pairing, Label, the, section, IsTy, IsEntry, IsCtx, IsTyOrNone, noTy, aTy, IsNodes, IsReport, InReplies, Alike, atLabel, AlikeReplies}
+use Rattle.alike.specs.Alike.{Pairing, Label, the, IsTy, IsEntry, IsCtx, IsTyOrNone, noTy, aTy, IsNodes, IsReport, InReplies, Alike, atLabel, AlikeReplies}
 use Rattle.alike.proofs.Related
 use Rattle.alike.proofs.Related.{TyR, EntryR, CtxR, JudgementR, TreeR, TreesR, TypeErrorR, pickR}
 use Rattle.alike.proofs.Runs.{OutR, doneR, failR, stopR, Runs, bindR, giveR}

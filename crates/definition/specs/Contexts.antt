@@ -1,7 +1,7 @@
 -- Context, after 000: what a rule may do with one. Later orders change contexts by these operations alone.
 use Prim.Native.Nat.{ℕ}
-use mathlib.Core.Bool.{Bool, true, false, _&&_, _||_}
-use mathlib.Core.List.{List, [], _∷_, _++_}
+use mathlib.Core.Bool.{Bool, false, _&&_, _||_}
+use mathlib.Core.List.{[], _∷_, _++_}
 use mathlib.Core.Option.{Option, none, some}
 use lib.Dec.{eqb}
 use Rattle.definition.specs.Syntax.{syntax-computes, pick, TmVar, TyVar, Ty, int, Entry, varBnd, tvarBnd, etvarBnd, setvarBnd, mark, Ctx}

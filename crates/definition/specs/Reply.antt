@@ -1,10 +1,10 @@
 -- The reply: "Four numbers: code, at, length, units; and a report."
 use Prim.Native.Nat.{ℕ, _+_, _-_, _*_, min}
-use mathlib.Core.Bool.{Bool, true, false, _&&_, _||_}
-use mathlib.Core.List.{List, [], _∷_, _++_}
+use mathlib.Core.Bool.{Bool, _&&_, _||_}
+use mathlib.Core.List.{List, [], _++_}
 use lib.ListN.{length}
 use lib.Dec.{leb, ltb, eqb}
-use Rattle.definition.specs.Syntax.{pick, Ty, TypeError, unboundVariable, applicationTypeError, typeApplicationError, occursCheck, subtypingError, instantiationError, parameterMismatch, noSection, section, tySection, ctxSection, treeWords}
+use Rattle.definition.specs.Syntax.{pick, TypeError, unboundVariable, applicationTypeError, typeApplicationError, occursCheck, subtypingError, instantiationError, parameterMismatch, noSection, section, tySection, ctxSection, treeWords}
 use Rattle.definition.specs.Question.{question-computes, Read, got, fault, Question, readQuestion}
 use Rattle.definition.specs.Run.{Out, done, fail, stop, M, _>>=_, give}
 use Rattle.definition.specs.Types.{apply}

@@ -1,8 +1,8 @@
 -- The six judgements and their 37 rules, after 000. Each rule is drawn above its definition; [Γ]A is A with the context applied,
 -- [R/a]A substitution. A rule gives its number, its result type (Int where the judgement gives none), its output context and its children.
 use Prim.Native.Nat.{ℕ, zero, suc, _+_}
-use mathlib.Core.Bool.{Bool, true, false, not, _&&_}
-use mathlib.Core.List.{List, [], _∷_}
+use mathlib.Core.Bool.{Bool, true, false, _&&_}
+use mathlib.Core.List.{[], _∷_}
 use mathlib.Core.Option.{Option, none, some}
 use lib.ListN.{length}
 use lib.Dec.{leb, eqb}
@@ -10,7 +10,7 @@ use Rattle.definition.specs.Syntax
 use Rattle.definition.specs.Syntax.{pick, TmVar, TyVar, Ty, int, bool, var, etvar, arrow, forall, Expr, evar, app, abs, tapp, tabs, ann, litInt, litBool, letIn, ifThenElse, binOp, varBnd, tvarBnd, etvarBnd, setvarBnd, mark, Ctx, Side, onL, onR, Judgement, infer, check, inferApp, subtype, inst, given, Rule, Tree, node, Trees, leaf, _&_, unboundVariable, applicationTypeError, typeApplicationError, occursCheck, subtypingError, instantiationError, parameterMismatch}
 use Rattle.definition.specs.Question.{Mode}
 use Rattle.definition.specs.Run.{M, _>>=_, give, refuse, halt, charge, fresh}
-use Rattle.definition.specs.Contexts.{Key, kVar, kTVar, kMark, find, rightOf, _▹_, replace, solvedAndRight, before}
+use Rattle.definition.specs.Contexts.{kVar, kTVar, kMark, find, rightOf, _▹_, replace, solvedAndRight, before}
 use Rattle.definition.specs.Types.{types-compute, sameName, isMono, occurs, subst, apply, sameTy}
 
 -- what a rule gives, and what a judgement gives: result type, output context, tree

@@ -1,6 +1,5 @@
 -- A run and its count: "the next charge would pass the budget" ends it with 6 and at no other time.
 use Prim.Native.Nat.{ℕ, suc, _+_, _-_}
-use mathlib.Core.Bool.{Bool, true, false}
 use lib.Dec.{leb}
 use Rattle.definition.specs.Syntax.{pick, TyVar, TypeError}
 

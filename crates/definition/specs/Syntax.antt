@@ -1,5 +1,5 @@
 -- Names, types, expressions, entries, judgements, trees and type errors, and the words that each is written as.
-use Prim.Native.Nat.{ℕ, suc, _+_}
+use Prim.Native.Nat.{ℕ, suc}
 use mathlib.Core.Bool.{Bool, true, false}
 use mathlib.Core.List.{List, [], _∷_, _++_}
 use lib.ListN.{length}

@@ -3,7 +3,7 @@ use Prim.Native.Nat.{ℕ, zero, suc}
 use mathlib.Core.Bool.{Bool, true, false, not, _&&_, _||_}
 use mathlib.Core.Option.{Option, none, some}
 use lib.Dec.{eqb}
-use Rattle.definition.specs.Syntax.{syntax-computes, pick, TyVar, Ty, int, bool, var, etvar, arrow, forall, Ctx}
+use Rattle.definition.specs.Syntax.{pick, TyVar, Ty, int, bool, var, etvar, arrow, forall, Ctx}
 use Rattle.definition.specs.Run.{run-computes, M, _>>=_, give, halt, charge}
 use Rattle.definition.specs.Contexts.{contexts-compute, kSETVar, find}
 

@@ -1,25 +1,23 @@
 -- From what was read, and from a run, to the reply.
-use mathlib.Core.Path.{_≡_, refl, sym, ap, _∙_}
+use mathlib.Core.Path.{_≡_, refl, ap, _∙_}
 use mathlib.Core.Bool.{Bool, true, false, _&&_}
-use mathlib.Core.List.{List, [], _∷_, _++_}
-use Prim.Native.Nat.{ℕ, _+_, _-_, _*_, _≤_, _<_}
-use native.Mathlib.Omega.{arith}
-use lib.ListN.{length, drop, replicate, length-replicate}
+use mathlib.Core.List.{List, _++_}
+use Prim.Native.Nat.{ℕ, _-_}
+use lib.ListN.{length, drop, replicate}
 use lib.Seq.{drop-at}
 use lib.Dec.{leb}
 use Rattle.definition.specs.Syntax.{pick}
-use Rattle.definition.specs.Question as question
-use Rattle.definition.specs.Question.{Read, got, fault, readQuestion}
+use Rattle.definition.specs.Question.{readQuestion}
 use Rattle.definition.specs.Run.{Out, done, fail, stop}
 use Rattle.definition.specs.Rules.{Result}
 use Rattle.definition.specs.Reply as definition
-use Rattle.definition.specs.Reply.{refusal, reported, errorCode, outReply, readReply, answer, workWords, reply}
-use Rattle.definition.specs.Memory.{reportAfter, workAfter, call}
+use Rattle.definition.specs.Reply.{refusal, reported, errorCode, outReply, readReply, answer, reply}
+use Rattle.definition.specs.Memory.{workAfter, call}
 use Rattle.reading.specs.Questions.{Accepted}
 use Rattle.reading.specs.declared.Question.{Question}
 use Rattle.entry.specs.declared.Reply.{Reply}
 use Rattle.entry.proofs.Codes.{Late, error, error-late}
-use Rattle.entry.specs.Entry.{Numbers, Replied, outcome, Gives, Runs, Cleared}
+use Rattle.entry.specs.Entry.{Replied, outcome, Gives, Cleared}
 
 -- ## A run's reply is none of 1 to 5
 

@@ -1,9 +1,9 @@
 -- Words that are zero already, and words that are made zero.
-use mathlib.Core.Path.{_≡_, refl, sym, ap, _∙_}
+use mathlib.Core.Path.{_≡_, sym, ap, _∙_}
 use mathlib.Core.List.{List, _++_, append-nil, append-assoc}
 use Prim.Native.Nat.{ℕ, _+_, _-_, _≤_, _<_}
 use native.Mathlib.Omega.{arith}
-use lib.Bits.{bitOr, bitAnd, or-zero-l, or-add-and, and-le-l, and-le-r}
+use lib.Bits.{bitOr, or-zero-l, or-add-and, and-le-l, and-le-r}
 use lib.ListN.{length, getD, getD-replicate, set, take, drop, replicate, length-append, length-drop, length-replicate, replicate-append-replicate}
 use lib.Seq.{set-getD, drop-length, length-take-le, take-at, drop-at, drop-drop}
 use borrow.Author.Fill.{fill-more}

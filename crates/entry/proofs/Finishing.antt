@@ -1,18 +1,18 @@
 -- From what a run came to, to its reply.
-use mathlib.Core.Path.{_≡_, refl, sym, ap, _∙_}
-use mathlib.Core.Bool.{Bool, true, false, _&&_}
-use mathlib.Core.List.{List, [], _++_}
-use Prim.Native.Nat.{ℕ, _+_, _-_, _*_, _≤_, _<_, _^_, min}
+use mathlib.Core.Path.{_≡_, refl}
+use mathlib.Core.Bool.{false, _&&_}
+use mathlib.Core.List.{List}
+use Prim.Native.Nat.{ℕ, _-_, _≤_, _<_, _^_}
 use native.Mathlib.Omega.{arith}
 use native.Mathlib.Nat.{lt-of-not-le}
 use native.Mathlib.Decide.{decLe}
-use lib.ListN.{length, drop}
+use lib.ListN.{length}
 use lib.Dec.{leb, le→leb}
 use mir.Facts.{no-leb}
 use Rattle.definition.specs.Syntax.{pick, TypeError}
-use Rattle.definition.specs.Run.{Out, done, fail, stop}
+use Rattle.definition.specs.Run.{Out, fail}
 use Rattle.definition.specs.Rules.{Result}
-use Rattle.definition.specs.Reply.{most, refusal, reported, errorCode, errorAt, errorWords, resultWords, outReply}
+use Rattle.definition.specs.Reply.{most, refusal, reported, outReply}
 use Rattle.definition.specs.Memory.{reportAfter}
 use Rattle.laws.proofs.Steps.{is-true, is-false}
 use Rattle.layout.specs.declared.State.{State}
@@ -20,17 +20,15 @@ use Rattle.judging.specs.declared.Answer.{Answer}
 use Rattle.judging.specs.declared.Bad.{Bad}
 use Rattle.judging.specs.declared.Step.{Step}
 use Rattle.judging.specs.declared.Step.the-variants.{Done, Fail, Spent}
-use Rattle.judging.specs.Ending.{Failed, EndsJ, landed, failed, ran-out}
-use Rattle.judging.proofs.Steps.{Came, came}
+use Rattle.judging.specs.Ending.{Failed, EndsJ, failed, ran-out}
+use Rattle.judging.proofs.Steps.{came}
 use Rattle.writing.specs.Spelling.{Spelled}
 use Rattle.report.specs.Reports.{OfResult, OfError, Reports, Reported}
 use Rattle.report.specs.Reports as told
 use Rattle.report.specs.declared.Report.{Report}
-use Rattle.report.specs.declared.Report.the-variants.{Written, NoRoom}
 use Rattle.report.proofs.Replies.{room-ground, landed-result, failed-error, result-spelled, result-reported, error-spelled, error-reported}
-use Rattle.entry.specs.declared.Reply.{Reply}
 use Rattle.entry.proofs.Codes.{error}
-use Rattle.entry.specs.Entry.{Numbers, Gives, toldOf, lengthOf, FinishPre, Finishes}
+use Rattle.entry.specs.Entry.{Gives, toldOf, lengthOf, FinishPre, Finishes}
 
 -- ## What became of a report
 

@@ -1,12 +1,11 @@
 -- From a question that was read to the judgement that it asks.
-use mathlib.Core.Path.{_≡_, refl, sym, _∙_}
+use mathlib.Core.Path.{_≡_, sym, _∙_}
 use mathlib.Core.List.{List}
-use Prim.Native.Nat.{ℕ, _+_, _*_, _≤_, _<_}
+use Prim.Native.Nat.{ℕ, _+_, _*_}
 use native.Mathlib.Omega.{arith}
 use lib.ListN.{length}
 use Rattle.definition.specs.Syntax.{given}
 use Rattle.definition.specs.Reply.{workWords}
-use Rattle.layout.specs.Denotes.{Base}
 use Rattle.layout.specs.declared.State.{State}
 use Rattle.layout.proofs.Denotes.{base-frame}
 use Rattle.contexts.specs.declared.Opened.{Opened}
@@ -14,7 +13,7 @@ use Rattle.reading.proofs.Questions.{asks-context}
 use Rattle.reading.specs.Table.{Sized, Laid}
 use Rattle.reading.specs.declared.Question.{Question}
 use Rattle.loading.specs.Loading.{Loading, Loaded}
-use Rattle.entry.specs.Entry.{RunPre, OpenPre, Opens}
+use Rattle.entry.specs.Entry.{OpenPre, Opens}
 
 -- ## Laying and loading
 

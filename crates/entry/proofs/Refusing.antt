@@ -1,20 +1,19 @@
 -- Refusals 1 to 5, and what is left where none of 1, 2, 3 is given.
-use mathlib.Core.Path.{_≡_, refl, sym, ap, _∙_}
+use mathlib.Core.Path.{_≡_, refl, _∙_}
 use mathlib.Core.Bool.{Bool, true, false, _||_}
-use mathlib.Core.List.{List, []}
+use mathlib.Core.List.{List}
 use mathlib.Core.Logic.{_≢_}
-use Prim.Native.Nat.{ℕ, zero, suc, _+_, _*_, _≤_, _<_}
+use Prim.Native.Nat.{ℕ, _≤_, _<_}
 use native.Mathlib.Omega.{arith}
 use lib.ListN.{length}
-use lib.Dec.{T, leb, ltb, eqb, le→leb, lt→ltb, eqb-refl}
+use lib.Dec.{leb, ltb, eqb, le→leb, lt→ltb, eqb-refl}
 use mir.Facts.{no-ltb, no-eqb}
 use Rattle.definition.specs.Syntax.{pick}
-use Rattle.definition.specs.Question.{Read, got, fault, Question, readQuestion}
+use Rattle.definition.specs.Question.{fault, readQuestion}
 use Rattle.definition.specs.Reply.{refusal, readReply, workWords, reply}
 use Rattle.definition.specs.Memory.{reportAfter, workAfter, call}
 use Rattle.laws.proofs.Steps.{is-true, is-false}
-use Rattle.entry.specs.declared.Reply.{Reply}
-use Rattle.entry.specs.Entry.{Numbers, Replied}
+use Rattle.entry.specs.Entry.{Replied}
 
 -- ## A refusal leaves both slices as they were
 

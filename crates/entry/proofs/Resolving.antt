@@ -1,26 +1,24 @@
 -- Kind 7: what the judgement came to, with its type resolved.
-use mathlib.Core.Path.{_≡_, refl, sym, _∙_}
+use mathlib.Core.Path.{_≡_, refl, sym}
 use mathlib.Core.List.{List}
-use Prim.Native.Nat.{ℕ, _+_, _*_, _≤_}
+use Prim.Native.Nat.{ℕ, _+_, _*_}
 use native.Mathlib.Omega.{arith}
 use native.Mathlib.Nat.{le-trans}
-use Rattle.definition.specs.Syntax.{Ty, Ctx, Tree, Trees, leaf, _&_}
-use Rattle.definition.specs.Run.{Out, done, fail, stop, andThen, _>>=_, give}
-use Rattle.definition.specs.Types.{apply}
+use Rattle.definition.specs.Syntax.{leaf, _&_}
+use Rattle.definition.specs.Run.{Out, andThen, _>>=_, give}
 use Rattle.definition.specs.Rules.{Result}
-use Rattle.layout.specs.Room.{Room}
 use Rattle.layout.specs.declared.State.{State}
 use Rattle.layout.proofs.Denotes.{run-frame}
 use Rattle.substitution.specs.Calls.{ApplyPre, Applied}
 use Rattle.layout.specs.declared.Made.{Made}
 use Rattle.layout.specs.declared.Made.the-variants as made
-use Rattle.substitution.proofs.Passing.{Reached, reached, Ended, ended, room-after}
+use Rattle.substitution.proofs.Passing.{reached, ended, room-after}
 use Rattle.judging.specs.declared.Answer.{Answer}
 use Rattle.judging.specs.declared.Step.{Step}
-use Rattle.judging.specs.declared.Step.the-variants.{Done, Fail, Spent}
+use Rattle.judging.specs.declared.Step.the-variants.{Done, Spent}
 use Rattle.judging.specs.Ending.{Landed, EndsJ, landed, failed, ran-out}
 use Rattle.judging.proofs.Nodes.{nodes-frame, nodes-at}
-use Rattle.judging.proofs.Steps.{NotDone, no-done, Came, came}
+use Rattle.judging.proofs.Steps.{NotDone, no-done, came}
 use Rattle.entry.specs.Entry.{resolved, ResolvePre, Resolves}
 
 -- it did not end well

@@ -2,20 +2,19 @@
 use mathlib.Core.Path.{_≡_, refl, subst₃}
 use mathlib.Core.Bool.{Bool, true, false}
 use mathlib.Core.List.{List}
-use Prim.Native.Nat.{ℕ, _+_, _*_, _≤_, _<_}
+use Prim.Native.Nat.{ℕ, _≤_}
 use native.Mathlib.Omega.{arith}
 use native.Mathlib.Nat.{le-trans}
 use lib.ListN.{length}
 use lib.Dec.{eqb}
-use Rattle.definition.specs.Syntax.{pick, Ty, Ctx, Tree, given}
+use Rattle.definition.specs.Syntax.{pick, Ty}
 use Rattle.definition.specs.Question as question
-use Rattle.definition.specs.Run.{Out, done, fail, stop, M, andThen, _>>=_, give}
+use Rattle.definition.specs.Run.{Out, done, fail, stop, andThen, _>>=_, give}
 use Rattle.definition.specs.Types.{apply}
 use Rattle.definition.specs.Rules.{Result, judge}
 use Rattle.definition.specs.Reply.{refusal, answer, outReply, workWords}
 use Rattle.definition.specs.Memory.{reportAfter}
 use Rattle.laws.proofs.Depth.{Left, apply-left, judge-left}
-use Rattle.laws.proofs.Steps.{bind-stop}
 use Rattle.judging.specs.declared.Step.{Step}
 use Rattle.judging.proofs.Steps.{step-none}
 use Rattle.contexts.specs.declared.Opened.{Opened}
@@ -23,7 +22,7 @@ use Rattle.reading.specs.Questions.{Accepted}
 use Rattle.reading.proofs.Questions.{asks-context}
 use Rattle.reading.specs.declared.Question.{Question}
 use Rattle.entry.specs.declared.Reply.{Reply}
-use Rattle.entry.specs.Entry.{Gives, outcome, RunPre, Runs, Opens, Answers, FinishPre, Finishes}
+use Rattle.entry.specs.Entry.{Gives, RunPre, Runs, Opens, Answers, FinishPre, Finishes}
 
 -- ## Entering cannot be paid
 

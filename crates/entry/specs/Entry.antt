@@ -1,7 +1,7 @@
 -- The entry's promise: the definition's call, in the four numbers and in both slices.
 use mathlib.Core.Path.{_≡_}
 use mathlib.Core.List.{List, _++_}
-use Prim.Native.Nat.{ℕ, _+_, _*_, _≤_, _<_}
+use Prim.Native.Nat.{ℕ, _≤_, _<_}
 use lib.ListN.{length, drop, replicate}
 use Rattle.definition.specs.Reply as definition
 use Rattle.definition.specs.Reply.{workWords, answer, outReply}

@@ -4,9 +4,9 @@ use mathlib.Core.List.{List}
 use Prim.Native.Nat.{ℕ, suc, _+_, _*_}
 use native.Mathlib.Omega.{arith}
 use Rattle.definition.specs.Syntax
-use Rattle.definition.specs.Syntax.{TyVar, etvar, arrow, Judgement, check, ruleNumber, leaf, _&_, children}
+use Rattle.definition.specs.Syntax.{etvar, arrow, Judgement, check, ruleNumber, leaf, _&_, children}
 use Rattle.definition.specs.Run.{_>>=_, andThen, give, fresh}
-use Rattle.definition.specs.Rules.{rule, judge, on, asArrow, asETVar, split, infAppArr, infAppETVar, inferAppRule, _orElse_}
+use Rattle.definition.specs.Rules.{judge, on, asArrow, asETVar, split, infAppArr, infAppETVar, inferAppRule, _orElse_}
 use Rattle.layout.specs.Names.{ty}
 use Rattle.layout.specs.Denotes.{Den}
 use Rattle.layout.specs.declared.Span.{Span}

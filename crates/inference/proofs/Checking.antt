@@ -6,12 +6,12 @@ use Prim.Native.Nat.{ℕ, _+_, _*_, _<_, _^_}
 use native.Mathlib.Omega.{arith}
 use lib.ListN.{length, getD}
 use Rattle.definition.specs.Syntax
-use Rattle.definition.specs.Syntax.{TmVar, TyVar, Ty, int, arrow, Expr, Ctx, onR, Judgement, infer, check, subtype, ruleNumber, leaf, _&_, children, varBnd, tvarBnd}
+use Rattle.definition.specs.Syntax.{TyVar, Ty, int, arrow, Expr, Ctx, onR, Judgement, infer, check, subtype, ruleNumber, leaf, _&_, children, varBnd, tvarBnd}
 use Rattle.definition.specs.Run.{Out, done, _>>=_, give}
 use Rattle.definition.specs.Contexts.{kVar, kTVar, _▹_, rightOf}
 use Rattle.definition.specs.Types.{apply}
 use Rattle.definition.specs.Question as question
-use Rattle.definition.specs.Rules.{Judge, rule, judge, tyCode, exprCode, parameter, chkLam, chkAll, chkSub, checkRule, branch}
+use Rattle.definition.specs.Rules.{Judge, judge, tyCode, exprCode, parameter, chkLam, chkAll, chkSub, checkRule, branch}
 use Rattle.layout.specs.Names.{tm, ty}
 use Rattle.layout.specs.Denotes.{Den, written, Run}
 use Rattle.layout.specs.declared.Span.{Span}

@@ -6,9 +6,8 @@ use native.Mathlib.Omega.{arith}
 use lib.ListN.{length, getD}
 use Rattle.definition.specs.Syntax
 use Rattle.definition.specs.Syntax.{bool, Judgement, infer, check, subtype, ruleNumber, leaf, _&_, children}
-use Rattle.definition.specs.Run.{_>>=_, give, fresh}
-use Rattle.definition.specs.Rules.{rule, judge, inferRule, infIf, branch}
-use Rattle.layout.specs.Names.{ty}
+use Rattle.definition.specs.Run.{_>>=_, give}
+use Rattle.definition.specs.Rules.{judge, inferRule, infIf, branch}
 use Rattle.layout.specs.Places.{ExprAt}
 use Rattle.layout.specs.declared.Span.{Span}
 use Rattle.layout.specs.declared.State.{State}

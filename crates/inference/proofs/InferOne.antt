@@ -7,11 +7,11 @@ use native.Mathlib.Omega.{arith}
 use native.Mathlib.Numerals.{add-one}
 use lib.ListN.{length, getD}
 use Rattle.definition.specs.Syntax
-use Rattle.definition.specs.Syntax.{TmVar, TyVar, etvar, arrow, forall, Judgement, infer, check, ruleNumber, leaf, _&_, children, varBnd, tvarBnd, etvarBnd}
+use Rattle.definition.specs.Syntax.{etvar, arrow, forall, Judgement, infer, check, ruleNumber, leaf, _&_, children, varBnd, tvarBnd, etvarBnd}
 use Rattle.definition.specs.Run.{_>>=_, andThen, give, fresh}
 use Rattle.definition.specs.Contexts.{kVar, kTVar, _▹_, solvedAndRight}
 use Rattle.definition.specs.Types.{apply}
-use Rattle.definition.specs.Rules.{rule, judge, inferRule, infAnn, infLam, infTAbs, infTApp, instantiate}
+use Rattle.definition.specs.Rules.{judge, inferRule, infAnn, infLam, infTAbs, infTApp, instantiate}
 use Rattle.layout.specs.Names.{tm, ty}
 use Rattle.layout.specs.Denotes.{Den, written}
 use Rattle.layout.specs.declared.Span.{Span}

@@ -7,12 +7,12 @@ use Prim.Native.Nat.{ℕ, _+_, _*_, _<_, _^_}
 use native.Mathlib.Omega.{arith}
 use lib.ListN.{length, getD}
 use Rattle.definition.specs.Syntax
-use Rattle.definition.specs.Syntax.{pick, TmVar, Ty, Expr, Ctx, Judgement, infer, check, inferApp, ruleNumber, Trees, leaf, _&_, children, varBnd}
+use Rattle.definition.specs.Syntax.{pick, Ty, Expr, Ctx, Judgement, infer, check, inferApp, ruleNumber, Trees, leaf, _&_, children, varBnd}
 use Rattle.definition.specs.Run.{Out, M, _>>=_, give}
 use Rattle.definition.specs.Contexts.{kVar, _▹_, solvedAndRight}
 use Rattle.definition.specs.Types.{apply}
-use Rattle.definition.specs.Rules.{Fired, Result, rule, judge, inferRule, infApp, infLet}
-use Rattle.layout.specs.Names.{tm, ty}
+use Rattle.definition.specs.Rules.{Fired, Result, judge, inferRule, infApp, infLet}
+use Rattle.layout.specs.Names.{tm}
 use Rattle.layout.specs.Places.{ExprAt}
 use Rattle.layout.specs.Denotes.{Den, Run}
 use Rattle.layout.specs.declared.Span.{Span}

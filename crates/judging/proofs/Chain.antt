@@ -1,11 +1,11 @@
 -- A rule on its way: what was built, which judgements came back, how it ends.
-use mathlib.Core.Path.{_≡_, refl, sym, _∙_}
+use mathlib.Core.Path.{_≡_, refl, sym}
 use mathlib.Core.List.{List}
 use Prim.Native.Nat.{ℕ, _+_, _*_, _≤_, _<_}
 use native.Mathlib.Nat.{le-trans, le-refl}
 use native.Mathlib.Omega.{arith}
 use lib.ListN.{length}
-use Rattle.definition.specs.Syntax.{Ty, Ctx, Judgement, Rule, ruleNumber, Tree, Trees, leaf, _&_, children, TypeError}
+use Rattle.definition.specs.Syntax.{Ty, Ctx, Judgement, Rule, ruleNumber, Trees, leaf, _&_, children, TypeError}
 use Rattle.definition.specs.Run.{Out, done, fail, stop, M, andThen}
 use Rattle.definition.specs.Rules.{Fired, Result, judge}
 use Rattle.layout.specs.Words.{Keep}
@@ -23,7 +23,7 @@ use Rattle.judging.specs.declared.Step.{Step}
 use Rattle.judging.specs.declared.Step.the-variants.{Done, Fail, Spent}
 use Rattle.judging.specs.Asking.{mode, Asks, Ready}
 use Rattle.judging.specs.Nodes.{NodesAt, no-nodes}
-use Rattle.judging.specs.Ending.{Landed, Failed, EndsR, fired, refused, out, RunsR, Judged}
+use Rattle.judging.specs.Ending.{Landed, Failed, fired, refused, out, RunsR, Judged}
 use Rattle.judging.proofs.Nodes.{nodes-frame, nodes-join, nodes-at, _+++_}
 use Rattle.judging.proofs.Steps.{NotDone, Came, came, else-ends}
 

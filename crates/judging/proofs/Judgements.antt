@@ -1,14 +1,14 @@
 -- A whole judgement: entering, its rule, leaving. The six judgement functions are proved by these alone.
-use mathlib.Core.Path.{_≡_, refl, sym, _∙_}
+use mathlib.Core.Path.{_≡_, refl}
 use mathlib.Core.List.{List}
 use Prim.Native.Nat.{ℕ, _+_, _-_, _*_, _≤_, _<_}
-use native.Mathlib.Nat.{le-trans, le-refl}
+use native.Mathlib.Nat.{le-refl}
 use native.Mathlib.Omega.{arith}
 use lib.ListN.{length}
 use Rattle.definition.specs.Syntax
-use Rattle.definition.specs.Syntax.{Ty, Ctx, Judgement, given, Rule, ruleNumber, node, Trees, leaf, _&_, children}
-use Rattle.definition.specs.Run.{Out, done, fail, stop}
-use Rattle.definition.specs.Rules.{Fired, Result, rule, judge}
+use Rattle.definition.specs.Syntax.{Judgement, given, Rule, ruleNumber, node, leaf, _&_, children}
+use Rattle.definition.specs.Run.{Out}
+use Rattle.definition.specs.Rules.{Fired, rule, judge}
 use Rattle.layout.specs.Words.{Keep}
 use Rattle.layout.specs.Denotes.{Den, Run}
 use Rattle.layout.specs.declared.Span.{Span}
@@ -19,7 +19,7 @@ use Rattle.judging.specs.declared.Ask.{Ask}
 use Rattle.judging.specs.declared.Answer.{Answer}
 use Rattle.judging.specs.declared.Mode.{Mode}
 use Rattle.judging.specs.declared.Step.{Step}
-use Rattle.judging.specs.declared.Step.the-variants.{Done, Fail, Spent}
+use Rattle.judging.specs.declared.Step.the-variants.{Done, Spent}
 use Rattle.judging.specs.Asking.{mode, Asks, JudgePre, RulePre}
 use Rattle.judging.specs.Nodes.{NodeAt, NodesAt, no-nodes, a-node}
 use Rattle.judging.specs.Ending.{Landed, EndsJ, landed, failed, ran-out, EndsR, fired, refused, out, RunsJ, Judged, Fires}

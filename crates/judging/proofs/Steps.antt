@@ -16,8 +16,8 @@ use Rattle.laws.proofs.Depth.{judge-eq}
 use Rattle.layout.specs.declared.State.{State}
 use Rattle.judging.specs.declared.Answer.{Answer}
 use Rattle.judging.specs.declared.Step.{Step}
-use Rattle.judging.specs.declared.Step.the-variants.{Done, Fail, Spent}
-use Rattle.judging.specs.Ending.{Landed, Failed, EndsJ, landed, failed, ran-out, EndsR, fired, refused, out}
+use Rattle.judging.specs.declared.Step.the-variants.{Done}
+use Rattle.judging.specs.Ending.{Landed, EndsJ, landed, failed, ran-out, EndsR, fired, refused, out}
 use Rattle.judging.proofs.Step as StepT
 
 -- ## An answer that is not Done: what the code's `else` knows

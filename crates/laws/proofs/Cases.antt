@@ -1,6 +1,6 @@
 -- The fifteen questions of document 01 with their replies, as one table under one theorem, and the edges that it states.
 use mathlib.Core.Path.{_≡_, refl}
-use Prim.Native.Nat.{ℕ, zero, suc, _+_, _*_}
+use Prim.Native.Nat.{ℕ, _+_, _*_}
 use mathlib.Core.List.{List, [], _∷_, _++_, map}
 use lib.ListN.{length, take, drop, replicate}
 use Rattle.definition.specs.Reply.{Reply, refusal, reply, reply-computes}

@@ -1,6 +1,6 @@
 -- The depth does not matter: `apply` and `judge` meet the equations of a recursion without any count. A program's proof goes by these.
 use mathlib.Core.Path.{_≡_, refl, sym, ap, _∙_}
-use Prim.Native.Nat.{ℕ, zero, suc, _+_, _-_, _≤_, _<_}
+use Prim.Native.Nat.{ℕ, zero, suc, _+_, _-_, _≤_}
 use native.Mathlib.Omega.{arith}
 use native.Mathlib.Nat.{le-of-suc-le-suc, not-suc-le-zero, lt-of-not-le, le-refl}
 use native.Mathlib.Decide.{decLe}
@@ -9,7 +9,7 @@ use Rattle.definition.specs.Syntax.{TyVar, Ty, Ctx, Judgement, given}
 use Rattle.definition.specs.Question.{Mode}
 use Rattle.definition.specs.Run.{Out, done, fail, stop, M, andThen, _>>=_, give, refuse, halt, charge, fresh}
 use Rattle.definition.specs.Types.{applyStep, applyTo, apply, subst}
-use Rattle.definition.specs.Rules.{Result, Judge, rule, judgeStep, judgeTo, judge}
+use Rattle.definition.specs.Rules.{Result, Judge, judgeStep, judgeTo, judge}
 use Rattle.laws.proofs.Steps.{charge-yes, charge-no}
 use Rattle.laws.proofs.Congruence.{Rel, Closed, substR, applyStepR, ruleR}
 

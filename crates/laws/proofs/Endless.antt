@@ -2,15 +2,15 @@
 -- with the literal 1 checked against ETVar A.
 use mathlib.Core.Path.{_≡_, refl, ap, _∙_}
 use mathlib.Core.Logic.{_⊎_, inl, inr, _≢_}
-use Prim.Native.Nat.{ℕ, zero, suc, _+_, _-_, _≤_}
+use Prim.Native.Nat.{ℕ, zero, suc, _-_, _≤_}
 use native.Mathlib.Nat.{lt-of-not-le, not-suc-le-zero}
 use native.Mathlib.Decide.{decLe}
 use mathlib.Core.Bool.{false, _||_}
 use mathlib.Core.List.{List, [], _∷_}
 use lib.Dec.{ltb, eqb}
-use Rattle.definition.specs.Syntax.{pick, TyVar, Ty, int, etvar, setvarBnd, Ctx, Expr, Judgement, infer, check, litInt, Tree, node, leaf, InfLitInt}
+use Rattle.definition.specs.Syntax.{pick, TyVar, int, etvar, setvarBnd, Ctx, Expr, infer, check, litInt, node, leaf, InfLitInt}
 use Rattle.definition.specs.Question.{plain, got, Question, readQuestion, question-computes}
-use Rattle.definition.specs.Run.{Out, done, stop, M, andThen, _>>=_, give, halt, charge}
+use Rattle.definition.specs.Run.{done, stop, M, andThen, _>>=_, give, halt, charge}
 use Rattle.definition.specs.Contexts.{contexts-compute}
 use Rattle.definition.specs.Types.{applyStep, solutionOr, applyTo, apply}
 use Rattle.definition.specs.Rules.{Result, _orElse_, when, on, onBoth, exprCode, tyCode, asAbs, asArrow, asForall, chkSub, checkRule, inferRule, rule, judgeStep, judge}

@@ -5,7 +5,7 @@ use mathlib.Core.Bool.{Bool, true, false, not}
 use lib.Dec.{T, leb, le→leb}
 use mir.Facts.{no-leb}
 use Rattle.definition.specs.Syntax.{pick, TypeError}
-use Rattle.definition.specs.Run.{Out, done, fail, stop, M, andThen, _>>=_, charge, fresh}
+use Rattle.definition.specs.Run.{done, fail, stop, M, andThen, _>>=_, charge, fresh}
 
 -- ## Tests
 

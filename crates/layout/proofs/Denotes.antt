@@ -5,13 +5,12 @@ use Prim.Native.Nat.{ℕ, _+_, _*_, _≤_, _<_}
 use native.Mathlib.Nat.{le-trans}
 use native.Mathlib.Omega.{arith}
 use lib.ListN.{length, getD}
-use Rattle.definition.specs.Syntax.{TyVar, Ty, int, bool, var, etvar, arrow, forall, Entry, Ctx}
+use Rattle.definition.specs.Syntax.{TyVar, Ty, int, bool, etvar, arrow, forall, Entry, Ctx}
 use Rattle.definition.specs.Contexts.{keyOf, kindOf, nameOf, held}
 use Rattle.definition.specs.Rules.{tyCode}
 use Rattle.layout.specs.Words.{Keep, Put2, Put4}
 use Rattle.layout.specs.Places.{size, TyAt}
 use Rattle.layout.specs.Denotes.{capped, MadeAt, Den, written, int-made, bool-made, etvar-made, arrow-made, forall-made, EntryAt, CtxAt, nil, cons, Run, Base}
-use Rattle.layout.proofs.Words.{keep-refl}
 use Rattle.layout.proofs.Places.{ty-code, expr-code}
 
 -- ## Types

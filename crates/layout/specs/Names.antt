@@ -1,5 +1,4 @@
 -- The program's names and search keys as the definition's.
-use Prim.Native.Nat.{ℕ}
 use Rattle.definition.specs.Syntax as syntax
 use Rattle.definition.specs.Contexts as contexts
 use Rattle.layout.specs.declared.TmVar.{TmVar}

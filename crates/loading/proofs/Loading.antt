@@ -1,13 +1,13 @@
 -- Loading entries one after the other.
-use mathlib.Core.Path.{_≡_, refl, sym, ap, _∙_}
-use mathlib.Core.List.{List, [], _∷_, _++_}
-use mathlib.Core.Logic.{_⊎_, inl, inr, ⊎-elim}
+use mathlib.Core.Path.{_≡_, refl, sym, _∙_}
+use mathlib.Core.List.{List, [], _∷_}
+use mathlib.Core.Logic.{inl, inr, ⊎-elim}
 use Prim.Native.Nat.{ℕ, _+_, _-_, _*_, _≤_, _<_}
 use native.Mathlib.Omega.{arith}
 use native.Mathlib.Nat.{le-refl}
 use lib.ListN.{length, getD}
-use Rattle.definition.specs.Syntax.{Ty, int, Entry, varBnd, tvarBnd, etvarBnd, setvarBnd, mark, Ctx}
-use Rattle.definition.specs.Contexts.{keyOf, kindOf, nameOf, held}
+use Rattle.definition.specs.Syntax.{Ty, int, Entry, Ctx}
+use Rattle.definition.specs.Contexts.{keyOf, kindOf, held}
 use Rattle.layout.specs.Words.{Keep, Put4}
 use Rattle.layout.specs.Denotes.{Den, written, Base, CtxAt, nil, cons}
 use Rattle.layout.proofs.Words.{keep-refl, keep-less, keep-trans}

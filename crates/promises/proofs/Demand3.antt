@@ -1,5 +1,5 @@
 -- Demand 3 of the exported functions, through their contracts.
-use mathlib.Core.Path.{_≡_, refl, sym, ap, _∙_}
+use mathlib.Core.Path.{_≡_, sym, _∙_}
 use mathlib.Core.Bool.{Bool, true, false}
 use mathlib.Core.List.{List, [], _∷_, _++_, append-nil}
 use Prim.Native.Nat.{ℕ, _-_, _*_, _/_, _%_, min}
@@ -9,7 +9,7 @@ use Rattle.definition.specs.Syntax.{pick}
 use Rattle.definition.specs.Reply.{Reply, reply}
 use Rattle.definition.specs.Memory.{call, reportAfter, workAfter}
 use Rattle.definition.specs.Host.{wordsOf, bytesOf, byteReply, numbers, HostCall, hostCall}
-use Rattle.alike.specs.Alike.{Pairing, itself, Label, the, InReplies, Each, none, more, Alike, AlikeQuestions, AlikeReplies, atLabel}
+use Rattle.alike.specs.Alike.{Pairing, itself, the, InReplies, Each, none, more, Alike, AlikeQuestions, AlikeReplies, atLabel}
 use Rattle.alike.proofs.Words.{sameLength, joinE}
 use Rattle.alike.proofs.Demand3.{alike, no-literal, no-literal-call}
 use Rattle.sized.proofs.Answering.{whole}

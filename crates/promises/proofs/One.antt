@@ -1,5 +1,5 @@
 -- No two replies meet the contract of an exported function: what it promises leaves nothing open.
-use mathlib.Core.Path.{_≡_, sym, _∙_}
+use mathlib.Core.Path.{sym, _∙_}
 use mathlib.Core.List.{List}
 use Prim.Native.Nat.{ℕ}
 use Rattle.entry.specs.declared.Reply.{Reply}

@@ -5,7 +5,7 @@ use Prim.Native.Nat.{ℕ, _+_, _*_, _≤_, _<_}
 use native.Mathlib.Nat.{le-trans, le-refl}
 use native.Mathlib.Omega.{arith}
 use Rattle.definition.specs.Syntax.{Ty, Ctx, Judgement, Rule, ruleNumber, Tree, Trees, leaf, _&_, children}
-use Rattle.definition.specs.Run.{Out, done, stop, M, _>>=_, give, fresh}
+use Rattle.definition.specs.Run.{Out, done, stop, M, _>>=_, give}
 use Rattle.definition.specs.Rules.{Fired, Result}
 use Rattle.definition.specs.Types.{apply}
 use Rattle.laws.proofs.Steps.{bind-done, bind-fail, bind-stop}

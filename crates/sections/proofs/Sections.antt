@@ -1,18 +1,15 @@
 -- Where sections stand, and what the sections of a report are.
-use mathlib.Core.Path.{_≡_, refl, sym, ap, _∙_}
-use mathlib.Core.Bool.{Bool, true, false}
-use mathlib.Core.List.{List, [], _∷_, _++_, append-assoc}
+use mathlib.Core.Path.{_≡_, sym, ap, _∙_}
+use mathlib.Core.List.{List}
 use mathlib.Core.Logic.{_⊎_, ⊎-elim}
-use Prim.Native.Nat.{ℕ, zero, suc, _+_, _-_, _≤_, _<_}
+use Prim.Native.Nat.{ℕ, suc, _+_, _-_, _≤_, _<_}
 use native.Mathlib.Omega.{arith}
-use lib.ListN.{length, getD, take, drop, length-append}
-use lib.Seq.{length-take-le, getD-take, take-take, take-add, take-at, take-all, drop-at, getD-at}
+use lib.ListN.{length, getD, take, drop}
+use lib.Seq.{length-take-le, getD-take, take-take, take-add, take-all, drop-at}
 use borrow.Author.Tests.{le-ltb, lt-ltb, le-leb, lt-leb}
-use Rattle.definition.specs.Syntax.{pick, section, noSection, tySection, ctxSection, tyWords, ctxWords, treeWords}
-use Rattle.definition.specs.Rules.{Result}
-use Rattle.definition.specs.Reply.{givesType, resultWords}
+use Rattle.definition.specs.Syntax.{pick}
 use Rattle.sections.specs.declared.Bounds.{Bounds}
-use Rattle.sections.specs.Sections.{boundsAt, boundsOf, sectionOf, PartAt, PartOf}
+use Rattle.sections.specs.Sections.{boundsAt, boundsOf, sectionOf, PartOf}
 
 -- ## One section
 

@@ -5,7 +5,7 @@ use mathlib.Core.List.{List}
 use Prim.Native.Nat.{ℕ, _+_, _*_, _≤_, _<_, _^_}
 use native.Mathlib.Omega.{arith}
 use lib.ListN.{length}
-use Rattle.definition.specs.Syntax.{TyVar, Ty, int, etvar, Ctx, Side, onL, onR, Judgement, Rule, ruleNumber, Tree, Trees, leaf, _&_, children}
+use Rattle.definition.specs.Syntax.{TyVar, Ty, int, etvar, Ctx, Side, Judgement, Rule, ruleNumber, Tree, Trees, leaf, _&_, children}
 use Rattle.definition.specs.Run.{Out, done, stop, M, andThen, give}
 use Rattle.definition.specs.Contexts.{Key, rightOf}
 use Rattle.definition.specs.Rules.{Fired, Result, tyCode, rule, judge}

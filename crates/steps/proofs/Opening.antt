@@ -7,7 +7,7 @@ use native.Mathlib.Omega.{arith}
 use Rattle.definition.specs.Syntax as syntax
 use Rattle.definition.specs.Syntax.{Ty, etvar, forall, Ctx, onL, onR}
 use Rattle.definition.specs.Run.{Out, done, stop}
-use Rattle.definition.specs.Contexts.{kTVar, kETVar, kMark, held}
+use Rattle.definition.specs.Contexts.{kTVar, kETVar, kMark}
 use Rattle.definition.specs.Types.{subst}
 use Rattle.layout.specs.Names.{ty}
 use Rattle.layout.specs.Words.{Keep}
@@ -23,7 +23,7 @@ use Rattle.layout.proofs.Denotes.{den-frame, run-frame}
 use Rattle.types.specs.Reading.{HeldNamed, Named, BodyOf}
 use Rattle.types.specs.Making.{PutETVar}
 use Rattle.types.proofs.Reading.{forall-held}
-use Rattle.contexts.specs.Build.{Space, Makes, Pushed, Pushed2}
+use Rattle.contexts.specs.Build.{Space, Pushed, Pushed2}
 use Rattle.contexts.specs.declared.Opened.{Opened}
 use Rattle.contexts.proofs.Build.{makes-tvar, makes-unsolved, makes-mark}
 use Rattle.substitution.specs.Calls.{SubstPre, Substed}

@@ -4,8 +4,8 @@ use mathlib.Core.List.{List, [], _∷_, _++_, append-assoc}
 use Prim.Native.Nat.{ℕ, zero, suc, _+_, _*_, _/_, _%_, _≤_, _<_}
 use native.Mathlib.Omega.{arith}
 use native.Mathlib.Numerals.{add-one}
-use lib.ListN.{length, getD, set, take, drop, length-append, length-take, length-set, take-append-drop, drop-of-length-le}
-use lib.Seq.{sets-eq, take-at, drop-at, drop-drop, drop-append-add, drop-cons, length-take-le, take-suc-set, drop-set-lt, append-snoc, length-front}
+use lib.ListN.{length, getD, set, take, drop, length-append, take-append-drop, drop-of-length-le}
+use lib.Seq.{sets-eq, take-at, drop-drop, drop-append-add, drop-cons, length-take-le}
 use Rattle.definition.specs.Host.{wordAt, wordsOf, bytesOf}
 use Rattle.wire.specs.Bytes.{putWord}
 

@@ -3,7 +3,6 @@ use Rattle.contexts.proofs.Build.{pushed}
 use borrow.Author.Needs.{needs}
 use Rattle.contexts.proofs.push.Statement.{statement}
 use Rattle.contexts.proofs.push.Tie as tie
-use Rattle.contexts.proofs.put_entry.Reads as put-entry-reads
 
 mul-p : tie.Need-mul-p
 mul-p c = search needs

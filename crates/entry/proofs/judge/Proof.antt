@@ -1,8 +1,6 @@
 -- `judge` meets its contract: each kind by its judgement.
-use mathlib.Core.Path.{_≡_, refl, sym, _∙_}
-use mathlib.Core.List.{List, [], _∷_}
+use mathlib.Core.Path.{refl, sym}
 use native.Mathlib.Omega.{arith}
-use types.Run.{OneOf}
 use Rattle.definition.specs.Syntax.{onL, onR}
 use Rattle.judging.proofs.Asking.{small-infer, small-check, small-app, small-sub, small-inst}
 use Rattle.entry.proofs.Asking.{asks-1, asks-2, asks-3, asks-4, asks-5, asks-6, asks-7, kind-pre, kind-answers, resolve-pre, kind7-answers, kind-seven}

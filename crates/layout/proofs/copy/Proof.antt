@@ -1,8 +1,8 @@
 -- `copy` meets its contract.
 use native.Mathlib.Omega.{arith}
-use mathlib.Core.Path.{_≡_, refl, sym, _∙_, ap}
-use Prim.Native.Nat.{ℕ, _≤_, _<_, _-_, _*_, _+_}
-use lib.ListN.{length, getD}
+use mathlib.Core.Path.{_≡_, sym}
+use Prim.Native.Nat.{ℕ, _≤_, _<_, _-_, _+_}
+use lib.ListN.{getD}
 use Rattle.layout.specs.Words.{Keep}
 use Rattle.layout.proofs.Words.{keep-refl, keep-trans, keep-set}
 use Rattle.layout.proofs.Words.{copy-more}

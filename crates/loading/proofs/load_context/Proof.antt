@@ -4,9 +4,6 @@ use native.Mathlib.Nat.{le-refl}
 use borrow.Author.Needs.{needs}
 use Rattle.loading.proofs.load_context.Statement.{statement}
 use Rattle.loading.proofs.load_context.Tie as tie
-use Rattle.loading.proofs.load_context.Reads as reads
-use Rattle.loading.proofs.load_context.Lts as lts
-use Rattle.loading.proofs.load_from.Reads as load-from-reads
 
 mul-end : tie.Need-mul-end
 mul-end c = search needs

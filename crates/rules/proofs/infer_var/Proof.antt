@@ -2,7 +2,6 @@
 use borrow.Author.Needs.{needs}
 use native.Mathlib.Omega.{arith}
 use mathlib.Core.Path.{refl}
-use Prim.Native.Nat.{_+_}
 use Rattle.rules.proofs.Plain.{run-within, var-within, var-refused, var-done}
 use Rattle.rules.proofs.infer_var.Statement.{statement}
 use Rattle.rules.proofs.infer_var.Tie as tie
