@@ -8,8 +8,9 @@ use mathlib.Core.List.{List, [], _∷_, _++_}
 use lib.ListN.{length, length-append}
 use lib.Dec.{T, leb}
 use Rattle.laws.proofs.Steps.{is-true}
+use Rattle.laws.proofs.Depth.{readCtx-none}
 use Rattle.definition.specs.Syntax.{pick, Ty, Expr}
-use Rattle.definition.specs.Question.{got, Reader, next, _>>=_, give, badShape, word, within, row, oneOf, tyRows, readTy, type, exprRows, readExpr, expression, entry, unlessEnd, readCtx, context, counted, unknown, Question, kindRows, question, readQuestion}
+use Rattle.definition.specs.Question.{Reader, next, _>>=_, give, badShape, word, within, row, oneOf, tyRows, readTy, type, exprRows, readExpr, expression, entry, unlessEnd, readCtx, context, counted, unknown, Question, kindRows, question, readQuestion}
 use Rattle.alike.specs.Alike
 use Rattle.alike.specs.Alike.{Pairing, Label, the, section, IsTy, IsExpr, IsEntry, IsCtx, IsQuestion, written, InQuestions, Each, none, more, AlikeQuestions}
 use Rattle.alike.proofs.Related
@@ -86,11 +87,6 @@ exact e = record { left = omega (arith, lengthL e); right = omega (arith, length
 
 after : {d d′ : ℕ} {s t : List Label} → Starts s → Deep (suc d) (suc d′) (s ++ t) → Deep d d′ t
 after (starts {s = s}) k = second s (deeper k)
-
-readNone : (d p : ℕ) → readCtx d p [] ≡ got [] p []
-unfolding readCtx unlessEnd
-readNone zero p = refl
-readNone (suc d) p = refl
 
 -- two questions with the same kind and mode, on judgements that are alike
 pub record QuestionR (P : Pairing) (q q′ : Question) : Type 0 where
@@ -184,7 +180,7 @@ module _ {P : Pairing} where
       nextR _ _ (g .at (more x e) p v v′) (λ A A′ q w. nextR _ _ (h .at f q) (λ Γ Γ′ q t. gotR (consR w t)))
 
   noneAt : {u u′ : List ℕ} (d d′ : ℕ) → Each (InQuestions P) [] u u′ → (p : ℕ) → GotR (CtxR P) [] [] (readCtx d p u) (readCtx d′ p u′)
-  noneAt d d′ none p = rw (readNone d p, readNone d′ p) (gotR nilR)
+  noneAt d d′ none p = rw (readCtx-none d p, readCtx-none d′ p) (gotR nilR)
 
   readCtxR : (d d′ : ℕ) {s : List Label} → IsCtx s → Deep d d′ s → Fills P (CtxR P) (readCtx d) (readCtx d′) s
   readCtxR d d′ IsCtx.noEntry k = record { at = noneAt d d′ }

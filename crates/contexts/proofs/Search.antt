@@ -16,7 +16,8 @@ use Rattle.contexts.specs.Search.{Hit, First, Missing, Found, Split, Bef
 
 -- ## One entry against a key
 
-not-both : (a b c d : ℕ) → (a ≡ b → c ≡ d → ⊥) → (eqb a b && eqb c d) ≡ false
+-- two tests that do not both hold
+pub not-both : (a b c d : ℕ) → (a ≡ b → c ≡ d → ⊥) → (eqb a b && eqb c d) ≡ false
 not-both a b c d f = go (eqb a b) refl (eqb c d) refl
   where
     go : (x : Bool) → eqb a b ≡ x → (y : Bool) → eqb c d ≡ y → (x && y) ≡ false

@@ -23,6 +23,7 @@ use Rattle.types.specs.Reading.{HeldAs, LeftOf, RightOf}
 use Rattle.types.proofs.Held.{room-held, held-as}
 use Rattle.contexts.specs.Build.{Space, Pushed}
 use Rattle.contexts.specs.declared.Opened.{Opened}
+use Rattle.contexts.proofs.Build.{makes-var}
 use Rattle.judging.specs.declared.Answer.{Answer}
 use Rattle.judging.specs.declared.Mode.{Mode}
 use Rattle.judging.specs.declared.Step.{Step}
@@ -43,7 +44,6 @@ use Rattle.rules.specs.Taking.{Choice, lit-int, lit-bool, lam, all, sub, CheckP
 use Rattle.rules.specs.Going.{TwoIn, Passes, Nothing, Compared, PlainOut, kept, KeepOut}
 use Rattle.rules.proofs.Forms.{Abs, form}
 use Rattle.rules.proofs.Choices.{chk-lam, chk-all, chk-sub}
-use Rattle.rules.proofs.Before.{var-entry}
 use Rattle.rules.proofs.Ways.{Way, den-on, otherwise, back, went, grown, Onward, onward, there, turn, finish}
 use Rattle.inference.specs.Rules.{relate, Related}
 use Rattle.inference.proofs.Starting.{outcome, begin-check, type-next, in-table}
@@ -146,7 +146,7 @@ module _ (m : Mode) {q w : List ℕ} {s : State} {g : Span} {ex r : ℕ} (pre : 
             at = λ j k.
                 let u = lam-onward k in
                 let run₁ : Run q w₁ (s₁ .top) (g .at) (g .n) (check-asked ex r k .Γ) = run-frame (u .keep) (u .up) (check-asked ex r k .run) in
-                ask-check (rw (lam-var k) at (i .run run₁ (var-entry (tm x) (den-on (u .way) (lam-left k)))))
+                ask-check (rw (lam-var k) at (i .run run₁ (makes-var (tm x) (den-on (u .way) (lam-left k)))))
                 (type-next (pre .rule .room .base) h (lam-parts k .type) (lam-parts k .body)) (den-on (lam-way₂ k) (rt .is _ _ (lam-den k) .den));
           }
 

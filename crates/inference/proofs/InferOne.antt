@@ -24,6 +24,7 @@ use Rattle.layout.proofs.Denotes.{run-frame}
 use Rattle.types.proofs.Held.{room-held}
 use Rattle.contexts.specs.Build.{Space, Pushed}
 use Rattle.contexts.specs.declared.Opened.{Opened}
+use Rattle.contexts.proofs.Build.{makes-tvar}
 use Rattle.substitution.specs.Calls.{ApplyPre, Applied}
 use Rattle.judging.specs.declared.Answer.{Answer}
 use Rattle.judging.specs.declared.Mode.{Mode}
@@ -40,7 +41,6 @@ use Rattle.rules.specs.declared.Mid.the-variants.{On, End}
 use Rattle.rules.specs.Taking.{InferPre}
 use Rattle.rules.specs.Going.{LamPre, LamIn, Two, DenOne, Instantiated, PlainOut, kept, KeepOut, TabsPre, TabsOut}
 use Rattle.rules.proofs.Forms.{Abs, Typed, TAbs}
-use Rattle.rules.proofs.Before.{tvar-entry}
 use Rattle.rules.proofs.Ways.{Way, went, grown, apply-pre, AppliedTo, apply-spent, apply-done, onward, there, finish}
 use Rattle.inference.proofs.Starting.{outcome, begin-infer, shape, after-expr, type-next}
 use Rattle.inference.proofs.Premise.{At, Premise, ask-infer, ask-check, Returns, returns}
@@ -144,7 +144,7 @@ module _ (m : Mode) {q w : List ℕ} {s : State} {g : Span} {ex : ℕ} (pre : In
     tabs-way k = grown (begin-infer m (pre .rule) (infer-asked ex k .is) (tabs k .is) refl) 0 (i .grown) (omega arith)
 
     pub tabs-asks : Premise m (pre .rule) _ _ (λ j k. tabs-way k) (o .g) (inferAsk (ex + 2))
-    tabs-asks = record { at = λ j k. ask-infer (rw (tabs-var k) at (i .run (infer-asked ex k .run) (tvar-entry (ty a) (pre .rule .room .base)))) (tabs k .body) }
+    tabs-asks = record { at = λ j k. ask-infer (rw (tabs-var k) at (i .run (infer-asked ex k .run) (makes-tvar (ty a) (pre .rule .room .base)))) (tabs k .body) }
 
     module _ {w₂ : List ℕ} {z : Step} (call : Judged m q w₁ w₂ (o .st) (o .g) (inferAsk (ex + 2)) z) {r : Answer} (d : z ≡ Done r) where
       pub tabs-back : {j : Judgement} (k : At (pre .rule) j) → Returns tabs-asks call k r

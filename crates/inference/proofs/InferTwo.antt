@@ -22,6 +22,7 @@ use Rattle.layout.specs.declared.Made.{Made}
 use Rattle.layout.specs.declared.Made.the-variants as made
 use Rattle.contexts.specs.Build.{Space, Pushed}
 use Rattle.contexts.specs.declared.Opened.{Opened}
+use Rattle.contexts.proofs.Build.{makes-var}
 use Rattle.substitution.specs.Calls.{ApplyPre, Applied}
 use Rattle.judging.specs.declared.Answer.{Answer}
 use Rattle.judging.specs.declared.Ask.{Ask}
@@ -35,7 +36,6 @@ use Rattle.steps.proofs.Going.{room-space, ref-small}
 use Rattle.rules.specs.Taking.{InferPre}
 use Rattle.rules.specs.Going.{PlainOut, kept, KeepOut}
 use Rattle.rules.proofs.Forms.{App, Let, BinOp}
-use Rattle.rules.proofs.Before.{var-entry}
 use Rattle.rules.proofs.Ways.{Way, grown, apply-pre, AppliedTo, apply-spent, apply-done, finish}
 use Rattle.inference.specs.declared.Sides.{Sides}
 use Rattle.inference.specs.Rules.{infSides, Operates}
@@ -128,7 +128,7 @@ module _ (m : Mode) {q w : List ℕ} {s : State} {g : Span} {ex : ℕ} (pre : In
       let-asks₂ = record {
         at = λ j k.
             let b = let-back k in
-            ask-infer (rw (let-var k) at (i .run (b .run) (var-entry (tm x) (b .den)))) (expr-next (pre .rule .room .base) h (lets k .first) (lets k .second));
+            ask-infer (rw (let-var k) at (i .run (b .run) (makes-var (tm x) (b .den)))) (expr-next (pre .rule .room .base) h (lets k .first) (lets k .second));
       }
 
       module _ {w₃ : List ℕ} {y : Step} (call₂ : Judged m q w₂ w₃ (o .st) (o .g) (inferAsk p) y) {u : Answer} (d₂ : y ≡ Done u) where

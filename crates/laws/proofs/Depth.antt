@@ -1,17 +1,19 @@
--- The depth does not matter: `apply` and `judge` meet the equations of a recursion without any count. A program's proof goes by these.
+-- The depth does not matter: `apply` and `judge` meet the equations of a recursion without any count, and no words are an empty context.
+-- A program's proof goes by these.
 use mathlib.Core.Path.{_≡_, refl, sym, ap, _∙_}
+use mathlib.Core.List.{[]}
 use Prim.Native.Nat.{ℕ, zero, suc, _+_, _-_, _≤_}
 use native.Mathlib.Omega.{arith}
 use native.Mathlib.Nat.{le-of-suc-le-suc, not-suc-le-zero, lt-of-not-le, le-refl}
 use native.Mathlib.Decide.{decLe}
 use lib.ListN.{length}
-use Rattle.definition.specs.Syntax.{TyVar, Ty, Ctx, Judgement, given}
-use Rattle.definition.specs.Question.{Mode}
+use Rattle.definition.specs.Syntax.{Ty, Ctx, Judgement, given}
+use Rattle.definition.specs.Question.{got, unlessEnd, readCtx, Mode}
 use Rattle.definition.specs.Run.{Out, done, fail, stop, M, andThen, _>>=_, give, refuse, halt, charge, fresh}
-use Rattle.definition.specs.Types.{applyStep, applyTo, apply, subst}
+use Rattle.definition.specs.Types.{applyStep, applyTo, apply}
 use Rattle.definition.specs.Rules.{Result, Judge, judgeStep, judgeTo, judge}
 use Rattle.laws.proofs.Steps.{charge-yes, charge-no}
-use Rattle.laws.proofs.Congruence.{Rel, Closed, substR, applyStepR, ruleR}
+use Rattle.laws.proofs.Congruence.{Rel, Closed, applyStepR, ruleR}
 
 -- ## Two runs that are the same at every budget up to b, and never leave more than there was
 
@@ -147,12 +149,16 @@ judge-eq m j (suc l) n =
 
 -- ## No run leaves more than there was
 
-pub subst-left : (a : TyVar) (B A : Ty) (l n : ℕ) → Left l (subst a B A l n)
-subst-left a B A l n = substR (Upto l) (upto l) a B A l n (le-refl l) .1
-
 pub apply-left : (Γ : Ctx) (A : Ty) (l n : ℕ) → Left l (apply Γ A l n)
 apply-left Γ A l n = apply-self l Γ A l n (le-refl l) .1
 
 pub judge-left : (m : Mode) (j : Judgement) (l n : ℕ) → Left l (judge m j l n)
 unfolding judge
 judge-left m j l n = judgeTo-upto m l l l (le-refl l) (le-refl l) j l n (le-refl l) .1
+
+-- ## No words, read as a context at any depth
+
+pub readCtx-none : (d p : ℕ) → readCtx d p [] ≡ got [] p []
+unfolding readCtx unlessEnd
+readCtx-none zero p = refl
+readCtx-none (suc d) p = refl

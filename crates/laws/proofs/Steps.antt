@@ -1,11 +1,11 @@
 -- Stepping through a run: what a charge and a bind come to.
 use mathlib.Core.Path.{_≡_, refl}
-use Prim.Native.Nat.{ℕ, suc, _+_, _-_, _≤_, _<_}
+use Prim.Native.Nat.{ℕ, _-_, _≤_, _<_}
 use mathlib.Core.Bool.{Bool, true, false, not}
 use lib.Dec.{T, leb, le→leb}
 use mir.Facts.{no-leb}
 use Rattle.definition.specs.Syntax.{pick, TypeError}
-use Rattle.definition.specs.Run.{done, fail, stop, M, andThen, _>>=_, charge, fresh}
+use Rattle.definition.specs.Run.{done, fail, stop, M, andThen, _>>=_, charge}
 
 -- ## Tests
 
@@ -34,10 +34,6 @@ charge-yes c l n h = pick-true _ _ (is-true (leb c l) (le→leb c l h))
 pub charge-no : (c l n : ℕ) → l < c → charge c l n ≡ stop
 unfolding charge
 charge-no c l n h = pick-false _ _ (is-false (leb c l) (no-leb h))
-
-pub fresh-is : (l n : ℕ) → fresh l n ≡ done (record { number = 1_000_000 + n }) l (suc n)
-unfolding fresh
-fresh-is l n = refl
 
 -- ## A bind whose first part is known
 

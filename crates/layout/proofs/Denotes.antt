@@ -7,7 +7,6 @@ use native.Mathlib.Omega.{arith}
 use lib.ListN.{length, getD}
 use Rattle.definition.specs.Syntax.{TyVar, Ty, int, bool, etvar, arrow, forall, Entry, Ctx}
 use Rattle.definition.specs.Contexts.{keyOf, kindOf, nameOf, held}
-use Rattle.definition.specs.Rules.{tyCode}
 use Rattle.layout.specs.Words.{Keep, Put2, Put4}
 use Rattle.layout.specs.Places.{size, TyAt}
 use Rattle.layout.specs.Denotes.{capped, MadeAt, Den, written, int-made, bool-made, etvar-made, arrow-made, forall-made, EntryAt, CtxAt, nil, cons, Run, Base}
@@ -51,25 +50,6 @@ den-written h (bool-made m) = absurd (omega (arith, m .ref))
 den-written h (etvar-made m n) = absurd (omega (arith, m .ref))
 den-written h (arrow-made m x y f g s d e) = absurd (omega (arith, m .ref))
 den-written h (forall-made m y n g s d) = absurd (omega (arith, m .ref))
-
--- any other is a record of work, which begins with the type's code
-pub record CodeMade (w : List ℕ) (t r k : ℕ) : Type 0 where
-  pub place : ℕ
-  pub ref : r ≡ 2048 + place
-  pub below : place < t
-  pub is : getD w place 0 ≡ k
-
-code-made : {w : List ℕ} {t r i n k : ℕ} → 1 ≤ n → MadeAt w t r i n k → CodeMade w t r k
-code-made {i = i} h m = let b = m .below in record { place = i; ref = m .ref; below = omega arith; is = m .is }
-
-pub den-made : {q w : List ℕ} {t r : ℕ} {T : Ty} → 2048 ≤ r → Den q w t r T → CodeMade w t r (tyCode T)
-unfolding tyCode
-den-made h (written d) = let c = ty-code d in absurd (omega (arith, c .inside))
-den-made h (int-made m) = code-made (omega arith) m
-den-made h (bool-made m) = code-made (omega arith) m
-den-made h (etvar-made m n) = code-made (omega arith) m
-den-made h (arrow-made m x y f g s d e) = code-made (omega arith) m
-den-made h (forall-made m y n g s d) = code-made (omega arith) m
 
 pub den-small : {q w : List ℕ} {t r : ℕ} {T : Ty} → Den q w t r T → r < 2048 + t
 den-small (written d) = let c = ty-code d in omega (arith, c .inside)

@@ -6,7 +6,7 @@ use native.Mathlib.Omega.{arith}
 use lib.ListN.{length, length-append}
 use Rattle.definition.specs.Syntax.{Ty, int, bool, var, etvar, arrow, forall, tyWords, Expr, placeOf}
 use Rattle.definition.specs.Rules.{tyCode, exprCode}
-use Rattle.layout.specs.Places.{size, exprSize, CodeAt, TyAt, int-at, bool-at, var-at, etvar-at, arrow-at, forall-at, ExprAt, evar-at, app-at, abs-at, tapp-at, tabs-at, ann-at, litInt-at, litBool-at, letIn-at, ifThenElse-at, binOp-at}
+use Rattle.layout.specs.Places.{size, CodeAt, TyAt, int-at, bool-at, var-at, etvar-at, arrow-at, forall-at, ExprAt, evar-at, app-at, abs-at, tapp-at, tabs-at, ann-at, litInt-at, litBool-at, letIn-at, ifThenElse-at, binOp-at}
 
 -- ## Sizes
 
@@ -75,16 +75,3 @@ ty-within (var-at c n) = omega (arith, n .within)
 ty-within (etvar-at c n) = omega (arith, n .within)
 ty-within (arrow-at c d e f) = omega (arith, ty-within f)
 ty-within (forall-at c n d) = omega (arith, ty-within d)
-
-pub expr-within : {q : List ℕ} {p : ℕ} {e : Expr} → ExprAt q p e → p + exprSize e ≤ length q
-expr-within (evar-at c n) = omega (arith, n .within)
-expr-within (app-at c d e f) = omega (arith, expr-within f)
-expr-within (abs-at c n d e f) = omega (arith, expr-within f)
-expr-within (tapp-at c d e f) = omega (arith, ty-within f)
-expr-within (tabs-at c n d) = omega (arith, expr-within d)
-expr-within (ann-at c d e f) = omega (arith, ty-within f)
-expr-within (litInt-at c n m) = omega (arith, m .within)
-expr-within (litBool-at c n) = omega (arith, n .within)
-expr-within (letIn-at c n d e f) = omega (arith, expr-within f)
-expr-within (ifThenElse-at c d e f g h) = omega (arith, expr-within h)
-expr-within (binOp-at c n l m d e f) = omega (arith, expr-within f)

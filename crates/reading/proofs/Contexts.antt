@@ -1,21 +1,19 @@
 -- Reading entries, one after the other.
 use Prim.Native.Nat.{ℕ, _+_, _*_, _≤_, _<_}
 use mathlib.Core.Path.{_≡_, refl, _∙_}
-use mathlib.Core.Logic.{_⊎_, ⊎-elim}
 use mathlib.Core.List.{List, [], _∷_}
 use native.Mathlib.Omega.{arith}
 use lib.ListN.{length, getD}
 use lib.Seq.{slice-cons}
-use Rattle.definition.specs.Syntax.{pick, int, Entry, varBnd, tvarBnd, etvarBnd, setvarBnd, mark, Ctx}
-use Rattle.definition.specs.Contexts.{keyOf, kindOf, nameOf, held}
+use Rattle.definition.specs.Syntax.{pick, Entry, varBnd, tvarBnd, etvarBnd, setvarBnd, mark, Ctx}
+use Rattle.definition.specs.Contexts.{keyOf, kindOf, nameOf}
 use Rattle.definition.specs.Question.{Read, Reader, next, _>>=_, give, badShape, variable, typeName, type, row, entry, unlessEnd, context}
-use Rattle.layout.proofs.Places.{ty-within}
 use Rattle.reading.specs.declared.Item.{Item}
 use Rattle.reading.specs.declared.Item.the-variants as item
 use Rattle.reading.specs.declared.Part.{Part}
 use Rattle.reading.specs.declared.Part.the-variants as part
 use Rattle.reading.specs.Items as items
-use Rattle.reading.specs.Items.{from, Inside, WordTo, TyTo, Reads, NameRead, TypeThen}
+use Rattle.reading.specs.Items.{from, Inside, WordTo, Reads, NameRead, TypeThen}
 use Rattle.reading.specs.Contexts.{RestTo, var-rest, tvar-rest, etvar-rest, setvar-rest, mark-rest, EntryTo, EntriesTo, none, some, ListTo, ContextTo, Leaves, past, refused, EntryRead, ContextRead}
 use Rattle.reading.proofs.Depth.{more, context-eq}
 use Rattle.reading.proofs.Items.{bad, from-end, Nones, oneOf-end, oneOf-is, oneOf-none, reads-at, reads-map, reads-two, code-at, after-word, variable-read, typeName-read}
@@ -85,39 +83,6 @@ entry-on x p m s = rest-on (s .rest)
 pub entries-few : {q : List ℕ} {p m : ℕ} {Γ : Ctx} → EntriesTo q p Γ m → p + 2 * length Γ ≤ m
 entries-few none = omega arith
 entries-few (some {p} {m} {n} {x} {Γ} s l) = omega (arith, entry-on x p m s, entries-few l)
-
--- they end within the question, so there are 1,024 at most
-rest-within : {q : List ℕ} {p m : ℕ} {x : Entry} → p ≤ length q → RestTo q p x m → m ≤ length q
-rest-within h (var-rest t) = omega (arith, ty-within (t .at))
-rest-within h tvar-rest = h
-rest-within h etvar-rest = h
-rest-within h (setvar-rest t) = omega (arith, ty-within (t .at))
-rest-within h mark-rest = h
-
-pub entries-within : {q : List ℕ} {p m : ℕ} {Γ : Ctx} → p ≤ length q → EntriesTo q p Γ m → m ≤ length q
-entries-within h none = h
-entries-within h (some s l) = entries-within (rest-within (omega (arith, s .name .within)) (s .rest)) l
-
-pub entries-most : {q : List ℕ} {p m : ℕ} {Γ : Ctx} → EntriesTo q p Γ m → 2 * length Γ ≤ length q
-entries-most none = omega arith
-entries-most (some s l) = let few = entries-few (some s l) in omega (arith, few, entries-within (omega (arith, s .kind .within)) (some s l))
-
--- which entries hold a type, by their kind
-pub rest-typed : {q : List ℕ} {p m : ℕ} {x : Entry} → (kindOf (keyOf x) ≡ 32) ⊎ (kindOf (keyOf x) ≡ 35) → RestTo q p x m → TyTo q p (held x) m
-unfolding keyOf kindOf held
-rest-typed h (var-rest t) = t
-rest-typed h tvar-rest = absurd (⊎-elim (λ e. omega arith) (λ e. omega arith) h)
-rest-typed h etvar-rest = absurd (⊎-elim (λ e. omega arith) (λ e. omega arith) h)
-rest-typed h (setvar-rest t) = t
-rest-typed h mark-rest = absurd (⊎-elim (λ e. omega arith) (λ e. omega arith) h)
-
-pub rest-bare : {q : List ℕ} {p m : ℕ} {x : Entry} → (kindOf (keyOf x) ≡ 32 → ⊥) → (kindOf (keyOf x) ≡ 35 → ⊥) → RestTo q p x m → (p ≡ m) × (held x ≡ int)
-unfolding keyOf kindOf held
-rest-bare g h (var-rest t) = absurd (g refl)
-rest-bare g h tvar-rest = (refl, refl)
-rest-bare g h etvar-rest = (refl, refl)
-rest-bare g h (setvar-rest t) = absurd (h refl)
-rest-bare g h mark-rest = (refl, refl)
 
 -- one entry more than the rest has
 abbrev pub added : Part → Part

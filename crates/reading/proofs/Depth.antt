@@ -9,6 +9,7 @@ use native.Mathlib.Nat.{le-of-suc-le-suc, not-suc-le-zero, le-refl}
 use lib.ListN.{length}
 use Rattle.definition.specs.Syntax.{pick, Ty, Expr, Ctx}
 use Rattle.definition.specs.Question.{Read, got, fault, Reader, next, _>>=_, give, badShape, reservedName, word, any, within, name, variable, typeName, row, oneOf, tyRows, readTy, type, exprRows, readExpr, expression, entry, unlessEnd, readCtx, context}
+use Rattle.laws.proofs.Depth.{readCtx-none}
 
 -- ## Two readers that are the same on up to n words, and never leave more than there were
 
@@ -217,11 +218,6 @@ unlessEnd-upto : {A : Type 0} {n : ℕ} (a : A) {m m′ : Reader A} → Upto n m
 unfolding unlessEnd
 unlessEnd-upto a h p [] l = (refl, le-refl 0)
 unlessEnd-upto a h p (w ∷ ws) l = h p (w ∷ ws) l
-
-readCtx-none : (d p : ℕ) → readCtx d p [] ≡ got [] p []
-unfolding readCtx unlessEnd
-readCtx-none zero p = refl
-readCtx-none (suc d) p = refl
 
 readCtx-upto : (n d d′ : ℕ) → n ≤ d → n ≤ d′ → Upto n (readCtx d) (readCtx d′)
 unfolding readCtx more

@@ -1,5 +1,5 @@
 -- Reading a question: kind, mode, four sections, the end.
-use Prim.Native.Nat.{ℕ, zero, suc, _+_, _*_, _≤_, _<_}
+use Prim.Native.Nat.{ℕ, zero, suc, _+_, _≤_, _<_}
 use mathlib.Core.Path.{_≡_, refl, sym, ap, _∙_}
 use mathlib.Core.List.{List, [], _∷_}
 use native.Mathlib.Nat.{le-refl, le-antisymm}
@@ -24,7 +24,6 @@ use Rattle.reading.specs.Sections.{Held, section, Stands, nothing-at, en
 use Rattle.reading.specs.Questions as questions
 use Rattle.reading.specs.Questions.{valueOf, Planned, infers, checks, applies, compares, solves-left, solves-right, runs, ContextAt, AsksAt, infers-at, checks-at, applies-at, compares-at, solves-left-at, solves-right-at, runs-at, judgement, Judged, SectionsRead, ModeIs, plainly, strictly, ReadIs}
 use Rattle.reading.proofs.Items.{bad, from-end, oneOf-end, oneOf-is, oneOf-none, reads-fault, within-low, within-high, within-is}
-use Rattle.reading.proofs.Contexts.{entries-most}
 use Rattle.reading.proofs.Sections.{end-more}
 
 -- ## Four sections by their plan
@@ -127,7 +126,7 @@ asks solves-left x at (entries-at l) s (etvar-at t) (ty-at u) = solves-left-at (
 asks solves-right x at (entries-at l) s (ty-at t) (etvar-at u) = solves-right-at (there x at l) (no-place s) t u
 asks runs x at l (expr-at s) t u = runs-at (bare x l) s (no-place t) (no-place u)
 
--- the input context of what is asked, and how many entries it can have
+-- the input context of what is asked
 pub asks-context : {q : List ℕ} {x : Question} {k : ℕ} {j : Judgement} → AsksAt q x k j → ContextAt q x (given j)
 unfolding given
 asks-context (infers-at c e l r) = c
@@ -137,9 +136,6 @@ asks-context (compares-at c e l r) = c
 asks-context (solves-left-at c e l r) = c
 asks-context (solves-right-at c e l r) = c
 asks-context (runs-at c e l r) = c
-
-pub context-small : {q : List ℕ} {x : Question} {Γ : Ctx} → ContextAt q x Γ → 2 * x .entries ≤ length q
-context-small c = omega (arith, c .list .count, entries-most (c .list .entries))
 
 -- ## And nothing after them
 

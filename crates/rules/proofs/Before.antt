@@ -1,41 +1,27 @@
--- Before a recursive call: entries that are pushed, and the fresh unknown of a lambda.
+-- Before a recursive call: what InfLam makes, the fresh unknown and its arrow.
 use mathlib.Core.Path.{_≡_, refl}
 use mathlib.Core.List.{List}
 use Prim.Native.Nat.{ℕ, _+_, _≤_, _<_, _^_}
 use native.Mathlib.Nat.{le-refl}
 use native.Mathlib.Omega.{arith}
 use lib.ListN.{length}
-use Rattle.definition.specs.Syntax.{TmVar, TyVar, Ty, etvar, arrow, varBnd, tvarBnd, etvarBnd}
-use Rattle.definition.specs.Contexts.{kVar, kTVar, kETVar, keyOf, held}
+use Rattle.definition.specs.Syntax.{etvar, arrow}
+use Rattle.definition.specs.Contexts.{kVar, kETVar}
 use Rattle.layout.specs.Names.{tm, ty}
 use Rattle.layout.specs.Words.{Keep}
-use Rattle.layout.specs.Denotes.{Den, Base}
+use Rattle.layout.specs.Denotes.{Base}
 use Rattle.layout.specs.declared.Span.{Span}
 use Rattle.layout.specs.declared.State.{State}
 use Rattle.layout.specs.declared.TmVar as tmvar
 use Rattle.layout.specs.declared.TyVar as tyvar
 use Rattle.layout.proofs.Words.{keep-less, keep-trans}
-use Rattle.layout.proofs.Denotes.{den-frame, den-small, run-frame, base-frame, int-den}
+use Rattle.layout.proofs.Denotes.{den-frame, den-small, run-frame, base-frame}
 use Rattle.types.specs.Making.{ArrowRoom, PutETVar, PutArrow}
 use Rattle.steps.specs.Parting.{freshName}
-use Rattle.contexts.specs.Build.{Space, Makes, Pushed2}
+use Rattle.contexts.specs.Build.{Space, Pushed2}
 use Rattle.contexts.specs.declared.Opened.{Opened}
+use Rattle.contexts.proofs.Build.{makes-var, makes-unsolved}
 use Rattle.rules.specs.Going.{LamPre, LamIn}
-
--- ## Entries
-
-module _ {q w : List ℕ} {t : ℕ} where
-  pub var-entry : {r : ℕ} {A : Ty} (x : TmVar) → Den q w t r A → Makes q w t (kVar x) r (varBnd x A)
-  unfolding keyOf held
-  var-entry x d = record { key-is = refl; den = d }
-
-  pub tvar-entry : (a : TyVar) → Base q w t → Makes q w t (kTVar a) 2048 (tvarBnd a)
-  unfolding keyOf held
-  tvar-entry a b = record { key-is = refl; den = int-den b }
-
-  etvar-entry : (a : TyVar) → Base q w t → Makes q w t (kETVar a) 2048 (etvarBnd a)
-  unfolding keyOf held
-  etvar-entry a b = record { key-is = refl; den = int-den b }
 
 -- ## A lambda
 
@@ -86,7 +72,7 @@ module _ {q w w₁ : List ℕ} {s : State} {g : Span} {a k : ℕ} {b : tyvar.TyV
           low = past .low;
           left = past .left;
           fresh = past .fresh;
-          run = λ Γ A r d. rw (← n) (p .run (run-frame kept₂ (omega arith) r) (var-entry (tm x) (den-frame kept₂ (omega arith) d)) (etvar-entry (ty b) bs));
+          run = λ Γ A r d. rw (← n) (p .run (run-frame kept₂ (omega arith) r) (makes-var (tm x) (den-frame kept₂ (omega arith) d)) (makes-unsolved (ty b) bs));
           unknown = rw (← n) (den-frame k₃ (omega arith) (den-frame f-keep (omega arith) (e .den q)));
           arrow = λ A d. rw (← n) (den-frame k₃ (omega arith) (f .den A (etvar (ty b)) (den-frame kept (omega arith) d) (e .den q)));
         }

@@ -1,16 +1,14 @@
 -- Which rule the definition chooses, by the codes of the expression and of the type.
 use mathlib.Core.Path.{_≡_, refl, _∙_}
-use mathlib.Core.Bool.{Bool, true, false, _&&_}
 use mathlib.Core.Option.{none}
 use Prim.Native.Nat.{ℕ}
 use native.Mathlib.Omega.{arith}
-use lib.Dec.{eqb}
-use borrow.Author.Tests.{eqb-true}
 use Rattle.definition.specs.Syntax
 use Rattle.definition.specs.Syntax.{pick, TmVar, TyVar, Ty, int, bool, var, etvar, arrow, forall, Expr, evar, app, abs, tapp, tabs, ann, litInt, litBool, letIn, ifThenElse, binOp, Ctx, Judgement, infer, check, inferApp, applicationTypeError}
 use Rattle.definition.specs.Question.{Mode}
 use Rattle.definition.specs.Run.{Out, refuse}
 use Rattle.definition.specs.Rules.{Fired, Judge, closes, _orElse_, when, on, onBoth, tyCode, asArrow, asETVar, asForall, exprCode, asAbs, chkLam, chkAll, chkSub, checkRule, inferAppRule, inferRule, rule, judge}
+use Rattle.contexts.proofs.Search.{not-both}
 
 -- ## What is asked, taken apart further
 
@@ -28,15 +26,6 @@ module _ (μ : Mode) (l n : ℕ) {j : Judgement} {Γ : Ctx} {e : Expr} {X : Out 
   applies p h x = rw (p, h) x
 
 -- ## check: the arms in order
-
--- two tests that do not both hold
-unless : (x k y c : ℕ) → (x ≡ k → y ≡ c → ⊥) → (eqb x k && eqb y c) ≡ false
-unless x k y c h = go (eqb x k) (eqb y c) (eqb-true x k) (eqb-true y c)
-  where
-    go : (a b : Bool) → (a ≡ true → x ≡ k) → (b ≡ true → y ≡ c) → (a && b) ≡ false
-    go true true f g = absurd (h (f refl) (g refl))
-    go true false f g = refl
-    go false b f g = refl
 
 pub no-arrow : (B : Ty) → (tyCode B ≡ 5 → ⊥) → asArrow B ≡ none
 unfolding tyCode asArrow
@@ -87,7 +76,7 @@ module _ (m : Mode) (judge : Judge) (Γ : Ctx) where
       (no-abs : exprCode e ≡ 18 → tyCode B ≡ 5 → ⊥) where
     late : checkRule m judge Γ e B ≡ (on (asForall B) (chkAll judge Γ e) orElse chkSub judge Γ e B)
     unfolding checkRule when pick _orElse_
-    late = rw (unless _ _ _ _ no-int, unless _ _ _ _ no-bool, no-lam (chkLam m judge Γ) e B no-abs) refl
+    late = rw (not-both _ _ _ _ no-int, not-both _ _ _ _ no-bool, no-lam (chkLam m judge Γ) e B no-abs) refl
 
     pub chk-sub : (tyCode B ≡ 6 → ⊥) → checkRule m judge Γ e B ≡ chkSub judge Γ e B
     unfolding on _orElse_

@@ -15,7 +15,7 @@ use Rattle.layout.specs.Names.{ty}
 use Rattle.layout.specs.Denotes.{Den}
 use Rattle.layout.specs.declared.TyVar.{TyVar}
 use Rattle.types.specs.Reading.{Named, Tagged}
-use Rattle.types.proofs.Codes.{base-case, name-case}
+use Rattle.types.proofs.Codes.{base-case, name-case, sizes}
 use Rattle.walks.specs.Walks.{Occurs}
 use Rattle.walks.proofs.Names.{names}
 use Rattle.rules.proofs.Choices.{no-arrow, no-forall}
@@ -25,15 +25,6 @@ use Rattle.subtyping.specs.Arms.{BothHeld, Comes, NotAlike, AlikeBy, by-
 use Rattle.subtyping.specs.declared.Arm.the-variants as arm
 
 -- ## By the code
-
-code-small : (T : Ty) → tyCode T < 7
-unfolding tyCode
-code-small int = omega arith
-code-small bool = omega arith
-code-small (var a) = omega arith
-code-small (etvar a) = omega arith
-code-small (arrow A B) = omega arith
-code-small (forall a A) = omega arith
 
 not-var : (T : Ty) → (tyCode T ≡ 3 → ⊥) → asVar T ≡ none
 unfolding tyCode asVar
@@ -245,8 +236,8 @@ module _ {A B : Ty} (none-alike : NotAlike A B) where
 
 pub codes-small : {q w : List ℕ} {t a b k m : ℕ} → BothHeld q w t a b → Tagged q w t a k → Tagged q w t b m → (k < 7) × (m < 7)
 codes-small h tk tm = (
-  omega (arith, tk .is (h .left .type) (h .left .den), code-small (h .left .type)),
-  omega (arith, tm .is (h .right .type) (h .right .den), code-small (h .right .type)),
+  omega (arith, tk .is (h .left .type) (h .left .den), sizes (h .left .type) .high),
+  omega (arith, tm .is (h .right .type) (h .right .den), sizes (h .right .type) .high),
 )
 
 pub chosen-refl : {q w : List ℕ} {t a b n : ℕ} → Alike q w t a b n → (n ≡ 0 → ⊥) → Chosen q w t a b (arm.Refl n)

@@ -4,10 +4,9 @@ use mathlib.Core.List.{List}
 use Prim.Native.Nat.{ℕ, _≤_, _<_}
 use native.Mathlib.Omega.{arith}
 use Rattle.definition.specs.Syntax.{TyVar, Ty, int, bool, var, etvar, arrow, forall}
-use Rattle.definition.specs.Rules.{tyCode}
 use Rattle.layout.specs.Denotes.{Den}
 use Rattle.types.specs.Reading.{Held, Tagged}
-use Rattle.types.proofs.Codes.{base-case, name-case, arrow-case, forall-case}
+use Rattle.types.proofs.Codes.{base-case, name-case, arrow-case, forall-case, sizes}
 
 module _ {q w : List ℕ} {t r k : ℕ} (P : Ty → Type 0) (c : Tagged q w t r k) where
   pub by-base : k < 3 → (Den q w t r int → P int) → (Den q w t r bool → P bool) → (T : Ty) → Den q w t r T → P T
@@ -24,14 +23,5 @@ module _ {q w : List ℕ} {t r k : ℕ} (P : Ty → Type 0) (c : Tagged q w t r 
   by-forall e f T d = forall-case (λ T. Den q w t r T → P T) T (sym (c .is T d) ∙ e) f d
 
 -- there is no other code
-codes : (T : Ty) → tyCode T ≤ 6
-unfolding tyCode
-codes int = omega arith
-codes bool = omega arith
-codes (var a) = omega arith
-codes (etvar a) = omega arith
-codes (arrow A B) = omega arith
-codes (forall a A) = omega arith
-
 pub no-other : {q w : List ℕ} {t r k : ℕ} → Held q w t r → Tagged q w t r k → 5 ≤ k → (k ≡ 5 → ⊥) → (k ≡ 6 → ⊥) → ⊥
-no-other h c l f g = f (omega (arith, c .is (h .type) (h .den), codes (h .type), g))
+no-other h c l f g = f (omega (arith, c .is (h .type) (h .den), sizes (h .type) .high, g))

@@ -59,6 +59,7 @@ pub data Naming : Ty → TyVar → Type 0 where
 -- how long the record of a type of code k is
 pub record Sizes (k n : ℕ) : Type 0 where
   pub low : 1 ≤ k
+  pub high : k ≤ 6
   pub some : 1 ≤ n
   pub one : k < 3 → n ≡ 1
   pub two : 3 ≤ k → k < 5 → n ≡ 2
@@ -66,12 +67,12 @@ pub record Sizes (k n : ℕ) : Type 0 where
 
 pub sizes : (T : Ty) → Sizes (tyCode T) (recordSize T)
 unfolding tyCode recordSize
-sizes int = record { low = omega arith; some = omega arith; one = λ l. refl; two = λ l m. absurd (omega arith); four = λ l. absurd (omega arith) }
-sizes bool = record { low = omega arith; some = omega arith; one = λ l. refl; two = λ l m. absurd (omega arith); four = λ l. absurd (omega arith) }
-sizes (var a) = record { low = omega arith; some = omega arith; one = λ l. absurd (omega arith); two = λ l m. refl; four = λ l. absurd (omega arith) }
-sizes (etvar a) = record { low = omega arith; some = omega arith; one = λ l. absurd (omega arith); two = λ l m. refl; four = λ l. absurd (omega arith) }
-sizes (arrow A B) = record { low = omega arith; some = omega arith; one = λ l. absurd (omega arith); two = λ l m. absurd (omega arith); four = λ l. refl }
-sizes (forall a A) = record { low = omega arith; some = omega arith; one = λ l. absurd (omega arith); two = λ l m. absurd (omega arith); four = λ l. refl }
+sizes int = record { low = omega arith; high = omega arith; some = omega arith; one = λ l. refl; two = λ l m. absurd (omega arith); four = λ l. absurd (omega arith) }
+sizes bool = record { low = omega arith; high = omega arith; some = omega arith; one = λ l. refl; two = λ l m. absurd (omega arith); four = λ l. absurd (omega arith) }
+sizes (var a) = record { low = omega arith; high = omega arith; some = omega arith; one = λ l. absurd (omega arith); two = λ l m. refl; four = λ l. absurd (omega arith) }
+sizes (etvar a) = record { low = omega arith; high = omega arith; some = omega arith; one = λ l. absurd (omega arith); two = λ l m. refl; four = λ l. absurd (omega arith) }
+sizes (arrow A B) = record { low = omega arith; high = omega arith; some = omega arith; one = λ l. absurd (omega arith); two = λ l m. absurd (omega arith); four = λ l. refl }
+sizes (forall a A) = record { low = omega arith; high = omega arith; some = omega arith; one = λ l. absurd (omega arith); two = λ l m. absurd (omega arith); four = λ l. refl }
 
 -- a type with a name or parts has a second word
 pub two-words : (T : Ty) → 3 ≤ tyCode T → (2 ≤ size T) × (2 ≤ recordSize T)

@@ -19,6 +19,7 @@ use Rattle.layout.proofs.Denotes.{den-small}
 use Rattle.types.specs.Reading.{Held, HeldAs, Tagged, Named, LeftOf, RightOf, BodyOf}
 use Rattle.types.proofs.Held.{left-held, right-held}
 use Rattle.types.proofs.Cases.{by-base, by-name, by-arrow, by-forall}
+use Rattle.types.proofs.Codes.{sizes}
 use Rattle.writing.specs.Types.{Waiting, no-more, more, Stepped, Steps}
 use Rattle.writing.proofs.Placing.{sets-cons}
 
@@ -33,15 +34,15 @@ held-small h = omega (arith, den-small (h .den), h .fits, h .cap)
 pub parts-small : {q w : List ℕ} {t r l m : ℕ} → HeldAs q w t r 5 → LeftOf q w t r l → RightOf q w t r m → (l < 2 ^ 32) × (m < 2 ^ 32)
 parts-small h x y = (held-small (left-held h x), held-small (right-held h y))
 
--- there is no other code, and a type has half as many words at least
-codes : (T : Ty) → (tyCode T ≤ 6) × (tyCode T ≤ 2 * size T)
+-- a type has half as many words as its code at least
+code-size : (T : Ty) → tyCode T ≤ 2 * size T
 unfolding tyCode
-codes int = (omega arith, omega arith)
-codes bool = (omega arith, omega arith)
-codes (var a) = (omega arith, omega arith)
-codes (etvar a) = (omega arith, omega arith)
-codes (arrow A B) = (omega arith, omega (arith, size-some A, size-some B))
-codes (forall a A) = (omega arith, omega (arith, size-some A))
+code-size int = omega arith
+code-size bool = omega arith
+code-size (var a) = omega arith
+code-size (etvar a) = omega arith
+code-size (arrow A B) = omega (arith, size-some A, size-some B)
+code-size (forall a A) = omega (arith, size-some A)
 
 -- what the code tells that was read
 pub record Seen (s : List ℕ) (p low k : ℕ) : Type 0 where
@@ -55,14 +56,15 @@ pub record Seen (s : List ℕ) (p low k : ℕ) : Type 0 where
 pub seen : {q w : List ℕ} {t : ℕ} {s : List ℕ} {p low k : ℕ} → Waiting q w t s p low → Tagged q w t (getD s low 0) k → Seen s p low k
 seen h c =
     let e = c .is (h .type) (h .den) in
-    let f = codes (h .type) in
+    let f = sizes (h .type) .high in
+    let n = code-size (h .type) in
     record {
-      small = omega (arith, f .0);
+      small = omega (arith, f);
       place = omega (arith, size-some (h .type), h .room, h .within);
       within = h .within;
-      two = λ l. omega (arith, f .1, h .room);
-      three = λ l. omega (arith, f .1, h .room);
-      six = λ l g. omega (arith, f .0, g);
+      two = λ l. omega (arith, n, h .room);
+      three = λ l. omega (arith, n, h .room);
+      six = λ l g. omega (arith, f, g);
     }
 
 -- ## The steps
