@@ -15,7 +15,9 @@ first-requires : tie.Need-first-requires
 first-requires c κs = search needs
 
 returns : tie.Need-returns
-returns c = first-split (key (c .before .before .before .before .args .k)) (rw (c .before .before .kind .ensures, c .before .name .ensures .0) at (c .first .ensures))
+returns c =
+    let c₁ = c .before in let c₂ = c₁ .before in let c₄ = c₂ .before .before in
+    first-split (key (c₄ .args .k)) (rw (c₂ .kind .ensures, c₁ .name .ensures .0) at (c .first .ensures))
 
 pub find-spec : {M : Type 1} → statement M
 find-spec = tie.close (tie.spec kind-requires name-requires first-requires returns)

@@ -39,11 +39,13 @@ word-requires-2 : tie.Need-word-requires-2 Inv-loop μ-loop
 word-requires-2 c κs = omega arith
 
 returns : tie.Need-returns Inv-loop μ-loop
-returns c = record {
-  within = omega arith;
-  earlier = c .before .before .before .before .before .loop .inv .1;
-  hit = λ l. record { kind-is = sym (c .before .before .before .word .ensures .0) ∙ c .before .before .if1 .taken; name-is = sym (c .before .word2 .ensures .0) ∙ c .if2 .taken };
-}
+returns c =
+    let c₁ = c .before in let c₂ = c₁ .before in let c₃ = c₂ .before in let c₅ = c₃ .before .before in
+    record {
+      within = omega arith;
+      earlier = c₅ .loop .inv .1;
+      hit = λ l. record { kind-is = sym (c₃ .word .ensures .0) ∙ c₂ .if1 .taken; name-is = sym (c₁ .word2 .ensures .0) ∙ c .if2 .taken };
+    }
 
 add-i : tie.Need-add-i Inv-loop μ-loop
 add-i c = omega arith

@@ -14,7 +14,9 @@ same-length : tie.Need-same-length
 same-length c = search needs
 
 returns : tie.Need-returns
-returns c = kept-yes (c .before .before .before .before .before .word .ensures .0) (c .before .before .before .before .if1 .taken) (c .before .before .copy .ensures)
+returns c =
+    let c₂ = c .before .before in let c₄ = c₂ .before .before in let c₅ = c₄ .before in
+    kept-yes (c₅ .word .ensures .0) (c₄ .if1 .taken) (c₂ .copy .ensures)
 
 same-length-2 : tie.Need-same-length-2
 same-length-2 c = search needs

@@ -20,7 +20,9 @@ same-length : tie.Need-same-length
 same-length c = search needs
 
 returns : tie.Need-returns
-returns c = pushed (c .before .before .before .before .before .before .before .before .before .before .pre .0 .below) (c .before .before .before .before .before .before .splice .ensures) (c .before .before .put-entry .ensures)
+returns c =
+    let c₂ = c .before .before in let c₆ = c₂ .before .before .before .before in let c₁₀ = c₆ .before .before .before .before in
+    pushed (c₁₀ .pre .0 .below) (c₆ .splice .ensures) (c₂ .put-entry .ensures)
 
 pub push-spec : {M : Type 1} → statement M
 push-spec = tie.close (tie.spec mul-p add-p splice-requires put-entry-requires same-length returns)

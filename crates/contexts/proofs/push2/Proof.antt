@@ -26,7 +26,10 @@ same-length : tie.Need-same-length
 same-length c = search needs
 
 returns : tie.Need-returns
-returns c = pushed2 (c .before .before .before .before .before .before .before .before .before .before .before .before .before .before .pre .0 .below) (c .before .before .before .before .before .before .before .before .before .before .splice .ensures) (c .before .before .before .before .before .before .put-entry .ensures) (c .before .before .put-entry2 .ensures)
+returns c =
+    let c₂ = c .before .before in let c₆ = c₂ .before .before .before .before in let c₁₀ = c₆ .before .before .before .before in
+    let c₁₄ = c₁₀ .before .before .before .before in
+    pushed2 (c₁₄ .pre .0 .below) (c₁₀ .splice .ensures) (c₆ .put-entry .ensures) (c₂ .put-entry2 .ensures)
 
 pub push2-spec : {M : Type 1} → statement M
 push2-spec =

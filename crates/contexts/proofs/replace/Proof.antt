@@ -23,7 +23,10 @@ same-length : tie.Need-same-length
 same-length c = search needs
 
 returns : tie.Need-returns
-returns c = replaced (c .before .before .before .before .before .before .before .before .before .before .before .pre .0 .below) (c .before .before .before .before .before .before .before .before .find .ensures) (c .before .before .before .before .before .before .splice .ensures) (c .before .before .put-entry .ensures)
+returns c =
+    let c₂ = c .before .before in let c₆ = c₂ .before .before .before .before in let c₈ = c₆ .before .before in
+    let c₁₁ = c₈ .before .before .before in
+    replaced (c₁₁ .pre .0 .below) (c₈ .find .ensures) (c₆ .splice .ensures) (c₂ .put-entry .ensures)
 
 pub replace-spec : {M : Type 1} → statement M
 replace-spec =

@@ -41,7 +41,9 @@ loop-less : tie.Need-loop-less Inv-loop μ-loop
 loop-less c = omega arith
 
 loop-again : tie.Need-loop-again Inv-loop μ-loop
-loop-again c = (omega arith, kept-more (omega arith) (c .before .before .before .before .before .loop .inv .1) (c .before .before .keep-solved .ensures))
+loop-again c =
+    let c₂ = c .before .before in let c₅ = c₂ .before .before .before in
+    (omega arith, kept-more (omega arith) (c₅ .loop .inv .1) (c₂ .keep-solved .ensures))
 
 same-length : tie.Need-same-length Inv-loop μ-loop
 same-length c = sym (c .before .loop .inv .1 .keep .long)

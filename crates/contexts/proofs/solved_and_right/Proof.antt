@@ -29,7 +29,10 @@ same-length : tie.Need-same-length
 same-length c = search needs
 
 returns : tie.Need-returns
-returns c = kept-both (c .before .before .before .before .before .before .before .before .before .before .before .before .pre .below) (c .before .before .before .before .before .before .before .before .before .find .ensures) (c .before .before .before .before .before .before .before .solved .ensures) (c .before .before .before .copy-right .ensures) (c .past .ensures)
+returns c =
+    let c₃ = c .before .before .before in let c₇ = c₃ .before .before .before .before in let c₉ = c₇ .before .before in
+    let c₁₂ = c₉ .before .before .before in
+    kept-both (c₁₂ .pre .below) (c₉ .find .ensures) (c₇ .solved .ensures) (c₃ .copy-right .ensures) (c .past .ensures)
 
 pub solved-and-right-spec : {M : Type 1} → statement M
 solved-and-right-spec =

@@ -32,7 +32,9 @@ same-length : tie.Need-same-length
 same-length c = search needs
 
 returns : tie.Need-returns
-returns c = spliced (c .before .before .before .before .before .before .before .before .before .before .pre .0 .below) (c .before .before .before .before .before .before .before .before .before .before .pre .1) (c .before .before .before .before .before .before .before .copy .ensures) (c .before .before .before .copy-right .ensures) (c .past .ensures)
+returns c =
+    let c₃ = c .before .before .before in let c₇ = c₃ .before .before .before .before in let c₁₀ = c₇ .before .before .before in
+    spliced (c₁₀ .pre .0 .below) (c₁₀ .pre .1) (c₇ .copy .ensures) (c₃ .copy-right .ensures) (c .past .ensures)
 
 pub splice-spec : {M : Type 1} → statement M
 splice-spec =

@@ -35,7 +35,11 @@ same-length : tie.Need-same-length
 same-length c = search needs
 
 returns : tie.Need-returns
-returns c = parted (c .before .before .before .before .before .before .before .before .before .before .before .before .before .before .before .before .before .before .before .pre .0 .below) (c .before .before .before .before .before .before .before .before .before .before .before .before .before .before .before .before .find .ensures) (c .before .before .before .before .before .before .before .before .before .before .before .before .before .before .splice .ensures) (c .before .before .before .before .before .before .before .before .before .before .put-entry .ensures) (c .before .before .before .before .before .before .put-entry2 .ensures) (c .before .before .put-entry3 .ensures)
+returns c =
+    let c₂ = c .before .before in let c₆ = c₂ .before .before .before .before in let c₁₀ = c₆ .before .before .before .before in
+    let c₁₄ = c₁₀ .before .before .before .before in let c₁₆ = c₁₄ .before .before in let c₁₉ = c₁₆ .before .before .before in
+    parted (c₁₉ .pre .0 .below) (c₁₆ .find .ensures) (c₁₄ .splice .ensures) (c₁₀ .put-entry .ensures) (c₆ .put-entry2 .ensures)
+        (c₂ .put-entry3 .ensures)
 
 pub split-spec : {M : Type 1} → statement M
 split-spec =

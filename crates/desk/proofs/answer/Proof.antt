@@ -23,7 +23,9 @@ same-length-4 : tie.Need-same-length-4
 same-length-4 c = search needs
 
 returns : tie.Need-returns
-returns c = said (c .before .before .before .before .before .before .before .before .before .before .before .answer .ensures) (c .before .before .say .ensures)
+returns c =
+    let c₂ = c .before .before in let c₁₁ = c₂ .before .before .before .before .before .before .before .before .before in
+    said (c₁₁ .answer .ensures) (c₂ .say .ensures)
 
 pub answer-spec : {M : Type 1} → statement M
 answer-spec =

@@ -30,7 +30,9 @@ same-length : tie.Need-same-length
 same-length c = search needs
 
 returns : tie.Need-returns
-returns c = both (c .before .before .before .before .before .before .before .before .before .before .written .result) (c .before .before .before .before .before .before .before .before .before .before .written .ensures) (c .before .before .before .before .before .before .before .line .ensures .0) (c .before .before .line2 .ensures .0) (omega arith)
+returns c =
+    let c₂ = c .before .before in let c₇ = c₂ .before .before .before .before .before in let c₁₀ = c₇ .before .before .before in
+    both (c₁₀ .written .result) (c₁₀ .written .ensures) (c₇ .line .ensures .0) (c₂ .line2 .ensures .0) (omega arith)
 
 pub say-spec : {M : Type 1} → statement M
 say-spec =

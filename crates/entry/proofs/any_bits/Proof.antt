@@ -30,21 +30,26 @@ loop-less : tie.Need-loop-less Inv-loop μ-loop
 loop-less c = omega arith
 
 loop-again : tie.Need-loop-again Inv-loop μ-loop
-loop-again c = (
-  omega arith,
-  λ e.
-      let z = no-bits (c .before .before .loop .bits) _ e in
-      zero-more (c .before .before .before .args .block .now) (c .before .before .loop .i) (omega (arith, c .before .before .before .pre)) (z .1) (c .before .before .loop .inv .1 (z .0)),
-  λ e. zero-bits (c .before .before .before .args .block .now) (c .before .before .loop .i) (c .before .before .loop .bits) (omega (arith, c .before .before .before .pre)) (c .before .before .loop .inv .2 e) e,
-)
+loop-again c =
+    let c₂ = c .before .before in let c₃ = c₂ .before in
+    (
+      omega arith,
+      λ e.
+          let z = no-bits (c₂ .loop .bits) _ e in
+          zero-more (c₃ .args .block .now) (c₂ .loop .i) (omega (arith, c₃ .pre)) (z .1) (c₂ .loop .inv .1 (z .0)),
+      λ e. zero-bits (c₃ .args .block .now) (c₂ .loop .i) (c₂ .loop .bits) (omega (arith, c₃ .pre)) (c₂ .loop .inv .2 e) e,
+    )
 
 returns : tie.Need-returns Inv-loop μ-loop
-returns c = record {
-  all = λ e.
-      let f : c .before .loop .i ≡ length (c .before .before .args .block .now) = omega (arith, c .before .before .pre) in
-      zero-all (c .before .before .args .block .now) (c .before .before .args .block .now) (c .before .loop .inv .1 e ∙ ap (λ (k : ℕ). replicate k 0 ++ drop k (c .before .before .args .block .now)) f);
-  only = c .before .loop .inv .2;
-}
+returns c =
+    let c₁ = c .before in let c₂ = c₁ .before in
+    record {
+      all = λ e.
+          let f : c₁ .loop .i ≡ length (c₂ .args .block .now) = omega (arith, c₂ .pre) in
+          zero-all (c₂ .args .block .now) (c₂ .args .block .now) (c₁ .loop .inv .1 e ∙ ap (λ (k : ℕ). replicate k 0 ++ drop k (c₂ .args .block .now))
+              f);
+      only = c₁ .loop .inv .2;
+    }
 
 pub any-bits-spec : {M : Type 1} → statement M
 any-bits-spec =

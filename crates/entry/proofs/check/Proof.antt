@@ -30,21 +30,29 @@ refusal-requires-3 c κs = search needs
 
 returns-3 : tie.Need-returns-3
 unfolding workWords
-returns-3 c = rw (c .refusal3 .ensures) (refused _ _ _ _ 2 0 (short-work _ _ _ _ (c .before .before .before .if1 .left) (c .before .before .if2 .left) (c .before .if3 .taken)) (omega arith) (omega arith))
+returns-3 c =
+    let c₁ = c .before in let c₂ = c₁ .before in let c₃ = c₂ .before in
+    rw (c .refusal3 .ensures) (refused _ _ _ _ 2 0 (short-work _ _ _ _ (c₃ .if1 .left) (c₂ .if2 .left) (c₁ .if3 .taken)) (omega arith) (omega arith))
 
 refusal-requires-4 : tie.Need-refusal-requires-4
 refusal-requires-4 c κs = search needs
 
 returns-4 : tie.Need-returns-4
 unfolding workWords
-returns-4 c = rw (c .refusal4 .ensures) (refused _ _ _ _ 3 0 (no-words _ _ _ _ (c .before .before .before .before .if1 .left) (c .before .before .before .if2 .left) (c .before .before .if3 .left) (c .before .if4 .taken)) (omega arith) (omega arith))
+returns-4 c =
+    let c₁ = c .before in let c₂ = c₁ .before in let c₃ = c₂ .before in let c₄ = c₃ .before in
+    rw (c .refusal4 .ensures) (refused _ _ _ _ 3 0 (no-words _ _ _ _ (c₄ .if1 .left) (c₃ .if2 .left) (c₂ .if3 .left) (c₁ .if4 .taken)) (omega arith)
+        (omega arith))
 
 refusal-requires-5 : tie.Need-refusal-requires-5
 refusal-requires-5 c κs = search needs
 
 returns-5 : tie.Need-returns-5
 unfolding workWords
-returns-5 c = rw (c .refusal5 .ensures) (refused _ _ _ _ 3 0 (too-long _ _ _ _ (c .before .before .before .before .before .if1 .left) (c .before .before .before .before .if2 .left) (c .before .before .before .if3 .left) (c .before .if5 .taken)) (omega arith) (omega arith))
+returns-5 c =
+    let c₁ = c .before in let c₃ = c₁ .before .before in let c₄ = c₃ .before in let c₅ = c₄ .before in
+    rw (c .refusal5 .ensures) (refused _ _ _ _ 3 0 (too-long _ _ _ _ (c₅ .if1 .left) (c₄ .if2 .left) (c₃ .if3 .left) (c₁ .if5 .taken)) (omega arith)
+        (omega arith))
 
 read-question-requires : tie.Need-read-question-requires
 read-question-requires c κs = search needs
@@ -56,7 +64,9 @@ cast-refusal : tie.Need-cast-refusal
 cast-refusal c = omega (arith, (rw (c .before .code .given .1) at (c .before .before .before .read-question .ensures)) .within .most)
 
 cast-refusal-2 : tie.Need-cast-refusal-2
-cast-refusal-2 c = omega (arith, (rw (c .before .code .given .1) at (c .before .before .before .read-question .ensures)) .within .place, c .before .before .before .before .if5 .left)
+cast-refusal-2 c =
+    let c₁ = c .before in let c₃ = c₁ .before .before in let c₄ = c₃ .before in
+    omega (arith, (rw (c₁ .code .given .1) at (c₃ .read-question .ensures)) .within .place, c₄ .if5 .left)
 
 refusal-requires-6 : tie.Need-refusal-requires-6
 refusal-requires-6 c κs = search needs
@@ -66,14 +76,21 @@ enum-known-a c = search needs
 
 run-cleared-requires : tie.Need-run-cleared-requires
 unfolding workWords
-run-cleared-requires c κs = record { enough = c .before .before .before .before .before .before .before .before .if3 .left; low = c .before .before .before .before .before .before .before .before .before .before .if1 .left; high = c .before .before .before .before .before .before .before .before .before .if2 .left; few = c .before .before .before .before .before .before .if5 .left; read = rw (c .before .before .before .a .given .1) at (c .before .before .before .before .before .read-question .ensures) }
+run-cleared-requires c κs =
+    let c₃ = c .before .before .before in let c₅ = c₃ .before .before in let c₆ = c₅ .before in let c₈ = c₆ .before .before in let c₉ = c₈ .before in
+    let c₁₀ = c₉ .before in
+    record { enough = c₈ .if3 .left; low = c₁₀ .if1 .left; high = c₉ .if2 .left; few = c₆ .if5 .left; read = rw (c₃ .a .given .1) at
+        (c₅ .read-question .ensures) }
 
 returns-6 : tie.Need-returns-6
 unfolding workWords
 returns-6 c =
-    let f = (rw (c .before .before .code .given .1) at (c .before .before .before .before .read-question .ensures)) .within in
+    let c₂ = c .before .before in let c₄ = c₂ .before .before in let c₅ = c₄ .before in let c₆ = c₅ .before in let c₇ = c₆ .before in
+    let c₈ = c₇ .before in let c₉ = c₈ .before in
+    let f = (rw (c₂ .code .given .1) at (c₄ .read-question .ensures)) .within in
     rw (c .refusal6 .ensures)
-    (refused _ _ _ _ _ _ (faulted _ _ _ _ (c .before .before .before .before .before .before .before .before .before .if1 .left) (c .before .before .before .before .before .before .before .before .if2 .left) (c .before .before .before .before .before .before .before .if3 .left) (c .before .before .before .before .before .before .if4 .left) (c .before .before .before .before .before .if5 .left) _ _ ((rw (c .before .before .code .given .1) at (c .before .before .before .before .read-question .ensures)) .is)) (omega (arith, f .least)) (f .most))
+    (refused _ _ _ _ _ _ (faulted _ _ _ _ (c₉ .if1 .left) (c₈ .if2 .left) (c₇ .if3 .left) (c₆ .if4 .left) (c₅ .if5 .left) _ _
+        ((rw (c₂ .code .given .1) at (c₄ .read-question .ensures)) .is)) (omega (arith, f .least)) (f .most))
 
 same-length : tie.Need-same-length
 same-length c = search needs
@@ -83,7 +100,11 @@ same-length-2 c = search needs
 
 returns-7 : tie.Need-returns-7
 unfolding workWords
-returns-7 c = replied ((rw (c .before .before .before .before .before .before .before .before .a .given .1) at (c .before .before .before .before .before .before .before .before .before .before .read-question .ensures))) (read _ _ _ _ (c .before .before .before .before .before .before .before .before .before .before .before .before .before .before .before .if1 .left) (c .before .before .before .before .before .before .before .before .before .before .before .before .before .before .if2 .left) (c .before .before .before .before .before .before .before .before .before .before .before .before .before .if3 .left) (c .before .before .before .before .before .before .before .before .before .before .before .before .if4 .left) (c .before .before .before .before .before .before .before .before .before .before .before .if5 .left)) (c .before .before .before .before .run-cleared .ensures)
+returns-7 c =
+    let c₄ = c .before .before .before .before in let c₈ = c₄ .before .before .before .before in let c₁₀ = c₈ .before .before in
+    let c₁₁ = c₁₀ .before in let c₁₂ = c₁₁ .before in let c₁₃ = c₁₂ .before in let c₁₄ = c₁₃ .before in let c₁₅ = c₁₄ .before in
+    replied ((rw (c₈ .a .given .1) at (c₁₀ .read-question .ensures))) (read _ _ _ _ (c₁₅ .if1 .left) (c₁₄ .if2 .left) (c₁₃ .if3 .left)
+        (c₁₂ .if4 .left) (c₁₁ .if5 .left)) (c₄ .run-cleared .ensures)
 
 pub check-spec : {M : Type 1} → statement M
 check-spec =

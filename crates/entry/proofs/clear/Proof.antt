@@ -38,7 +38,9 @@ loop-less : tie.Need-loop-less Inv-loop μ-loop
 loop-less c = omega arith
 
 loop-again : tie.Need-loop-again Inv-loop μ-loop
-loop-again c = (omega arith, refl, c .before .before .before .before .before .loop .inv .2, front-more (c .before .before .before .before .before .loop .inv .3) (c .before .before .before .before .before .loop .end) (omega arith) (omega arith) _ (c .before .before .clear-block .ensures))
+loop-again c =
+    let c₂ = c .before .before in let c₅ = c₂ .before .before .before in
+    (omega arith, refl, c₅ .loop .inv .2, front-more (c₅ .loop .inv .3) (c₅ .loop .end) (omega arith) (omega arith) _ (c₂ .clear-block .ensures))
 
 mul-zero : tie.Need-mul-zero Inv-loop μ-loop
 mul-zero c = omega (arith, c .before .loop .inv .3 .long)
@@ -56,10 +58,14 @@ zero-requires : tie.Need-zero-requires Inv-loop μ-loop
 zero-requires c κs = tt
 
 same-length : tie.Need-same-length Inv-loop μ-loop
-same-length c = front-more (c .before .before .before .before .before .loop .inv .3) (c .before .before .before .before .before .before .before .args .n) (c .before .before .before .before .before .loop .inv .0) (c .before .before .before .before .before .loop .inv .2) (c .before .before .zero .last .0) (c .before .before .zero .ensures) .long
+same-length c =
+    let c₂ = c .before .before in let c₅ = c₂ .before .before .before in let c₇ = c₅ .before .before in
+    front-more (c₅ .loop .inv .3) (c₇ .args .n) (c₅ .loop .inv .0) (c₅ .loop .inv .2) (c₂ .zero .last .0) (c₂ .zero .ensures) .long
 
 returns : tie.Need-returns Inv-loop μ-loop
-returns c = front-more (c .before .before .before .before .before .loop .inv .3) (c .before .before .before .before .before .before .before .args .n) (c .before .before .before .before .before .loop .inv .0) (c .before .before .before .before .before .loop .inv .2) _ (c .before .before .zero .ensures) .is
+returns c =
+    let c₂ = c .before .before in let c₅ = c₂ .before .before .before in let c₇ = c₅ .before .before in
+    front-more (c₅ .loop .inv .3) (c₇ .args .n) (c₅ .loop .inv .0) (c₅ .loop .inv .2) _ (c₂ .zero .ensures) .is
 
 pub clear-spec : {M : Type 1} → statement M
 clear-spec =

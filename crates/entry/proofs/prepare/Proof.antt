@@ -20,7 +20,9 @@ same-length : tie.Need-same-length
 same-length c = search needs
 
 returns : tie.Need-returns
-returns c = opens (c .before .before .before .before .before .before .before .before .before .before .pre) (c .before .before .before .before .before .before .fill-ends .ensures) (c .before .before .load-context .ensures)
+returns c =
+    let c₂ = c .before .before in let c₆ = c₂ .before .before .before .before in let c₁₀ = c₆ .before .before .before .before in
+    opens (c₁₀ .pre) (c₆ .fill-ends .ensures) (c₂ .load-context .ensures)
 
 pub prepare-spec : {M : Type 1} → statement M
 prepare-spec =

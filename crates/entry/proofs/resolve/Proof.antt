@@ -11,7 +11,9 @@ returns : tie.Need-returns
 returns c = resolve-else (c .match .keys2)
 
 apply-ctx-type-requires : tie.Need-apply-ctx-type-requires
-apply-ctx-type-requires c κs = apply-pre (c .before .before .before .before .z .given .1) (c .before .before .before .before .before .before .before .before .pre)
+apply-ctx-type-requires c κs =
+    let c₄ = c .before .before .before .before in let c₈ = c₄ .before .before .before .before in
+    apply-pre (c₄ .z .given .1) (c₈ .pre)
 
 enum-known-made : tie.Need-enum-known-made
 enum-known-made c = search needs
@@ -23,13 +25,17 @@ same-length : tie.Need-same-length
 same-length c = search needs
 
 returns-2 : tie.Need-returns-2
-returns-2 c = resolve-spent (c .before .before .before .before .before .before .before .before .before .z .given .1) (c .before .before .before .before .apply-ctx-type .ensures) (c .enum-told .given .1)
+returns-2 c =
+    let c₄ = c .before .before .before .before in let c₉ = c₄ .before .before .before .before .before in
+    resolve-spent (c₉ .z .given .1) (c₄ .apply-ctx-type .ensures) (c .enum-told .given .1)
 
 same-length-2 : tie.Need-same-length-2
 same-length-2 c = search needs
 
 returns-3 : tie.Need-returns-3
-returns-3 c = resolve-done (c .before .before .before .before .before .before .before .before .before .before .z .given .1) (c .before .before .before .before .before .apply-ctx-type .ensures) (c .before .made .given .1)
+returns-3 c =
+    let c₁ = c .before in let c₅ = c₁ .before .before .before .before in let c₁₀ = c₅ .before .before .before .before .before in
+    resolve-done (c₁₀ .z .given .1) (c₅ .apply-ctx-type .ensures) (c₁ .made .given .1)
 
 pub resolve-spec : {M : Type 1} → statement M
 resolve-spec =

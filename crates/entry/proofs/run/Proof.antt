@@ -17,7 +17,10 @@ judge-requires : tie.Need-judge-requires
 judge-requires c κs = search needs
 
 finish-requires : tie.Need-finish-requires
-finish-requires c κs = finish-pre (c .before .before .before .before .before .before .before .before .before .before .before .before .before .before .before .before .pre) (c .before .before .before .before .before .before .before .before .before .before .prepare .ensures) (c .before .before .before .before .judge .ensures)
+finish-requires c κs =
+    let c₄ = c .before .before .before .before in let c₁₀ = c₄ .before .before .before .before .before .before in
+    let c₁₆ = c₁₀ .before .before .before .before .before .before in
+    finish-pre (c₁₆ .pre) (c₁₀ .prepare .ensures) (c₄ .judge .ensures)
 
 same-length : tie.Need-same-length
 same-length c = search needs
@@ -26,7 +29,10 @@ same-length-2 : tie.Need-same-length-2
 same-length-2 c = search needs
 
 returns-2 : tie.Need-returns-2
-returns-2 c = runs (c .before .before .before .before .before .before .before .before .before .before .before .before .before .before .before .before .before .before .before .pre) (c .before .before .before .before .before .before .before .before .before .before .before .before .before .prepare .ensures) (c .before .before .before .before .before .before .before .judge .ensures) (c .before .before .finish .ensures)
+returns-2 c =
+    let c₂ = c .before .before in let c₇ = c₂ .before .before .before .before .before in
+    let c₁₃ = c₇ .before .before .before .before .before .before in let c₁₉ = c₁₃ .before .before .before .before .before .before in
+    runs (c₁₉ .pre) (c₁₃ .prepare .ensures) (c₇ .judge .ensures) (c₂ .finish .ensures)
 
 pub run-spec : {M : Type 1} → statement M
 run-spec =

@@ -50,11 +50,13 @@ same-length-2 c = search needs
 returns : tie.Need-returns
 unfolding workWords
 returns c =
-    let n : ℕ = workWords (c .before .before .before .before .before .before .before .before .before .before .before .before .before .before .args .budget) in
-    let l : length (take (n - 0) (c .before .before .before .before .before .before .before .before .before .before .before .before .before .before .args .work .now)) ≡ n = simp sub-zero (length-take-le n (c .before .before .before .before .before .before .before .before .before .before .before .before .before .before .args .work .now) (c .before .before .before .before .before .before .before .before .before .before .before .before .before .before .pre .enough)) in
+    let c₂ = c .before .before in let c₈ = c₂ .before .before .before .before .before .before in
+    let c₁₄ = c₈ .before .before .before .before .before .before in
+    let n : ℕ = workWords (c₁₄ .args .budget) in
+    let l : length (take (n - 0) (c₁₄ .args .work .now)) ≡ n = simp sub-zero (length-take-le n (c₁₄ .args .work .now) (c₁₄ .pre .enough)) in
     record {
-      runs = c .before .before .before .before .before .before .before .before .run .ensures;
-      work = c .before .before .clear .ensures ∙ simp sub-zero (cleared (c .before .before .before .before .before .before .before .before .before .before .before .before .before .before .args .work .now) (c .before .before .before .before .before .before .before .before .run .last .1 .0) n (c .before .before .before .before .before .before .before .before .run .kept .1 .0 ∙ l));
+      runs = c₈ .run .ensures;
+      work = c₂ .clear .ensures ∙ simp sub-zero (cleared (c₁₄ .args .work .now) (c₈ .run .last .1 .0) n (c₈ .run .kept .1 .0 ∙ l));
     }
 
 pub run-cleared-spec : {M : Type 1} → statement M

@@ -31,15 +31,19 @@ loop-less : tie.Need-loop-less Inv-loop μ-loop
 loop-less c = omega arith
 
 loop-again : tie.Need-loop-again Inv-loop μ-loop
-loop-again c = (omega arith, c .before .loop .inv .1, simp length-set (c .before .loop .inv .2), rw (c .before .loop .inv .3) (fill-more (c .before .loop .i) 0 (c .before .before .args .words .now) (omega arith)))
+loop-again c =
+    let c₁ = c .before in let c₂ = c₁ .before in
+    (omega arith, c₁ .loop .inv .1, simp length-set (c₁ .loop .inv .2), rw (c₁ .loop .inv .3)
+        (fill-more (c₁ .loop .i) 0 (c₂ .args .words .now) (omega arith)))
 
 same-length : tie.Need-same-length Inv-loop μ-loop
 same-length c = c .before .loop .inv .2
 
 returns : tie.Need-returns Inv-loop μ-loop
 returns c =
-    let f : c .before .loop .i ≡ length (c .before .before .args .words .now) = omega (arith, c .before .loop .inv .1) in
-    zero-all (c .before .before .args .words .now) _ (c .before .loop .inv .3 ∙ ap (λ (k : ℕ). replicate k 0 ++ drop k (c .before .before .args .words .now)) f)
+    let c₁ = c .before in let c₂ = c₁ .before in
+    let f : c₁ .loop .i ≡ length (c₂ .args .words .now) = omega (arith, c₁ .loop .inv .1) in
+    zero-all (c₂ .args .words .now) _ (c₁ .loop .inv .3 ∙ ap (λ (k : ℕ). replicate k 0 ++ drop k (c₂ .args .words .now)) f)
 
 pub zero-spec : {M : Type 1} → statement M
 zero-spec =

@@ -41,7 +41,10 @@ same-length-4 : tie.Need-same-length-4
 same-length-4 c = search needs
 
 returns-2 : tie.Need-returns-2
-returns-2 c = answered (c .before .before .before .before .before .before .before .before .before .before .before .before .before .before .before .before .before .before .if1 .left) (c .before .before .before .before .before .before .before .before .before .before .before .before .before .before .before .before .before .room-for .ensures) (c .before .before .before .before .before .before .before .before .before .before .before .before .before .answer .ensures) (c .before .before .before .before .before .before .written .ensures) (c .before .before .put-reply .ensures)
+returns-2 c =
+    let c₂ = c .before .before in let c₆ = c₂ .before .before .before .before in
+    let c₁₃ = c₆ .before .before .before .before .before .before .before in let c₁₇ = c₁₃ .before .before .before .before in let c₁₈ = c₁₇ .before in
+    answered (c₁₈ .if1 .left) (c₁₇ .room-for .ensures) (c₁₃ .answer .ensures) (c₆ .written .ensures) (c₂ .put-reply .ensures)
 
 pub answer-in-spec : {M : Type 1} → statement M
 answer-in-spec =

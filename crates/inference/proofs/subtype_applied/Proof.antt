@@ -11,7 +11,9 @@ enum-known-mid : tie.Need-enum-known-mid
 enum-known-mid c = search needs
 
 subtype-requires : tie.Need-subtype-requires
-subtype-requires c κs = related-ask (c .before .before .before .before .before .before .apply-both .ensures) (c .before .before .mid .given .1) (c .before .before .before .before .before .before .before .before .before .before .pre)
+subtype-requires c κs =
+    let c₂ = c .before .before in let c₆ = c₂ .before .before .before .before in let c₁₀ = c₆ .before .before .before .before in
+    related-ask (c₆ .apply-both .ensures) (c₂ .mid .given .1) (c₁₀ .pre)
 
 enum-known-mid-2 : tie.Need-enum-known-mid-2
 enum-known-mid-2 c = search needs
@@ -20,7 +22,9 @@ same-length : tie.Need-same-length
 same-length c = search needs
 
 returns : tie.Need-returns
-returns c = related-done (c .before .before .before .before .before .before .before .before .before .apply-both .ensures) (c .before .before .before .before .before .mid .given .1) (c .before .before .subtype .ensures)
+returns c =
+    let c₂ = c .before .before in let c₅ = c₂ .before .before .before in let c₉ = c₅ .before .before .before .before in
+    related-done (c₉ .apply-both .ensures) (c₅ .mid .given .1) (c₂ .subtype .ensures)
 
 same-length-2 : tie.Need-same-length-2
 same-length-2 c = search needs

@@ -12,10 +12,14 @@ name-of-requires-2 : tie.Need-name-of-requires-2
 name-of-requires-2 c κs = etvar-named (c .before .before .before .before .before .pre)
 
 before-requires : tie.Need-before-requires
-before-requires c κs = side-run (side (c .before .before .before .before .before .before .before .args .s)) _ _ (c .before .before .before .before .before .before .before .pre .pre)
+before-requires c κs =
+    let c₇ = c .before .before .before .before .before .before .before in
+    side-run (side (c₇ .args .s)) _ _ (c₇ .pre .pre)
 
 reach-requires : tie.Need-reach-requires
-reach-requires c κs = meet-reach (c .before .before .before .before .before .before .before .before .before .before .pre) (c .before .before .before .before .before .before .name-of .ensures) (c .before .before .before .before .name-of2 .ensures) (c .before .before .before2 .ensures) (c .before .if1 .taken)
+reach-requires c κs =
+    let c₁ = c .before in let c₄ = c₁ .before .before .before in let c₆ = c₄ .before .before in let c₁₀ = c₆ .before .before .before .before in
+    meet-reach (c₁₀ .pre) (c₆ .name-of .ensures) (c₄ .name-of2 .ensures) (c .before .before .before2 .ensures) (c₁ .if1 .taken)
 
 same-length : tie.Need-same-length
 same-length c = search needs
@@ -24,7 +28,9 @@ returns : tie.Need-returns
 returns c = search needs
 
 solve-requires : tie.Need-solve-requires
-solve-requires c κs = meet-solve (c .before .before .before .before .before .before .before .before .before .before .pre) (c .before .before .before .before .before .before .name-of .ensures) (c .before .before .before .before .name-of2 .ensures) (c .before .before .before2 .ensures) (c .before .if1 .left)
+solve-requires c κs =
+    let c₁ = c .before in let c₄ = c₁ .before .before .before in let c₆ = c₄ .before .before in let c₁₀ = c₆ .before .before .before .before in
+    meet-solve (c₁₀ .pre) (c₆ .name-of .ensures) (c₄ .name-of2 .ensures) (c .before .before .before2 .ensures) (c₁ .if1 .left)
 
 same-length-2 : tie.Need-same-length-2
 same-length-2 c = search needs

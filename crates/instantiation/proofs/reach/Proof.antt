@@ -17,13 +17,17 @@ name-of-requires : tie.Need-name-of-requires
 name-of-requires c κs = etvar-named (c .before .before .before .before .pre .form)
 
 solved-requires : tie.Need-solved-requires
-solved-requires c κs = space-unknown (side (c .before .before .before .before .before .before .args .s)) _ _ (c .before .before .before .before .before .before .pre .form .pre)
+solved-requires c κs =
+    let c₆ = c .before .before .before .before .before .before in
+    space-unknown (side (c₆ .args .s)) _ _ (c₆ .pre .form .pre)
 
 same-length : tie.Need-same-length
 same-length c = search needs
 
 returns : tie.Need-returns
-returns c = reach-done (c .before .before .before .before .before .before .before .before .before .pre) (c .before .before .before .before .name-of .ensures) (in-row _ (first-is (c .before .before .before .before .before .before .before .before .before .args .s) (c .before .before .before .before .before .before .first .ensures)) .reach) (c .before .before .solved .ensures)
+returns c =
+    let c₂ = c .before .before in let c₄ = c₂ .before .before in let c₆ = c₄ .before .before in let c₉ = c₆ .before .before .before in
+    reach-done (c₉ .pre) (c₄ .name-of .ensures) (in-row _ (first-is (c₉ .args .s) (c₆ .first .ensures)) .reach) (c₂ .solved .ensures)
 
 pub reach-spec : {M : Type 1} → statement M
 reach-spec =

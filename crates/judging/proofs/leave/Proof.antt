@@ -28,7 +28,11 @@ same-length : tie.Need-same-length
 same-length c = search needs
 
 returns-2 : tie.Need-returns-2
-returns-2 c = wrote (c .before .before .before .before .before .before .before .before .before .before .before .before .if1 .left) (node-keep (c .before .before .before .before .before .before .before .before .before .before .put4 .ensures) (c .before .before .before .before .before .before .put42 .ensures) (c .before .before .put43 .ensures)) (node-words (c .before .before .before .before .before .before .before .before .before .before .put4 .ensures) (c .before .before .before .before .before .before .put42 .ensures) (c .before .before .put43 .ensures))
+returns-2 c =
+    let c₂ = c .before .before in let c₆ = c₂ .before .before .before .before in let c₁₀ = c₆ .before .before .before .before in
+    let c₁₂ = c₁₀ .before .before in
+    wrote (c₁₂ .if1 .left) (node-keep (c₁₀ .put4 .ensures) (c₆ .put42 .ensures) (c₂ .put43 .ensures))
+        (node-words (c₁₀ .put4 .ensures) (c₆ .put42 .ensures) (c₂ .put43 .ensures))
 
 pub leave-spec : {M : Type 1} → statement M
 leave-spec =

@@ -17,7 +17,9 @@ same-length : tie.Need-same-length
 same-length c = search needs
 
 returns : tie.Need-returns
-returns c = rw (c .before .before .put2 .ensures, c .before .before .before .before .before .before .put .ensures) (put-two _ _ _ _ (c .before .before .before .before .before .before .before .before .before .pre .0))
+returns c =
+    let c₂ = c .before .before in let c₆ = c₂ .before .before .before .before in let c₉ = c₆ .before .before .before in
+    rw (c₂ .put2 .ensures, c₆ .put .ensures) (put-two _ _ _ _ (c₉ .pre .0))
 
 pub put2-spec : {M : Type 1} → statement M
 put2-spec = tie.close (tie.spec put-requires add-put put-requires-2 same-length returns)

@@ -29,7 +29,10 @@ same-length : tie.Need-same-length
 same-length c = search needs
 
 returns : tie.Need-returns
-returns c = rw (c .before .before .put4 .ensures, c .before .before .before .before .before .before .put3 .ensures, c .before .before .before .before .before .before .before .before .before .before .put2 .ensures, c .before .before .before .before .before .before .before .before .before .before .before .before .before .before .put .ensures) (put-four _ _ _ _ _ _ (c .before .before .before .before .before .before .before .before .before .before .before .before .before .before .before .before .before .pre .0))
+returns c =
+    let c₂ = c .before .before in let c₆ = c₂ .before .before .before .before in let c₁₀ = c₆ .before .before .before .before in
+    let c₁₄ = c₁₀ .before .before .before .before in let c₁₇ = c₁₄ .before .before .before in
+    rw (c₂ .put4 .ensures, c₆ .put3 .ensures, c₁₀ .put2 .ensures, c₁₄ .put .ensures) (put-four _ _ _ _ _ _ (c₁₇ .pre .0))
 
 pub put4-spec : {M : Type 1} → statement M
 put4-spec =

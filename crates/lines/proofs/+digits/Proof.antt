@@ -38,10 +38,14 @@ digits-same-length : (t : ℕ) → digits-lts.Need-same-length (digits-claims t)
 digits-same-length t c = simp length-set
 
 digits-returns : (t : ℕ) → digits-lts.Need-returns (digits-claims t) (digits-at t) digits.Post
-digits-returns t c = one-digit _ _ _ _ (c .before .if1 .taken) (c .digit .ensures) (omega (arith, c .before .before .before .pre .1, length-one _ (c .before .if1 .taken)))
+digits-returns t c =
+    let c₁ = c .before in let c₃ = c₁ .before .before in
+    one-digit _ _ _ _ (c₁ .if1 .taken) (c .digit .ensures) (omega (arith, c₃ .pre .1, length-one _ (c₁ .if1 .taken)))
 
 digits-digits-requires : (t : ℕ) → digits-lts.Need-digits-requires (digits-claims t) (digits-at t) digits.Post
-digits-digits-requires t c κs = (omega (arith, c .before .before .before .pre .0), omega (arith, c .before .before .before .pre .1, length-more _ (c .before .if1 .left)))
+digits-digits-requires t c κs =
+    let c₁ = c .before in let c₃ = c₁ .before .before in
+    (omega (arith, c₃ .pre .0), omega (arith, c₃ .pre .1, length-more _ (c₁ .if1 .left)))
 
 digits-digit-requires-2 : (t : ℕ) → digits-lts.Need-digit-requires-2 (digits-claims t) (digits-at t) digits.Post
 digits-digit-requires-2 t c κs = omega arith
@@ -56,7 +60,9 @@ digits-same-length-2 : (t : ℕ) → digits-lts.Need-same-length-2 (digits-claim
 digits-same-length-2 t c = search needs
 
 digits-returns-2 : (t : ℕ) → digits-lts.Need-returns-2 (digits-claims t) (digits-at t) digits.Post
-digits-returns-2 t c = last-digit _ _ (c .before .before .before .before .before .if1 .left) (c .digit2 .ensures) (c .before .before .before .digits .ensures) (omega (arith, length-more _ (c .before .before .before .before .before .if1 .left)))
+digits-returns-2 t c =
+    let c₃ = c .before .before .before in let c₅ = c₃ .before .before in
+    last-digit _ _ (c₅ .if1 .left) (c .digit2 .ensures) (c₃ .digits .ensures) (omega (arith, length-more _ (c₅ .if1 .left)))
 
 pub +digits-spec : {M : Type 1} → statement M
 +digits-spec = close μ-digits λ t. digits-lts.spec (digits-claims t)

@@ -52,13 +52,15 @@ loop-less : tie.Need-loop-less Inv-loop μ-loop
 loop-less c = search needs
 
 loop-again : tie.Need-loop-again Inv-loop μ-loop
-loop-again c = (
-  omega arith,
-  omega arith,
-  omega arith,
-  omega arith,
-  λ s z w. c .before .before .before .before .before .before .loop .inv .4 s z (line-more (c .before .before .before .before .before .before .before .before .before .before .args .ws .now) (c .before .before .before .before .before .before .loop .i) (omega arith) (c .before .before .number .ensures .0) w),
-)
+loop-again c =
+    let c₂ = c .before .before in let c₆ = c₂ .before .before .before .before in let c₁₀ = c₆ .before .before .before .before in
+    (
+      omega arith,
+      omega arith,
+      omega arith,
+      omega arith,
+      λ s z w. c₆ .loop .inv .4 s z (line-more (c₁₀ .args .ws .now) (c₆ .loop .i) (omega arith) (c₂ .number .ensures .0) w),
+    )
 
 mul-number-2 : tie.Need-mul-number-2 Inv-loop μ-loop
 mul-number-2 c = search needs
@@ -73,7 +75,9 @@ same-length-2 : tie.Need-same-length-2 Inv-loop μ-loop
 same-length-2 c = search needs
 
 returns-2 : tie.Need-returns-2 Inv-loop μ-loop
-returns-2 c = (c .before .before .before .before .before .before .loop .inv .4 _ _ (line-last (c .before .before .before .before .before .before .before .before .before .before .args .ws .now) (c .before .before .before .before .before .before .loop .i) (omega arith) (c .before .before .number2 .ensures .0)), omega arith)
+returns-2 c =
+    let c₂ = c .before .before in let c₆ = c₂ .before .before .before .before in let c₁₀ = c₆ .before .before .before .before in
+    (c₆ .loop .inv .4 _ _ (line-last (c₁₀ .args .ws .now) (c₆ .loop .i) (omega arith) (c₂ .number2 .ensures .0)), omega arith)
 
 pub line-spec : {M : Type 1} → statement M
 line-spec =

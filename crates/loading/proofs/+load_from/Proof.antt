@@ -82,7 +82,9 @@ load-from-rest-of-requires : (t : ℕ) → load-from-lts.Need-rest-of-requires (
   load-from-below t,
   load-from.Post,
 ) (load-from-at t) load-from.Post
-load-from-rest-of-requires t c κs = rw (c .before .before .word .ensures .0) (reads (c .before .before .before .before .before .before .pre .1 .base) (omega (arith, c .before .before .before .before .before .before .pre .1 .room)) (begins (c .before .before .before .if1 .left) (c .before .before .before .before .before .before .pre .1 .list) .entry))
+load-from-rest-of-requires t c κs =
+    let c₂ = c .before .before in let c₃ = c₂ .before in let c₆ = c₃ .before .before .before in
+    rw (c₂ .word .ensures .0) (reads (c₆ .pre .1 .base) (omega (arith, c₆ .pre .1 .room)) (begins (c₃ .if1 .left) (c₆ .pre .1 .list) .entry))
 
 load-from-put4-requires : (t : ℕ) → load-from-lts.Need-put4-requires (
   word-reads.Asked,
@@ -94,7 +96,9 @@ load-from-put4-requires : (t : ℕ) → load-from-lts.Need-put4-requires (
   load-from-below t,
   load-from.Post,
 ) (load-from-at t) load-from.Post
-load-from-put4-requires t c κs = (omega (arith, c .before .before .before .before .before .if1 .left, c .before .before .before .before .before .before .before .before .pre .1 .room), c .before .before .before .before .word .ensures .1, c .before .before .before .word2 .ensures .1, c .before .rest-of .ensures .small, omega arith)
+load-from-put4-requires t c κs =
+    let c₁ = c .before in let c₃ = c₁ .before .before in let c₄ = c₃ .before in let c₅ = c₄ .before in let c₈ = c₅ .before .before .before in
+    (omega (arith, c₅ .if1 .left, c₈ .pre .1 .room), c₄ .word .ensures .1, c₃ .word2 .ensures .1, c₁ .rest-of .ensures .small, omega arith)
 
 load-from-add-load-from : (t : ℕ) → load-from-lts.Need-add-load-from (
   word-reads.Asked,
@@ -106,7 +110,9 @@ load-from-add-load-from : (t : ℕ) → load-from-lts.Need-add-load-from (
   load-from-below t,
   load-from.Post,
 ) (load-from-at t) load-from.Post
-load-from-add-load-from t c = omega (arith, c .before .before .before .before .before .before .before .before .before .before .before .before .pre .1 .room, c .before .before .before .before .before .before .before .before .before .before .before .before .pre .1 .cap)
+load-from-add-load-from t c =
+    let c₁₂ = c .before .before .before .before .before .before .before .before .before .before .before .before in
+    omega (arith, c₁₂ .pre .1 .room, c₁₂ .pre .1 .cap)
 
 load-from-sub-load-from : (t : ℕ) → load-from-lts.Need-sub-load-from (
   word-reads.Asked,
@@ -130,7 +136,11 @@ load-from-load-from-requires : (t : ℕ) → load-from-lts.Need-load-from-requir
   load-from-below t,
   load-from.Post,
 ) (load-from-at t) load-from.Post
-load-from-load-from-requires t c κs = (omega (arith, c .before .before .before .before .before .before .before .before .before .before .before .before .pre .0, c .before .before .before .before .before .before .before .before .before .if1 .left), next-reads (c .before .before .before .before .before .before .before .before .before .before .before .before .pre .1) (c .before .before .before .before .before .before .before .before .before .if1 .left) (rw (c .before .before .before .before .before .before .before .before .word .ensures .0) at (c .before .before .before .before .before .rest-of .ensures)) (rw (c .before .before .before .before .before .before .before .before .word .ensures .0, c .before .before .before .before .before .before .before .word2 .ensures .0) at (c .before .before .before .put4 .ensures)))
+load-from-load-from-requires t c κs =
+    let c₃ = c .before .before .before in let c₅ = c₃ .before .before in let c₇ = c₅ .before .before in let c₈ = c₇ .before in let c₉ = c₈ .before in
+    let c₁₂ = c₉ .before .before .before in
+    (omega (arith, c₁₂ .pre .0, c₉ .if1 .left), next-reads (c₁₂ .pre .1) (c₉ .if1 .left) (rw (c₈ .word .ensures .0) at (c₅ .rest-of .ensures))
+        (rw (c₈ .word .ensures .0, c₇ .word2 .ensures .0) at (c₃ .put4 .ensures)))
 
 load-from-same-length : (t : ℕ) → load-from-lts.Need-same-length (
   word-reads.Asked,
@@ -154,7 +164,11 @@ load-from-returns-2 : (t : ℕ) → load-from-lts.Need-returns-2 (
   load-from-below t,
   load-from.Post,
 ) (load-from-at t) load-from.Post
-load-from-returns-2 t c = loaded-some (c .before .before .before .before .before .before .before .before .before .before .before .before .before .before .before .pre .1) (c .before .before .before .before .before .before .before .before .before .before .before .before .if1 .left) (rw (c .before .before .before .before .before .before .before .before .before .before .before .word .ensures .0) at (c .before .before .before .before .before .before .before .before .rest-of .ensures)) (rw (c .before .before .before .before .before .before .before .before .before .before .before .word .ensures .0, c .before .before .before .before .before .before .before .before .before .before .word2 .ensures .0) at (c .before .before .before .before .before .before .put4 .ensures)) (c .before .before .load-from .ensures)
+load-from-returns-2 t c =
+    let c₂ = c .before .before in let c₆ = c₂ .before .before .before .before in let c₈ = c₆ .before .before in let c₁₀ = c₈ .before .before in
+    let c₁₁ = c₁₀ .before in let c₁₂ = c₁₁ .before in let c₁₅ = c₁₂ .before .before .before in
+    loaded-some (c₁₅ .pre .1) (c₁₂ .if1 .left) (rw (c₁₁ .word .ensures .0) at (c₈ .rest-of .ensures))
+        (rw (c₁₁ .word .ensures .0, c₁₀ .word2 .ensures .0) at (c₆ .put4 .ensures)) (c₂ .load-from .ensures)
 
 pub +load-from-spec : {M : Type 1} → statement M
 +load-from-spec = close μ-load-from λ t. load-from-lts.spec (

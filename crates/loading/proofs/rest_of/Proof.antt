@@ -15,7 +15,9 @@ word-requires : tie.Need-word-requires
 word-requires c κs = c .before .before .pre .table (c .match .keys1)
 
 returns : tie.Need-returns
-returns c = record { held = λ h. (refl, c .word .ensures .0); bare = λ h. absurd (h (c .before .match .keys1)); small = omega (arith, c .before .before .before .pre .place) }
+returns c =
+    let c₁ = c .before in let c₃ = c₁ .before .before in
+    record { held = λ h. (refl, c .word .ensures .0); bare = λ h. absurd (h (c₁ .match .keys1)); small = omega (arith, c₃ .pre .place) }
 
 returns-2 : tie.Need-returns-2
 returns-2 c = record { held = λ h. absurd (c .match .rest .1 h); bare = λ h. (refl, refl); small = omega arith }

@@ -45,7 +45,9 @@ read-context-enum-known-entry : (t : ℕ) → read-context-lts.Need-enum-known-e
 read-context-enum-known-entry t c = search needs
 
 read-context-read-context-requires : (t : ℕ) → read-context-lts.Need-read-context-requires (read-context-claims t) (read-context-at t) read-context.Post
-read-context-read-context-requires t c κs = let f = entry-past (c .before .before .before .before .before .before .pre .1) (c .before .before .before .before .if1 .left) (c .before .before .before .read-entry .ensures) (c .before .entry .given .1) in (omega arith, f .1)
+read-context-read-context-requires t c κs =
+    let c₁ = c .before in let c₃ = c₁ .before .before in let c₄ = c₃ .before in let c₆ = c₄ .before .before in
+    let f = entry-past (c₆ .pre .1) (c₄ .if1 .left) (c₃ .read-entry .ensures) (c₁ .entry .given .1) in (omega arith, f .1)
 
 read-context-enum-known-rest : (t : ℕ) → read-context-lts.Need-enum-known-rest (read-context-claims t) (read-context-at t) read-context.Post
 read-context-enum-known-rest t c = search needs
@@ -54,19 +56,30 @@ read-context-enum-told : (t : ℕ) → read-context-lts.Need-enum-told (read-con
 read-context-enum-told t c = search needs
 
 read-context-returns-2 : (t : ℕ) → read-context-lts.Need-returns-2 (read-context-claims t) (read-context-at t) read-context.Post
-read-context-returns-2 t c = context-rest (c .before .before .before .before .before .before .before .before .before .pre .1) (c .before .before .before .before .before .before .before .if1 .left) (c .before .before .before .before .before .before .read-entry .ensures) (c .before .before .before .before .entry .given .1) (c .before .before .read-context .ensures) (c .enum-told .given .1)
+read-context-returns-2 t c =
+    let c₂ = c .before .before in let c₄ = c₂ .before .before in let c₆ = c₄ .before .before in let c₇ = c₆ .before in let c₉ = c₇ .before .before in
+    context-rest (c₉ .pre .1) (c₇ .if1 .left) (c₆ .read-entry .ensures) (c₄ .entry .given .1) (c₂ .read-context .ensures) (c .enum-told .given .1)
 
 read-context-add-more : (t : ℕ) → read-context-lts.Need-add-more (read-context-claims t) (read-context-at t) read-context.Post
-read-context-add-more t c = omega (arith, context-few (entry-past (c .before .before .before .before .before .before .before .before .before .before .pre .1) (c .before .before .before .before .before .before .before .before .if1 .left) (c .before .before .before .before .before .before .before .read-entry .ensures) (c .before .before .before .before .before .entry .given .1) .1) (c .before .before .before .read-context .ensures) (c .before .rest .given .1))
+read-context-add-more t c =
+    let c₁ = c .before in let c₃ = c₁ .before .before in let c₅ = c₃ .before .before in let c₇ = c₅ .before .before in let c₈ = c₇ .before in
+    let c₁₀ = c₈ .before .before in
+    omega (arith, context-few (entry-past (c₁₀ .pre .1) (c₈ .if1 .left) (c₇ .read-entry .ensures) (c₅ .entry .given .1) .1)
+        (c₃ .read-context .ensures) (c₁ .rest .given .1))
 
 read-context-enum-known-entry-2 : (t : ℕ) → read-context-lts.Need-enum-known-entry-2 (read-context-claims t) (read-context-at t) read-context.Post
 read-context-enum-known-entry-2 t c = search needs
 
 read-context-returns-3 : (t : ℕ) → read-context-lts.Need-returns-3 (read-context-claims t) (read-context-at t) read-context.Post
-read-context-returns-3 t c = context-some (c .before .before .before .before .before .before .before .before .before .before .pre .1) (c .before .before .before .before .before .before .before .before .if1 .left) (c .before .before .before .before .before .before .before .read-entry .ensures) (c .before .before .before .before .before .entry .given .1) (c .before .before .before .read-context .ensures) (c .before .rest .given .1)
+read-context-returns-3 t c =
+    let c₁ = c .before in let c₃ = c₁ .before .before in let c₅ = c₃ .before .before in let c₇ = c₅ .before .before in let c₈ = c₇ .before in
+    let c₁₀ = c₈ .before .before in
+    context-some (c₁₀ .pre .1) (c₈ .if1 .left) (c₇ .read-entry .ensures) (c₅ .entry .given .1) (c₃ .read-context .ensures) (c₁ .rest .given .1)
 
 read-context-returns-4 : (t : ℕ) → read-context-lts.Need-returns-4 (read-context-claims t) (read-context-at t) read-context.Post
-read-context-returns-4 t c = context-refused (c .before .before .before .before .before .before .pre .1) (c .before .before .before .before .if1 .left) (c .before .before .before .read-entry .ensures) (c .before .entry2 .given .1)
+read-context-returns-4 t c =
+    let c₁ = c .before in let c₃ = c₁ .before .before in let c₄ = c₃ .before in let c₆ = c₄ .before .before in
+    context-refused (c₆ .pre .1) (c₄ .if1 .left) (c₃ .read-entry .ensures) (c₁ .entry2 .given .1)
 
 pub +read-context-spec : {M : Type 1} → statement M
 +read-context-spec = close μ-read-context λ t. read-context-lts.spec (read-context-claims t)

@@ -81,40 +81,54 @@ read-expr-read-expr-requires : (t : ℕ) → read-expr-lts.Need-read-expr-requir
 read-expr-read-expr-requires t c κs = (omega arith, inside-next (c .before .before .before .before .pre .1) (c .before .before .if1 .left))
 
 read-expr-then-expr-requires : (t : ℕ) → read-expr-lts.Need-then-expr-requires (read-expr-claims t) (read-expr-at t) read-expr.Post
-read-expr-then-expr-requires t c κs = onward (c .before .before .before .before .before .pre) (c .before .before .before .if1 .left) (λ f. expr-on f _) (c .read-expr .ensures)
+read-expr-then-expr-requires t c κs =
+    let c₃ = c .before .before .before in let c₅ = c₃ .before .before in
+    onward (c₅ .pre) (c₃ .if1 .left) (λ f. expr-on f _) (c .read-expr .ensures)
 
 read-expr-read-name-requires-2 : (t : ℕ) → read-expr-lts.Need-read-name-requires-2 (read-expr-claims t) (read-expr-at t) read-expr.Post
 read-expr-read-name-requires-2 t c κs = inside-next (c .before .before .before .before .pre .1) (c .before .before .if1 .left)
 
 read-expr-then-type-requires : (t : ℕ) → read-expr-lts.Need-then-type-requires (read-expr-claims t) (read-expr-at t) read-expr.Post
-read-expr-then-type-requires t c κs = onward (c .before .before .before .before .before .pre) (c .before .before .before .if1 .left) (λ n. word-on n _) (c .read-name2 .ensures) .1
+read-expr-then-type-requires t c κs =
+    let c₃ = c .before .before .before in let c₅ = c₃ .before .before in
+    onward (c₅ .pre) (c₃ .if1 .left) (λ n. word-on n _) (c .read-name2 .ensures) .1
 
 read-expr-then-expr-requires-2 : (t : ℕ) → read-expr-lts.Need-then-expr-requires-2 (read-expr-claims t) (read-expr-at t) read-expr.Post
-read-expr-then-expr-requires-2 t c κs = onward-two (c .before .before .before .before .before .before .pre) (c .before .before .before .before .if1 .left) (λ n. word-on n _) ty-on (c .before .read-name2 .ensures) (c .then-type .ensures)
+read-expr-then-expr-requires-2 t c κs =
+    let c₁ = c .before in let c₄ = c₁ .before .before .before in let c₆ = c₄ .before .before in
+    onward-two (c₆ .pre) (c₄ .if1 .left) (λ n. word-on n _) ty-on (c₁ .read-name2 .ensures) (c .then-type .ensures)
 
 read-expr-read-expr-requires-2 : (t : ℕ) → read-expr-lts.Need-read-expr-requires-2 (read-expr-claims t) (read-expr-at t) read-expr.Post
 read-expr-read-expr-requires-2 t c κs = (omega arith, inside-next (c .before .before .before .before .pre .1) (c .before .before .if1 .left))
 
 read-expr-then-type-requires-2 : (t : ℕ) → read-expr-lts.Need-then-type-requires-2 (read-expr-claims t) (read-expr-at t) read-expr.Post
-read-expr-then-type-requires-2 t c κs = onward (c .before .before .before .before .before .pre) (c .before .before .before .if1 .left) (λ f. expr-on f _) (c .read-expr2 .ensures) .1
+read-expr-then-type-requires-2 t c κs =
+    let c₃ = c .before .before .before in let c₅ = c₃ .before .before in
+    onward (c₅ .pre) (c₃ .if1 .left) (λ f. expr-on f _) (c .read-expr2 .ensures) .1
 
 read-expr-read-name-requires-3 : (t : ℕ) → read-expr-lts.Need-read-name-requires-3 (read-expr-claims t) (read-expr-at t) read-expr.Post
 read-expr-read-name-requires-3 t c κs = inside-next (c .before .before .before .before .pre .1) (c .before .before .if1 .left)
 
 read-expr-then-expr-requires-3 : (t : ℕ) → read-expr-lts.Need-then-expr-requires-3 (read-expr-claims t) (read-expr-at t) read-expr.Post
-read-expr-then-expr-requires-3 t c κs = onward (c .before .before .before .before .before .pre) (c .before .before .before .if1 .left) (λ n. word-on n _) (c .read-name3 .ensures)
+read-expr-then-expr-requires-3 t c κs =
+    let c₃ = c .before .before .before in let c₅ = c₃ .before .before in
+    onward (c₅ .pre) (c₃ .if1 .left) (λ n. word-on n _) (c .read-name3 .ensures)
 
 read-expr-read-expr-requires-3 : (t : ℕ) → read-expr-lts.Need-read-expr-requires-3 (read-expr-claims t) (read-expr-at t) read-expr.Post
 read-expr-read-expr-requires-3 t c κs = (omega arith, inside-next (c .before .before .before .before .pre .1) (c .before .before .if1 .left))
 
 read-expr-then-type-requires-3 : (t : ℕ) → read-expr-lts.Need-then-type-requires-3 (read-expr-claims t) (read-expr-at t) read-expr.Post
-read-expr-then-type-requires-3 t c κs = onward (c .before .before .before .before .before .pre) (c .before .before .before .if1 .left) (λ f. expr-on f _) (c .read-expr3 .ensures) .1
+read-expr-then-type-requires-3 t c κs =
+    let c₃ = c .before .before .before in let c₅ = c₃ .before .before in
+    onward (c₅ .pre) (c₃ .if1 .left) (λ f. expr-on f _) (c .read-expr3 .ensures) .1
 
 read-expr-add-past : (t : ℕ) → read-expr-lts.Need-add-past (read-expr-claims t) (read-expr-at t) read-expr.Post
 read-expr-add-past t c = omega arith
 
 read-expr-returns-2 : (t : ℕ) → read-expr-lts.Need-returns-2 (read-expr-claims t) (read-expr-at t) read-expr.Post
-read-expr-returns-2 t c = expr-short (c .before .before .before .before .before .pre .1) (c .before .before .before .if1 .left) (c .before .match .keys7) (c .if2 .taken)
+read-expr-returns-2 t c =
+    let c₁ = c .before in let c₃ = c₁ .before .before in let c₅ = c₃ .before .before in
+    expr-short (c₅ .pre .1) (c₃ .if1 .left) (c₁ .match .keys7) (c .if2 .taken)
 
 read-expr-read-within-requires : (t : ℕ) → read-expr-lts.Need-read-within-requires (read-expr-claims t) (read-expr-at t) read-expr.Post
 read-expr-read-within-requires t c κs = inside-next (c .before .before .before .before .pre .1) (c .before .before .if1 .left)
@@ -123,61 +137,95 @@ read-expr-read-name-requires-4 : (t : ℕ) → read-expr-lts.Need-read-name-requ
 read-expr-read-name-requires-4 t c κs = inside-next (c .before .before .before .before .pre .1) (c .before .before .if1 .left)
 
 read-expr-then-expr-requires-4 : (t : ℕ) → read-expr-lts.Need-then-expr-requires-4 (read-expr-claims t) (read-expr-at t) read-expr.Post
-read-expr-then-expr-requires-4 t c κs = onward (c .before .before .before .before .before .pre) (c .before .before .before .if1 .left) (λ n. word-on n _) (c .read-name4 .ensures)
+read-expr-then-expr-requires-4 t c κs =
+    let c₃ = c .before .before .before in let c₅ = c₃ .before .before in
+    onward (c₅ .pre) (c₃ .if1 .left) (λ n. word-on n _) (c .read-name4 .ensures)
 
 read-expr-then-expr-requires-5 : (t : ℕ) → read-expr-lts.Need-then-expr-requires-5 (read-expr-claims t) (read-expr-at t) read-expr.Post
-read-expr-then-expr-requires-5 t c κs = onward-two (c .before .before .before .before .before .before .pre) (c .before .before .before .before .if1 .left) (λ n. word-on n _) expr-on (c .before .read-name4 .ensures) (c .then-expr4 .ensures)
+read-expr-then-expr-requires-5 t c κs =
+    let c₁ = c .before in let c₄ = c₁ .before .before .before in let c₆ = c₄ .before .before in
+    onward-two (c₆ .pre) (c₄ .if1 .left) (λ n. word-on n _) expr-on (c₁ .read-name4 .ensures) (c .then-expr4 .ensures)
 
 read-expr-read-expr-requires-4 : (t : ℕ) → read-expr-lts.Need-read-expr-requires-4 (read-expr-claims t) (read-expr-at t) read-expr.Post
 read-expr-read-expr-requires-4 t c κs = (omega arith, inside-next (c .before .before .before .before .pre .1) (c .before .before .if1 .left))
 
 read-expr-then-expr-requires-6 : (t : ℕ) → read-expr-lts.Need-then-expr-requires-6 (read-expr-claims t) (read-expr-at t) read-expr.Post
-read-expr-then-expr-requires-6 t c κs = onward (c .before .before .before .before .before .pre) (c .before .before .before .if1 .left) (λ f. expr-on f _) (c .read-expr4 .ensures)
+read-expr-then-expr-requires-6 t c κs =
+    let c₃ = c .before .before .before in let c₅ = c₃ .before .before in
+    onward (c₅ .pre) (c₃ .if1 .left) (λ f. expr-on f _) (c .read-expr4 .ensures)
 
 read-expr-then-expr-requires-7 : (t : ℕ) → read-expr-lts.Need-then-expr-requires-7 (read-expr-claims t) (read-expr-at t) read-expr.Post
-read-expr-then-expr-requires-7 t c κs = onward-two (c .before .before .before .before .before .before .pre) (c .before .before .before .before .if1 .left) (λ f. expr-on f _) expr-on (c .before .read-expr4 .ensures) (c .then-expr6 .ensures)
+read-expr-then-expr-requires-7 t c κs =
+    let c₁ = c .before in let c₄ = c₁ .before .before .before in let c₆ = c₄ .before .before in
+    onward-two (c₆ .pre) (c₄ .if1 .left) (λ f. expr-on f _) expr-on (c₁ .read-expr4 .ensures) (c .then-expr6 .ensures)
 
 read-expr-read-within-requires-2 : (t : ℕ) → read-expr-lts.Need-read-within-requires-2 (read-expr-claims t) (read-expr-at t) read-expr.Post
 read-expr-read-within-requires-2 t c κs = inside-next (c .before .before .before .before .pre .1) (c .before .before .if1 .left)
 
 read-expr-then-expr-requires-8 : (t : ℕ) → read-expr-lts.Need-then-expr-requires-8 (read-expr-claims t) (read-expr-at t) read-expr.Post
-read-expr-then-expr-requires-8 t c κs = onward (c .before .before .before .before .before .pre) (c .before .before .before .if1 .left) (λ n m s. word-on n _ m (s .word)) (c .read-within2 .ensures)
+read-expr-then-expr-requires-8 t c κs =
+    let c₃ = c .before .before .before in let c₅ = c₃ .before .before in
+    onward (c₅ .pre) (c₃ .if1 .left) (λ n m s. word-on n _ m (s .word)) (c .read-within2 .ensures)
 
 read-expr-then-expr-requires-9 : (t : ℕ) → read-expr-lts.Need-then-expr-requires-9 (read-expr-claims t) (read-expr-at t) read-expr.Post
-read-expr-then-expr-requires-9 t c κs = onward-two (c .before .before .before .before .before .before .pre) (c .before .before .before .before .if1 .left) (λ n m s. word-on n _ m (s .word)) expr-on (c .before .read-within2 .ensures) (c .then-expr8 .ensures)
+read-expr-then-expr-requires-9 t c κs =
+    let c₁ = c .before in let c₄ = c₁ .before .before .before in let c₆ = c₄ .before .before in
+    onward-two (c₆ .pre) (c₄ .if1 .left) (λ n m s. word-on n _ m (s .word)) expr-on (c₁ .read-within2 .ensures) (c .then-expr8 .ensures)
 
 read-expr-returns-3 : (t : ℕ) → read-expr-lts.Need-returns-3 (read-expr-claims t) (read-expr-at t) read-expr.Post
-read-expr-returns-3 t c = expr-var (c .before .before .before .before .before .pre .1) (c .before .before .before .if1 .left) (c .read-name .ensures) (c .before .match .keys1)
+read-expr-returns-3 t c =
+    let c₁ = c .before in let c₃ = c₁ .before .before in let c₅ = c₃ .before .before in
+    expr-var (c₅ .pre .1) (c₃ .if1 .left) (c .read-name .ensures) (c₁ .match .keys1)
 
 read-expr-returns-4 : (t : ℕ) → read-expr-lts.Need-returns-4 (read-expr-claims t) (read-expr-at t) read-expr.Post
-read-expr-returns-4 t c = expr-app (c .before .before .before .before .before .before .pre .1) (c .before .before .before .before .if1 .left) (c .before .read-expr .ensures) (c .before .before .match .keys2) (c .then-expr .ensures)
+read-expr-returns-4 t c =
+    let c₁ = c .before in let c₂ = c₁ .before in let c₄ = c₂ .before .before in let c₆ = c₄ .before .before in
+    expr-app (c₆ .pre .1) (c₄ .if1 .left) (c₁ .read-expr .ensures) (c₂ .match .keys2) (c .then-expr .ensures)
 
 read-expr-returns-5 : (t : ℕ) → read-expr-lts.Need-returns-5 (read-expr-claims t) (read-expr-at t) read-expr.Post
-read-expr-returns-5 t c = expr-abs (c .before .before .before .before .before .before .before .pre .1) (c .before .before .before .before .before .if1 .left) (c .before .before .read-name2 .ensures) (c .before .before .before .match .keys3) (c .before .then-type .ensures) (c .then-expr2 .ensures)
+read-expr-returns-5 t c =
+    let c₁ = c .before in let c₂ = c₁ .before in let c₃ = c₂ .before in let c₅ = c₃ .before .before in let c₇ = c₅ .before .before in
+    expr-abs (c₇ .pre .1) (c₅ .if1 .left) (c₂ .read-name2 .ensures) (c₃ .match .keys3) (c₁ .then-type .ensures) (c .then-expr2 .ensures)
 
 read-expr-returns-6 : (t : ℕ) → read-expr-lts.Need-returns-6 (read-expr-claims t) (read-expr-at t) read-expr.Post
-read-expr-returns-6 t c = expr-tapp (c .before .before .before .before .before .before .pre .1) (c .before .before .before .before .if1 .left) (c .before .read-expr2 .ensures) (c .before .before .match .keys4) (c .then-type2 .ensures)
+read-expr-returns-6 t c =
+    let c₁ = c .before in let c₂ = c₁ .before in let c₄ = c₂ .before .before in let c₆ = c₄ .before .before in
+    expr-tapp (c₆ .pre .1) (c₄ .if1 .left) (c₁ .read-expr2 .ensures) (c₂ .match .keys4) (c .then-type2 .ensures)
 
 read-expr-returns-7 : (t : ℕ) → read-expr-lts.Need-returns-7 (read-expr-claims t) (read-expr-at t) read-expr.Post
-read-expr-returns-7 t c = expr-tabs (c .before .before .before .before .before .before .pre .1) (c .before .before .before .before .if1 .left) (c .before .read-name3 .ensures) (c .before .before .match .keys5) (c .then-expr3 .ensures)
+read-expr-returns-7 t c =
+    let c₁ = c .before in let c₂ = c₁ .before in let c₄ = c₂ .before .before in let c₆ = c₄ .before .before in
+    expr-tabs (c₆ .pre .1) (c₄ .if1 .left) (c₁ .read-name3 .ensures) (c₂ .match .keys5) (c .then-expr3 .ensures)
 
 read-expr-returns-8 : (t : ℕ) → read-expr-lts.Need-returns-8 (read-expr-claims t) (read-expr-at t) read-expr.Post
-read-expr-returns-8 t c = expr-ann (c .before .before .before .before .before .before .pre .1) (c .before .before .before .before .if1 .left) (c .before .read-expr3 .ensures) (c .before .before .match .keys6) (c .then-type3 .ensures)
+read-expr-returns-8 t c =
+    let c₁ = c .before in let c₂ = c₁ .before in let c₄ = c₂ .before .before in let c₆ = c₄ .before .before in
+    expr-ann (c₆ .pre .1) (c₄ .if1 .left) (c₁ .read-expr3 .ensures) (c₂ .match .keys6) (c .then-type3 .ensures)
 
 read-expr-returns-9 : (t : ℕ) → read-expr-lts.Need-returns-9 (read-expr-claims t) (read-expr-at t) read-expr.Post
-read-expr-returns-9 t c = expr-int (c .before .before .before .before .before .pre .1) (c .before .before .before .if1 .left) (c .before .match .keys7) (c .if2 .left)
+read-expr-returns-9 t c =
+    let c₁ = c .before in let c₃ = c₁ .before .before in let c₅ = c₃ .before .before in
+    expr-int (c₅ .pre .1) (c₃ .if1 .left) (c₁ .match .keys7) (c .if2 .left)
 
 read-expr-returns-10 : (t : ℕ) → read-expr-lts.Need-returns-10 (read-expr-claims t) (read-expr-at t) read-expr.Post
-read-expr-returns-10 t c = expr-bool (c .before .before .before .before .before .pre .1) (c .before .before .before .if1 .left) (c .before .match .keys8) (c .read-within .ensures)
+read-expr-returns-10 t c =
+    let c₁ = c .before in let c₃ = c₁ .before .before in let c₅ = c₃ .before .before in
+    expr-bool (c₅ .pre .1) (c₃ .if1 .left) (c₁ .match .keys8) (c .read-within .ensures)
 
 read-expr-returns-11 : (t : ℕ) → read-expr-lts.Need-returns-11 (read-expr-claims t) (read-expr-at t) read-expr.Post
-read-expr-returns-11 t c = expr-let (c .before .before .before .before .before .before .before .pre .1) (c .before .before .before .before .before .if1 .left) (c .before .before .read-name4 .ensures) (c .before .before .before .match .keys9) (c .before .then-expr4 .ensures) (c .then-expr5 .ensures)
+read-expr-returns-11 t c =
+    let c₁ = c .before in let c₂ = c₁ .before in let c₃ = c₂ .before in let c₅ = c₃ .before .before in let c₇ = c₅ .before .before in
+    expr-let (c₇ .pre .1) (c₅ .if1 .left) (c₂ .read-name4 .ensures) (c₃ .match .keys9) (c₁ .then-expr4 .ensures) (c .then-expr5 .ensures)
 
 read-expr-returns-12 : (t : ℕ) → read-expr-lts.Need-returns-12 (read-expr-claims t) (read-expr-at t) read-expr.Post
-read-expr-returns-12 t c = expr-if (c .before .before .before .before .before .before .before .pre .1) (c .before .before .before .before .before .if1 .left) (c .before .before .read-expr4 .ensures) (c .before .before .before .match .keys10) (c .before .then-expr6 .ensures) (c .then-expr7 .ensures)
+read-expr-returns-12 t c =
+    let c₁ = c .before in let c₂ = c₁ .before in let c₃ = c₂ .before in let c₅ = c₃ .before .before in let c₇ = c₅ .before .before in
+    expr-if (c₇ .pre .1) (c₅ .if1 .left) (c₂ .read-expr4 .ensures) (c₃ .match .keys10) (c₁ .then-expr6 .ensures) (c .then-expr7 .ensures)
 
 read-expr-returns-13 : (t : ℕ) → read-expr-lts.Need-returns-13 (read-expr-claims t) (read-expr-at t) read-expr.Post
-read-expr-returns-13 t c = expr-op (c .before .before .before .before .before .before .before .pre .1) (c .before .before .before .before .before .if1 .left) (c .before .before .before .match .keys11) (c .before .before .read-within2 .ensures) (c .before .then-expr8 .ensures) (c .then-expr9 .ensures)
+read-expr-returns-13 t c =
+    let c₁ = c .before in let c₂ = c₁ .before in let c₃ = c₂ .before in let c₅ = c₃ .before .before in let c₇ = c₅ .before .before in
+    expr-op (c₇ .pre .1) (c₅ .if1 .left) (c₃ .match .keys11) (c₂ .read-within2 .ensures) (c₁ .then-expr8 .ensures) (c .then-expr9 .ensures)
 
 read-expr-returns-14 : (t : ℕ) → read-expr-lts.Need-returns-14 (read-expr-claims t) (read-expr-at t) read-expr.Post
 unfolding exprRows
@@ -187,7 +235,9 @@ then-expr-enum-known-before : (t : ℕ) → then-expr-lts.Need-enum-known-before
 then-expr-enum-known-before t c = search needs
 
 then-expr-read-expr-requires : (t : ℕ) → then-expr-lts.Need-read-expr-requires (then-expr-claims t) (then-expr-at t) then-expr.Post
-then-expr-read-expr-requires t c κs = let f = onward-past (c .before .before2 .given .1) (c .before .before .before .before .pre .1) in (omega arith, f .1)
+then-expr-read-expr-requires t c κs =
+    let c₄ = c .before .before .before .before in
+    let f = onward-past (c .before .before2 .given .1) (c₄ .pre .1) in (omega arith, f .1)
 
 then-expr-anew-requires : (t : ℕ) → then-expr-lts.Need-anew-requires (then-expr-claims t) (then-expr-at t) then-expr.Post
 then-expr-anew-requires t c κs = tt

@@ -78,13 +78,17 @@ read-type-read-type-requires : (t : ℕ) → read-type-lts.Need-read-type-requir
 read-type-read-type-requires t c κs = (omega arith, inside-next (c .before .before .before .before .pre .1) (c .before .before .if1 .left))
 
 read-type-then-type-requires : (t : ℕ) → read-type-lts.Need-then-type-requires (read-type-claims t) (read-type-at t) read-type.Post
-read-type-then-type-requires t c κs = onward (c .before .before .before .before .before .pre) (c .before .before .before .if1 .left) (λ A. ty-on A _) (c .read-type .ensures)
+read-type-then-type-requires t c κs =
+    let c₃ = c .before .before .before in let c₅ = c₃ .before .before in
+    onward (c₅ .pre) (c₃ .if1 .left) (λ A. ty-on A _) (c .read-type .ensures)
 
 read-type-read-name-requires-3 : (t : ℕ) → read-type-lts.Need-read-name-requires-3 (read-type-claims t) (read-type-at t) read-type.Post
 read-type-read-name-requires-3 t c κs = inside-next (c .before .before .before .before .pre .1) (c .before .before .if1 .left)
 
 read-type-then-type-requires-2 : (t : ℕ) → read-type-lts.Need-then-type-requires-2 (read-type-claims t) (read-type-at t) read-type.Post
-read-type-then-type-requires-2 t c κs = onward (c .before .before .before .before .before .pre) (c .before .before .before .if1 .left) (λ n. word-on n _) (c .read-name3 .ensures)
+read-type-then-type-requires-2 t c κs =
+    let c₃ = c .before .before .before in let c₅ = c₃ .before .before in
+    onward (c₅ .pre) (c₃ .if1 .left) (λ n. word-on n _) (c .read-name3 .ensures)
 
 read-type-returns-2 : (t : ℕ) → read-type-lts.Need-returns-2 (read-type-claims t) (read-type-at t) read-type.Post
 read-type-returns-2 t c = type-int (c .before .before .before .before .pre .1) (c .before .before .if1 .left) (c .match .keys1)
@@ -93,16 +97,24 @@ read-type-returns-3 : (t : ℕ) → read-type-lts.Need-returns-3 (read-type-clai
 read-type-returns-3 t c = type-bool (c .before .before .before .before .pre .1) (c .before .before .if1 .left) (c .match .keys2)
 
 read-type-returns-4 : (t : ℕ) → read-type-lts.Need-returns-4 (read-type-claims t) (read-type-at t) read-type.Post
-read-type-returns-4 t c = type-var (c .before .before .before .before .before .pre .1) (c .before .before .before .if1 .left) (c .read-name .ensures) (c .before .match .keys3)
+read-type-returns-4 t c =
+    let c₁ = c .before in let c₃ = c₁ .before .before in let c₅ = c₃ .before .before in
+    type-var (c₅ .pre .1) (c₃ .if1 .left) (c .read-name .ensures) (c₁ .match .keys3)
 
 read-type-returns-5 : (t : ℕ) → read-type-lts.Need-returns-5 (read-type-claims t) (read-type-at t) read-type.Post
-read-type-returns-5 t c = type-etvar (c .before .before .before .before .before .pre .1) (c .before .before .before .if1 .left) (c .read-name2 .ensures) (c .before .match .keys4)
+read-type-returns-5 t c =
+    let c₁ = c .before in let c₃ = c₁ .before .before in let c₅ = c₃ .before .before in
+    type-etvar (c₅ .pre .1) (c₃ .if1 .left) (c .read-name2 .ensures) (c₁ .match .keys4)
 
 read-type-returns-6 : (t : ℕ) → read-type-lts.Need-returns-6 (read-type-claims t) (read-type-at t) read-type.Post
-read-type-returns-6 t c = type-arrow (c .before .before .before .before .before .before .pre .1) (c .before .before .before .before .if1 .left) (c .before .before .match .keys5) (c .before .read-type .ensures) (c .then-type .ensures)
+read-type-returns-6 t c =
+    let c₁ = c .before in let c₂ = c₁ .before in let c₄ = c₂ .before .before in let c₆ = c₄ .before .before in
+    type-arrow (c₆ .pre .1) (c₄ .if1 .left) (c₂ .match .keys5) (c₁ .read-type .ensures) (c .then-type .ensures)
 
 read-type-returns-7 : (t : ℕ) → read-type-lts.Need-returns-7 (read-type-claims t) (read-type-at t) read-type.Post
-read-type-returns-7 t c = type-forall (c .before .before .before .before .before .before .pre .1) (c .before .before .before .before .if1 .left) (c .before .read-name3 .ensures) (c .before .before .match .keys6) (c .then-type2 .ensures)
+read-type-returns-7 t c =
+    let c₁ = c .before in let c₂ = c₁ .before in let c₄ = c₂ .before .before in let c₆ = c₄ .before .before in
+    type-forall (c₆ .pre .1) (c₄ .if1 .left) (c₁ .read-name3 .ensures) (c₂ .match .keys6) (c .then-type2 .ensures)
 
 read-type-returns-8 : (t : ℕ) → read-type-lts.Need-returns-8 (read-type-claims t) (read-type-at t) read-type.Post
 unfolding tyRows
@@ -112,7 +124,9 @@ then-type-enum-known-before : (t : ℕ) → then-type-lts.Need-enum-known-before
 then-type-enum-known-before t c = search needs
 
 then-type-read-type-requires : (t : ℕ) → then-type-lts.Need-read-type-requires (then-type-claims t) (then-type-at t) then-type.Post
-then-type-read-type-requires t c κs = let f = onward-past (c .before .before2 .given .1) (c .before .before .before .before .pre .1) in (omega arith, f .1)
+then-type-read-type-requires t c κs =
+    let c₄ = c .before .before .before .before in
+    let f = onward-past (c .before .before2 .given .1) (c₄ .pre .1) in (omega arith, f .1)
 
 then-type-anew-requires : (t : ℕ) → then-type-lts.Need-anew-requires (then-type-claims t) (then-type-at t) then-type.Post
 then-type-anew-requires t c κs = tt

@@ -22,7 +22,9 @@ read-name-requires : tie.Need-read-name-requires
 read-name-requires c κs = search needs
 
 then-type-requires : tie.Need-then-type-requires
-then-type-requires c κs = onward (refl, c .before .before .before .before .before .pre) (c .before .before .before .if1 .left) (λ n. word-on n _) (c .read-name .ensures) .1
+then-type-requires c κs =
+    let c₃ = c .before .before .before in let c₅ = c₃ .before .before in
+    onward (refl, c₅ .pre) (c₃ .if1 .left) (λ n. word-on n _) (c .read-name .ensures) .1
 
 read-name-requires-2 : tie.Need-read-name-requires-2
 read-name-requires-2 c κs = search needs
@@ -34,25 +36,37 @@ read-name-requires-4 : tie.Need-read-name-requires-4
 read-name-requires-4 c κs = search needs
 
 then-type-requires-2 : tie.Need-then-type-requires-2
-then-type-requires-2 c κs = onward (refl, c .before .before .before .before .before .pre) (c .before .before .before .if1 .left) (λ n. word-on n _) (c .read-name4 .ensures) .1
+then-type-requires-2 c κs =
+    let c₃ = c .before .before .before in let c₅ = c₃ .before .before in
+    onward (refl, c₅ .pre) (c₃ .if1 .left) (λ n. word-on n _) (c .read-name4 .ensures) .1
 
 read-name-requires-5 : tie.Need-read-name-requires-5
 read-name-requires-5 c κs = search needs
 
 returns-2 : tie.Need-returns-2
-returns-2 c = entry-var (c .before .before .before .before .before .before .pre) (c .before .before .before .before .if1 .left) (c .before .read-name .ensures) (c .before .before .match .keys1) (c .then-type .ensures)
+returns-2 c =
+    let c₁ = c .before in let c₂ = c₁ .before in let c₄ = c₂ .before .before in let c₆ = c₄ .before .before in
+    entry-var (c₆ .pre) (c₄ .if1 .left) (c₁ .read-name .ensures) (c₂ .match .keys1) (c .then-type .ensures)
 
 returns-3 : tie.Need-returns-3
-returns-3 c = entry-tvar (c .before .before .before .before .before .pre) (c .before .before .before .if1 .left) (c .read-name2 .ensures) (c .before .match .keys2)
+returns-3 c =
+    let c₁ = c .before in let c₃ = c₁ .before .before in let c₅ = c₃ .before .before in
+    entry-tvar (c₅ .pre) (c₃ .if1 .left) (c .read-name2 .ensures) (c₁ .match .keys2)
 
 returns-4 : tie.Need-returns-4
-returns-4 c = entry-etvar (c .before .before .before .before .before .pre) (c .before .before .before .if1 .left) (c .read-name3 .ensures) (c .before .match .keys3)
+returns-4 c =
+    let c₁ = c .before in let c₃ = c₁ .before .before in let c₅ = c₃ .before .before in
+    entry-etvar (c₅ .pre) (c₃ .if1 .left) (c .read-name3 .ensures) (c₁ .match .keys3)
 
 returns-5 : tie.Need-returns-5
-returns-5 c = entry-setvar (c .before .before .before .before .before .before .pre) (c .before .before .before .before .if1 .left) (c .before .read-name4 .ensures) (c .before .before .match .keys4) (c .then-type2 .ensures)
+returns-5 c =
+    let c₁ = c .before in let c₂ = c₁ .before in let c₄ = c₂ .before .before in let c₆ = c₄ .before .before in
+    entry-setvar (c₆ .pre) (c₄ .if1 .left) (c₁ .read-name4 .ensures) (c₂ .match .keys4) (c .then-type2 .ensures)
 
 returns-6 : tie.Need-returns-6
-returns-6 c = entry-mark (c .before .before .before .before .before .pre) (c .before .before .before .if1 .left) (c .read-name5 .ensures) (c .before .match .keys5)
+returns-6 c =
+    let c₁ = c .before in let c₃ = c₁ .before .before in let c₅ = c₃ .before .before in
+    entry-mark (c₅ .pre) (c₃ .if1 .left) (c .read-name5 .ensures) (c₁ .match .keys5)
 
 returns-7 : tie.Need-returns-7
 unfolding entryRows

@@ -20,7 +20,9 @@ sub-room : tie.Need-sub-room
 sub-room c = search needs
 
 returns-2 : tie.Need-returns-2
-returns-2 c = section-over (c .before .before .before .before .pre) (c .before .before .if1 .left) (c .before .before .before .before .args .holds) (omega arith)
+returns-2 c =
+    let c₂ = c .before .before in let c₄ = c₂ .before .before in
+    section-over (c₄ .pre) (c₂ .if1 .left) (c₄ .args .holds) (omega arith)
 
 add-end : tie.Need-add-end
 add-end c = search needs
@@ -62,22 +64,38 @@ whole-requires-3 : tie.Need-whole-requires-3
 whole-requires-3 c κs = search needs
 
 returns-3 : tie.Need-returns-3
-returns-3 c = rw (c .before .enum-told .given .1) (section-empty (c .before .before .before .before .before .before .before .pre) (c .before .before .before .before .before .if1 .left) (sym (c .before .before .before .before .word .ensures .0) ∙ c .if3 .taken))
+returns-3 c =
+    let c₁ = c .before in let c₄ = c₁ .before .before .before in let c₅ = c₄ .before in let c₇ = c₅ .before .before in
+    rw (c₁ .enum-told .given .1) (section-empty (c₇ .pre) (c₅ .if1 .left) (sym (c₄ .word .ensures .0) ∙ c .if3 .taken))
 
 returns-4 : tie.Need-returns-4
-returns-4 c = rw (c .before .enum-told .given .1) (section-full (c .before .before .before .before .before .before .before .pre) (c .before .before .before .before .before .if1 .left) (λ h. c .if3 .left (c .before .before .before .before .word .ensures .0 ∙ h)))
+returns-4 c =
+    let c₁ = c .before in let c₄ = c₁ .before .before .before in let c₅ = c₄ .before in let c₇ = c₅ .before .before in
+    rw (c₁ .enum-told .given .1) (section-full (c₇ .pre) (c₅ .if1 .left) (λ h. c .if3 .left (c₄ .word .ensures .0 ∙ h)))
 
 returns-5 : tie.Need-returns-5
-returns-5 c = rw (c .before .enum-told2 .given .1) (section-entries (c .before .before .before .before .before .before .before .pre) (c .before .before .before .before .before .if1 .left) (ap (λ n. c .before .before .before .before .before .before .before .args .p + 1 + n) (c .before .before .before .before .word .ensures .0)) (omega arith) (c .read-context .ensures))
+returns-5 c =
+    let c₁ = c .before in let c₄ = c₁ .before .before .before in let c₅ = c₄ .before in let c₇ = c₅ .before .before in
+    rw (c₁ .enum-told2 .given .1) (section-entries (c₇ .pre) (c₅ .if1 .left) (ap (λ n. c₇ .args .p + 1 + n) (c₄ .word .ensures .0)) (omega arith)
+        (c .read-context .ensures))
 
 returns-6 : tie.Need-returns-6
-returns-6 c = rw (c .before .before .enum-told3 .given .1) (section-expr (c .before .before .before .before .before .before .before .before .pre) (c .before .before .before .before .before .before .if1 .left) (ap (λ n. c .before .before .before .before .before .before .before .before .args .p + 1 + n) (c .before .before .before .before .before .word .ensures .0)) (omega arith) (c .before .read-expr .ensures) (c .whole .ensures))
+returns-6 c =
+    let c₁ = c .before in let c₂ = c₁ .before in let c₅ = c₂ .before .before .before in let c₆ = c₅ .before in let c₈ = c₆ .before .before in
+    rw (c₂ .enum-told3 .given .1) (section-expr (c₈ .pre) (c₆ .if1 .left) (ap (λ n. c₈ .args .p + 1 + n) (c₅ .word .ensures .0)) (omega arith)
+        (c₁ .read-expr .ensures) (c .whole .ensures))
 
 returns-7 : tie.Need-returns-7
-returns-7 c = rw (c .before .before .enum-told4 .given .1) (section-type (c .before .before .before .before .before .before .before .before .pre) (c .before .before .before .before .before .before .if1 .left) (ap (λ n. c .before .before .before .before .before .before .before .before .args .p + 1 + n) (c .before .before .before .before .before .word .ensures .0)) (omega arith) (c .before .read-type .ensures) (c .whole2 .ensures))
+returns-7 c =
+    let c₁ = c .before in let c₂ = c₁ .before in let c₅ = c₂ .before .before .before in let c₆ = c₅ .before in let c₈ = c₆ .before .before in
+    rw (c₂ .enum-told4 .given .1) (section-type (c₈ .pre) (c₆ .if1 .left) (ap (λ n. c₈ .args .p + 1 + n) (c₅ .word .ensures .0)) (omega arith)
+        (c₁ .read-type .ensures) (c .whole2 .ensures))
 
 returns-8 : tie.Need-returns-8
-returns-8 c = rw (c .before .before .enum-told5 .given .1) (section-unknown (c .before .before .before .before .before .before .before .before .pre) (c .before .before .before .before .before .before .if1 .left) (ap (λ n. c .before .before .before .before .before .before .before .before .args .p + 1 + n) (c .before .before .before .before .before .word .ensures .0)) (omega arith) (c .before .read-unknown .ensures) (c .whole3 .ensures))
+returns-8 c =
+    let c₁ = c .before in let c₂ = c₁ .before in let c₅ = c₂ .before .before .before in let c₆ = c₅ .before in let c₈ = c₆ .before .before in
+    rw (c₂ .enum-told5 .given .1) (section-unknown (c₈ .pre) (c₆ .if1 .left) (ap (λ n. c₈ .args .p + 1 + n) (c₅ .word .ensures .0)) (omega arith)
+        (c₁ .read-unknown .ensures) (c .whole3 .ensures))
 
 pub read-section-spec : {M : Type 1} → statement M
 read-section-spec =

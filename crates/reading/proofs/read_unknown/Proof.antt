@@ -20,7 +20,9 @@ read-name-requires : tie.Need-read-name-requires
 read-name-requires c κs = search needs
 
 returns-2 : tie.Need-returns-2
-returns-2 c = unknown-is (c .before .before .before .before .before .pre) (c .before .before .before .if1 .left) (c .read-name .ensures) (c .before .match .keys1)
+returns-2 c =
+    let c₁ = c .before in let c₃ = c₁ .before .before in let c₅ = c₃ .before .before in
+    unknown-is (c₅ .pre) (c₃ .if1 .left) (c .read-name .ensures) (c₁ .match .keys1)
 
 returns-3 : tie.Need-returns-3
 returns-3 c = unknown-none (c .before .before .before .before .pre) (c .before .before .if1 .left) (c .match .rest .1)

@@ -14,16 +14,22 @@ shared-slice-read-n : tie.Need-shared-slice-read-n
 shared-slice-read-n c = search needs
 
 returns-2 : tie.Need-returns-2
-returns-2 c = within-low (c .before .before .before .pre) (c .before .before .before .args .low) (c .before .before .before .args .high) (c .before .before .if1 .left) (c .if2 .taken)
+returns-2 c =
+    let c₂ = c .before .before in let c₃ = c₂ .before in
+    within-low (c₃ .pre) (c₃ .args .low) (c₃ .args .high) (c₂ .if1 .left) (c .if2 .taken)
 
 returns-3 : tie.Need-returns-3
-returns-3 c = within-high (c .before .before .before .before .pre) (c .before .before .before .before .args .low) (c .before .before .before .before .args .high) (c .before .before .before .if1 .left) (c .before .if2 .left) (c .if3 .taken)
+returns-3 c =
+    let c₁ = c .before in let c₃ = c₁ .before .before in let c₄ = c₃ .before in
+    within-high (c₄ .pre) (c₄ .args .low) (c₄ .args .high) (c₃ .if1 .left) (c₁ .if2 .left) (c .if3 .taken)
 
 add-t8 : tie.Need-add-t8
 add-t8 c = search needs
 
 returns-4 : tie.Need-returns-4
-returns-4 c = within-past (c .before .before .before .before .pre) (c .before .before .before .before .args .low) (c .before .before .before .before .args .high) (c .before .before .before .if1 .left) (c .before .if2 .left) (c .if3 .left)
+returns-4 c =
+    let c₁ = c .before in let c₃ = c₁ .before .before in let c₄ = c₃ .before in
+    within-past (c₄ .pre) (c₄ .args .low) (c₄ .args .high) (c₃ .if1 .left) (c₁ .if2 .left) (c .if3 .left)
 
 pub read-within-spec : {M : Type 1} → statement M
 read-within-spec =

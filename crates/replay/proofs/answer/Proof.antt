@@ -42,7 +42,11 @@ same-length-4 : tie.Need-same-length-4
 same-length-4 c = search needs
 
 returns : tie.Need-returns
-returns c = replayed (c .before .before .before .before .before .before .before .before .before .before .before .before .before .before .before .before .before .before .before .before .before .before .args .f) _ (c .before .before .before .before .before .before .before .before .before .before .before .before .before .ask .ensures) (c .before .before .before .before .before .before .written .ensures) (c .before .before .put-reply .ensures) (omega arith)
+returns c =
+    let c₂ = c .before .before in let c₆ = c₂ .before .before .before .before in
+    let c₁₃ = c₆ .before .before .before .before .before .before .before in
+    let c₂₂ = c₁₃ .before .before .before .before .before .before .before .before .before in
+    replayed (c₂₂ .args .f) _ (c₁₃ .ask .ensures) (c₆ .written .ensures) (c₂ .put-reply .ensures) (omega arith)
 
 pub answer-spec : {M : Type 1} → statement M
 answer-spec =

@@ -49,7 +49,11 @@ same-length-3 : tie.Need-same-length-3
 same-length-3 c = search needs
 
 returns : tie.Need-returns
-returns c = asked (c .before .before .before .before .before .before .before .before .before .before .before .before .before .before .before .before .before .args .f) _ _ _ (rw sub-zero (length-take-le _ _ (c .before .before .before .before .before .before .before .before .before .before .before .before .before .before .before .before .before .pre .work))) (rw sub-zero (length-take-le _ _ (c .before .before .before .before .before .before .before .before .before .before .before .before .before .before .before .before .before .pre .report))) (c .before .before .before .before .before .before .before .before .before .before .before .read-words .ensures) (c .before .before .before .before .check .ensures)
+returns c =
+    let c₄ = c .before .before .before .before in let c₁₁ = c₄ .before .before .before .before .before .before .before in
+    let c₁₇ = c₁₁ .before .before .before .before .before .before in
+    asked (c₁₇ .args .f) _ _ _ (rw sub-zero (length-take-le _ _ (c₁₇ .pre .work))) (rw sub-zero (length-take-le _ _ (c₁₇ .pre .report)))
+        (c₁₁ .read-words .ensures) (c₄ .check .ensures)
 
 pub ask-spec : {M : Type 1} → statement M
 ask-spec =

@@ -56,7 +56,11 @@ write-all-requires : tie.Need-write-all-requires
 write-all-requires c κs = search needs
 
 same-length-5 : tie.Need-same-length-5
-same-length-5 c = c .before .before .before .before .before .before .before .before .before .before .before .before .before .before .before .before .before .before .before .before .fill2 .kept .0 ∙ c .before .before .before .before .before .before .before .before .before .before .before .before .before .before .before .before .before .before .before .before .before .before .before .before .before .before .before .before .before .before .before .before .fill .kept .0
+same-length-5 c =
+    let c₁₅ = c .before .before .before .before .before .before .before .before .before .before .before .before .before .before .before in
+    let c₂₀ = c₁₅ .before .before .before .before .before in
+    let c₃₂ = c₂₀ .before .before .before .before .before .before .before .before .before .before .before .before in
+    c₂₀ .fill2 .kept .0 ∙ c₃₂ .fill .kept .0
 
 same-length-6 : tie.Need-same-length-6
 same-length-6 c = search needs

@@ -72,20 +72,23 @@ fills-requires : tie.Need-fills-requires
 fills-requires c κs = search needs
 
 returns : tie.Need-returns
-returns c = record {
-  rule = c .before .before .before .before .before .before .before .before .before .before .before .word .ensures .0;
-  kids = c .before .before .before .before .before .before .before .before .before .before .word2 .ensures .0;
-  place = c .before .before .before .before .before .before .before .before .before .word3 .ensures .0;
-  in-at = c .before .before .before .before .before .before .before .before .word4 .ensures .0;
-  in-n = c .before .before .before .before .before .before .before .word5 .ensures .0;
-  left = c .before .before .before .before .before .before .word6 .ensures .0;
-  right = c .before .before .before .before .before .word7 .ensures .0;
-  out-at = c .before .before .before .before .word8 .ensures .0;
-  out-n = c .before .before .before .word9 .ensures .0;
-  result = c .before .before .word10 .ensures .0;
-  filled = c .fills .ensures ∙ ap fills (c .before .word11 .ensures .0);
-  small = (c .before .before .before .before .before .before .before .before .before .before .before .word .ensures .1, c .before .before .before .before .before .before .before .before .before .before .word2 .ensures .1, c .before .before .before .before .before .before .before .before .before .word3 .ensures .1);
-}
+returns c =
+    let c₁ = c .before in let c₂ = c₁ .before in let c₃ = c₂ .before in let c₄ = c₃ .before in let c₅ = c₄ .before in let c₆ = c₅ .before in
+    let c₇ = c₆ .before in let c₈ = c₇ .before in let c₉ = c₈ .before in let c₁₀ = c₉ .before in let c₁₁ = c₁₀ .before in
+    record {
+      rule = c₁₁ .word .ensures .0;
+      kids = c₁₀ .word2 .ensures .0;
+      place = c₉ .word3 .ensures .0;
+      in-at = c₈ .word4 .ensures .0;
+      in-n = c₇ .word5 .ensures .0;
+      left = c₆ .word6 .ensures .0;
+      right = c₅ .word7 .ensures .0;
+      out-at = c₄ .word8 .ensures .0;
+      out-n = c₃ .word9 .ensures .0;
+      result = c₂ .word10 .ensures .0;
+      filled = c .fills .ensures ∙ ap fills (c₁ .word11 .ensures .0);
+      small = (c₁₁ .word .ensures .1, c₁₀ .word2 .ensures .1, c₉ .word3 .ensures .1);
+    }
 
 pub node-at-spec : {M : Type 1} → statement M
 node-at-spec =

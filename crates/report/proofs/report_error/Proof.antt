@@ -21,16 +21,24 @@ enum-told-2 : tie.Need-enum-told-2
 enum-told-2 c = search needs
 
 returns : tie.Need-returns
-returns c = reports-as (error-parts (c .before .before .before .before .names-two .ensures)) (refused (c .before .before .before .error-length .ensures) (c .before .before .outcome .ensures) (c .enum-told2 .given .1))
+returns c =
+    let c₂ = c .before .before in let c₃ = c₂ .before in let c₄ = c₃ .before in
+    reports-as (error-parts (c₄ .names-two .ensures)) (refused (c₃ .error-length .ensures) (c₂ .outcome .ensures) (c .enum-told2 .given .1))
 
 write-error-requires : tie.Need-write-error-requires
-write-error-requires c κs = writable (c .before .before .before .before .error-length .ensures) (spelled-as (error-parts (c .before .before .before .before .before .names-two .ensures)) (c .before .before .before .before .before .before .before .before .before .pre)) (c .before .before .before .outcome .ensures) (c .before .enum-told .given .1)
+write-error-requires c κs =
+    let c₁ = c .before in let c₃ = c₁ .before .before in let c₄ = c₃ .before in let c₅ = c₄ .before in let c₉ = c₅ .before .before .before .before in
+    writable (c₄ .error-length .ensures) (spelled-as (error-parts (c₅ .names-two .ensures)) (c₉ .pre)) (c₃ .outcome .ensures)
+        (c₁ .enum-told .given .1)
 
 same-length : tie.Need-same-length
 same-length c = search needs
 
 returns-2 : tie.Need-returns-2
-returns-2 c = reports-as (error-parts (c .before .before .before .before .before .before .before .before .names-two .ensures)) (written (c .before .before .before .before .before .before .before .error-length .ensures) (c .before .before .before .before .before .before .outcome .ensures) (c .before .before .before .before .enum-told .given .1) (c .before .before .write-error .ensures))
+returns-2 c =
+    let c₂ = c .before .before in let c₄ = c₂ .before .before in let c₆ = c₄ .before .before in let c₇ = c₆ .before in let c₈ = c₇ .before in
+    reports-as (error-parts (c₈ .names-two .ensures)) (written (c₇ .error-length .ensures) (c₆ .outcome .ensures) (c₄ .enum-told .given .1)
+        (c₂ .write-error .ensures))
 
 pub report-error-spec : {M : Type 1} → statement M
 report-error-spec =

@@ -12,7 +12,9 @@ context-length-requires : tie.Need-context-length-requires
 context-length-requires c κs = search needs
 
 tree-length-requires : tie.Need-tree-length-requires
-tree-length-requires c κs = (spelled-second (spelled-second (c .before .before .before .before .before .before .pre)), record { span = refl; long = c .context-length .ensures })
+tree-length-requires c κs =
+    let c₆ = c .before .before .before .before .before .before in
+    (spelled-second (spelled-second (c₆ .pre)), record { span = refl; long = c .context-length .ensures })
 
 sum-requires : tie.Need-sum-requires
 sum-requires c κs = search needs
@@ -21,7 +23,9 @@ sum-requires-2 : tie.Need-sum-requires-2
 sum-requires-2 c κs = search needs
 
 returns : tie.Need-returns
-returns c = long-then (c .before .before .before .before .section-length .ensures) (long-then (c .before .before .before .context-length .ensures) (c .before .before .tree-length .ensures) (c .before .sum .ensures)) (c .sum2 .ensures)
+returns c =
+    let c₁ = c .before in let c₂ = c₁ .before in let c₃ = c₂ .before in let c₄ = c₃ .before in
+    long-then (c₄ .section-length .ensures) (long-then (c₃ .context-length .ensures) (c₂ .tree-length .ensures) (c₁ .sum .ensures)) (c .sum2 .ensures)
 
 pub result-length-spec : {M : Type 1} → statement M
 result-length-spec =

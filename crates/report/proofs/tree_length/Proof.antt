@@ -10,7 +10,8 @@ use Rattle.report.proofs.tree_length.Statement.{statement}
 use Rattle.report.proofs.tree_length.Tie as tie
 
 abbrev Inv-loop : tie.InvT-loop
-Inv-loop q work top low high total₀ m₀ last₀ total m last = Summing q work top (OfNodes q work top low high) (OfNodes q work top low m) total × Measures q work top (last .g) last
+Inv-loop q work top low high total₀ m₀ last₀ total m last =
+    Summing q work top (OfNodes q work top low high) (OfNodes q work top low m) total × Measures q work top (last .g) last
 
 abbrev μ-loop : tie.MeasureT-loop
 μ-loop q work top low high total₀ m₀ last₀ total m last = m
@@ -31,7 +32,10 @@ loop-less : tie.Need-loop-less Inv-loop μ-loop
 loop-less c = omega (arith, nodes-room (c .before .before .before .loop-test .taken) (c .before .before .before .before .loop .inv .0 .rest .says))
 
 loop-again : tie.Need-loop-again Inv-loop μ-loop
-loop-again c = (sum-next (nodes-first (c .before .before .before .loop-test .taken)) (c .before .before .before .before .loop .inv .0) (c .before .before .node-length .ensures .long) (c .before .sum .ensures), measures-own (c .before .before .node-length .ensures .output))
+loop-again c =
+    let c₁ = c .before in let c₂ = c₁ .before in let c₃ = c₂ .before in let c₄ = c₃ .before in
+    (sum-next (nodes-first (c₃ .loop-test .taken)) (c₄ .loop .inv .0) (c₂ .node-length .ensures .long) (c₁ .sum .ensures), measures-own
+        (c₂ .node-length .ensures .output))
 
 sum-requires-2 : tie.Need-sum-requires-2 Inv-loop μ-loop
 sum-requires-2 c κs = tt

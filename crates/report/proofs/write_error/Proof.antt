@@ -8,7 +8,9 @@ write-section-requires : tie.Need-write-section-requires
 write-section-requires c κs = writable-first (c .before .before .before .before .before .pre)
 
 write-section-requires-2 : tie.Need-write-section-requires-2
-write-section-requires-2 c κs = writable-next (c .before .before .before .before .before .before .before .before .before .pre) (c .before .before .before .write-section .ensures)
+write-section-requires-2 c κs =
+    let c₃ = c .before .before .before in let c₉ = c₃ .before .before .before .before .before .before in
+    writable-next (c₉ .pre) (c₃ .write-section .ensures)
 
 same-length : tie.Need-same-length
 same-length c = search needs

@@ -28,7 +28,10 @@ same-length : tie.Need-same-length
 same-length c = search needs
 
 returns : tie.Need-returns
-returns c = writes-word (c .before .before .before .before .before .before .before .before .before .before .put .ensures) refl (writes-word (c .before .before .before .before .before .before .put2 .ensures) (omega arith) (writes-word (c .before .before .put3 .ensures) (omega arith) (writes-none _ _)))
+returns c =
+    let c₂ = c .before .before in let c₆ = c₂ .before .before .before .before in let c₁₀ = c₆ .before .before .before .before in
+    writes-word (c₁₀ .put .ensures) refl (writes-word (c₆ .put2 .ensures) (omega arith)
+        (writes-word (c₂ .put3 .ensures) (omega arith) (writes-none _ _)))
 
 pub write-three-spec : {M : Type 1} → statement M
 write-three-spec =

@@ -12,7 +12,8 @@ use Rattle.report.proofs.write_tree.Statement.{statement}
 use Rattle.report.proofs.write_tree.Tie as tie
 
 abbrev Inv-loop : tie.InvT-loop
-Inv-loop q work top low high report₀ at first next₀ m₀ last₀ report next m last = Putting q work top (OfNodes q work top low high) report₀ next₀ (OfNodes q work top low m) report next × Stands q work top report next last
+Inv-loop q work top low high report₀ at first next₀ m₀ last₀ report next m last =
+    Putting q work top (OfNodes q work top low high) report₀ next₀ (OfNodes q work top low m) report next × Stands q work top report next last
 
 abbrev μ-loop : tie.MeasureT-loop
 μ-loop q work top low high report₀ at first next₀ m₀ last₀ report next m last = m
@@ -27,25 +28,39 @@ sub-m : tie.Need-sub-m Inv-loop μ-loop
 sub-m c = nodes-room (c .loop-test .taken) (c .before .loop .inv .0 .rest .spelled .says)
 
 write-node-requires : tie.Need-write-node-requires Inv-loop μ-loop
-write-node-requires c κs = (writable-first (writable-as (nodes-first (c .before .loop-test .taken)) (c .before .before .loop .inv .0 .rest)), c .before .before .loop .inv .1)
+write-node-requires c κs =
+    let c₁ = c .before in let c₂ = c₁ .before in
+    (writable-first (writable-as (nodes-first (c₁ .loop-test .taken)) (c₂ .loop .inv .0 .rest)), c₂ .loop .inv .1)
 
 loop-less : tie.Need-loop-less Inv-loop μ-loop
-loop-less c = omega (arith, nodes-room (c .before .before .before .before .before .loop-test .taken) (c .before .before .before .before .before .before .loop .inv .0 .rest .spelled .says))
+loop-less c =
+    let c₅ = c .before .before .before .before .before in let c₆ = c₅ .before in
+    omega (arith, nodes-room (c₅ .loop-test .taken) (c₆ .loop .inv .0 .rest .spelled .says))
 
 loop-again : tie.Need-loop-again Inv-loop μ-loop
-loop-again c = (put-next (nodes-first (c .before .before .before .before .before .loop-test .taken)) (c .before .before .before .before .before .before .loop .inv .0) (c .before .before .before .write-node .ensures .writes), c .before .before .before .write-node .ensures .output)
+loop-again c =
+    let c₃ = c .before .before .before in let c₅ = c₃ .before .before in let c₆ = c₅ .before in
+    (put-next (nodes-first (c₅ .loop-test .taken)) (c₆ .loop .inv .0) (c₃ .write-node .ensures .writes), c₃ .write-node .ensures .output)
 
 sub-count : tie.Need-sub-count Inv-loop μ-loop
-sub-count c = omega (arith, counted (c .before .before .before .before .before .pre .0) (put-end (nodes-none (c .loop-test .left)) (c .before .loop .inv .0)) .first)
+sub-count c =
+    let c₁ = c .before in let c₅ = c₁ .before .before .before .before in
+    omega (arith, counted (c₅ .pre .0) (put-end (nodes-none (c .loop-test .left)) (c₁ .loop .inv .0)) .first)
 
 put-requires : tie.Need-put-requires Inv-loop μ-loop
-put-requires c κs = let k = counted (c .before .before .before .before .before .before .pre .0) (put-end (nodes-none (c .before .loop-test .left)) (c .before .before .loop .inv .0)) in (k .place, omega (arith, k .small))
+put-requires c κs =
+    let c₁ = c .before in let c₂ = c₁ .before in let c₆ = c₂ .before .before .before .before in
+    let k = counted (c₆ .pre .0) (put-end (nodes-none (c₁ .loop-test .left)) (c₂ .loop .inv .0)) in (k .place, omega (arith, k .small))
 
 same-length : tie.Need-same-length Inv-loop μ-loop
-same-length c = ap length (c .before .before .put .ensures) ∙ simp length-set (counted (c .before .before .before .before .before .before .before .before .before .pre .0) (put-end (nodes-none (c .before .before .before .before .loop-test .left)) (c .before .before .before .before .before .loop .inv .0)) .long)
+same-length c =
+    let c₂ = c .before .before in let c₄ = c₂ .before .before in let c₅ = c₄ .before in let c₉ = c₅ .before .before .before .before in
+    ap length (c₂ .put .ensures) ∙ simp length-set (counted (c₉ .pre .0) (put-end (nodes-none (c₄ .loop-test .left)) (c₅ .loop .inv .0)) .long)
 
 returns : tie.Need-returns Inv-loop μ-loop
-returns c = writes-section (put-end (nodes-none (c .before .before .before .before .loop-test .left)) (c .before .before .before .before .before .loop .inv .0)) (c .before .before .put .ensures)
+returns c =
+    let c₂ = c .before .before in let c₄ = c₂ .before .before in let c₅ = c₄ .before in
+    writes-section (put-end (nodes-none (c₄ .loop-test .left)) (c₅ .loop .inv .0)) (c₂ .put .ensures)
 
 pub write-tree-spec : {M : Type 1} → statement M
 write-tree-spec =

@@ -17,10 +17,14 @@ same-length : tie.Need-same-length
 same-length c = search needs
 
 returns : tie.Need-returns
-returns c = rw (c .before .before .before .before .before .before .if1 .taken) (first-spent (c .before .before .before .before .apply-ctx-type .ensures) (c .enum-told .given .1))
+returns c =
+    let c₄ = c .before .before .before .before in let c₆ = c₄ .before .before in
+    rw (c₆ .if1 .taken) (first-spent (c₄ .apply-ctx-type .ensures) (c .enum-told .given .1))
 
 apply-ctx-type-requires-2 : tie.Need-apply-ctx-type-requires-2
-apply-ctx-type-requires-2 c κs = apply-then (c .before .before .before .before .before .before .before .before .before .before .before .pre) (c .before .before .before .before .before .before .apply-ctx-type .ensures) (c .before .before .st1 .given .1)
+apply-ctx-type-requires-2 c κs =
+    let c₂ = c .before .before in let c₆ = c₂ .before .before .before .before in let c₁₁ = c₆ .before .before .before .before .before in
+    apply-then (c₁₁ .pre) (c₆ .apply-ctx-type .ensures) (c₂ .st1 .given .1)
 
 enum-known-st2 : tie.Need-enum-known-st2
 enum-known-st2 c = search needs
@@ -32,13 +36,19 @@ same-length-2 : tie.Need-same-length-2
 same-length-2 c = search needs
 
 returns-2 : tie.Need-returns-2
-returns-2 c = rw (c .before .before .before .before .before .before .before .before .before .before .before .before .before .if1 .taken) (second-spent (c .before .before .before .before .before .before .before .before .before .before .before .apply-ctx-type .ensures) (c .before .before .before .before .before .before .before .st1 .given .1) (c .before .before .before .before .apply-ctx-type2 .ensures) (c .enum-told2 .given .1))
+returns-2 c =
+    let c₄ = c .before .before .before .before in let c₇ = c₄ .before .before .before in let c₁₁ = c₇ .before .before .before .before in
+    let c₁₃ = c₁₁ .before .before in
+    rw (c₁₃ .if1 .taken) (second-spent (c₁₁ .apply-ctx-type .ensures) (c₇ .st1 .given .1) (c₄ .apply-ctx-type2 .ensures) (c .enum-told2 .given .1))
 
 same-length-3 : tie.Need-same-length-3
 same-length-3 c = search needs
 
 returns-3 : tie.Need-returns-3
-returns-3 c = rw (c .before .before .before .before .before .before .before .before .before .before .before .before .before .before .if1 .taken) (both-done (c .before .before .before .before .before .before .before .before .before .before .before .before .apply-ctx-type .ensures) (c .before .before .before .before .before .before .before .before .st1 .given .1) (c .before .before .before .before .before .apply-ctx-type2 .ensures) (c .before .st2 .given .1))
+returns-3 c =
+    let c₁ = c .before in let c₅ = c₁ .before .before .before .before in let c₈ = c₅ .before .before .before in
+    let c₁₂ = c₈ .before .before .before .before in let c₁₄ = c₁₂ .before .before in
+    rw (c₁₄ .if1 .taken) (both-done (c₁₂ .apply-ctx-type .ensures) (c₈ .st1 .given .1) (c₅ .apply-ctx-type2 .ensures) (c₁ .st2 .given .1))
 
 returns-4 : tie.Need-returns-4
 returns-4 c = rw (c .if1 .left) as-they-are

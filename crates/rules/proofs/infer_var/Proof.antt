@@ -22,10 +22,14 @@ returns : tie.Need-returns
 returns c = var-refused (c .before .before .before .before .before .pre) refl (c .before .find .ensures) (c .if1 .taken)
 
 type-at-requires : tie.Need-type-at-requires
-type-at-requires c κs = (run-within (c .before .before .before .before .before .pre .rule), omega (arith, c .before .find .ensures .within, c .if1 .left))
+type-at-requires c κs =
+    let c₁ = c .before in let c₅ = c₁ .before .before .before .before in
+    (run-within (c₅ .pre .rule), omega (arith, c₁ .find .ensures .within, c .if1 .left))
 
 returns-2 : tie.Need-returns-2
-returns-2 c = var-done (c .before .before .before .before .before .before .pre) refl (c .before .before .find .ensures) (omega (arith, c .before .before .find .ensures .within, c .before .if1 .left)) (c .type-at .ensures .0)
+returns-2 c =
+    let c₁ = c .before in let c₂ = c₁ .before in let c₆ = c₂ .before .before .before .before in
+    var-done (c₆ .pre) refl (c₂ .find .ensures) (omega (arith, c₂ .find .ensures .within, c₁ .if1 .left)) (c .type-at .ensures .0)
 
 pub infer-var-spec : {M : Type 1} → statement M
 infer-var-spec =

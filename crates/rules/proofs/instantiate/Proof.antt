@@ -8,13 +8,20 @@ tag-requires : tie.Need-tag-requires
 tag-requires c κs = type-held (c .before .before .before .pre)
 
 name-of-requires : tie.Need-name-of-requires
-name-of-requires c κs = forall-named (c .before .before .before .before .before .before .pre) (c .before .before .tag .ensures) (c .before .if1 .taken)
+name-of-requires c κs =
+    let c₁ = c .before in let c₂ = c₁ .before in let c₆ = c₂ .before .before .before .before in
+    forall-named (c₆ .pre) (c₂ .tag .ensures) (c₁ .if1 .taken)
 
 body-of-requires : tie.Need-body-of-requires
-body-of-requires c κs = forall-as (c .before .before .before .before .before .before .before .before .pre) (c .before .before .before .before .tag .ensures) (c .before .before .before .if1 .taken)
+body-of-requires c κs =
+    let c₃ = c .before .before .before in let c₄ = c₃ .before in let c₈ = c₄ .before .before .before .before in
+    forall-as (c₈ .pre) (c₄ .tag .ensures) (c₃ .if1 .taken)
 
 subst-type-requires : tie.Need-subst-type-requires
-subst-type-requires c κs = subst-pre (c .before .before .before .before .before .before .before .before .before .before .pre) (c .before .before .before .before .before .before .tag .ensures) (c .before .before .before .before .before .if1 .taken) (c .before .before .before .name-of .ensures) (c .before .body-of .ensures)
+subst-type-requires c κs =
+    let c₁ = c .before in let c₃ = c₁ .before .before in let c₅ = c₃ .before .before in let c₆ = c₅ .before in
+    let c₁₀ = c₆ .before .before .before .before in
+    subst-pre (c₁₀ .pre) (c₆ .tag .ensures) (c₅ .if1 .taken) (c₃ .name-of .ensures) (c₁ .body-of .ensures)
 
 enum-known-st1 : tie.Need-enum-known-st1
 enum-known-st1 c = search needs
@@ -26,13 +33,21 @@ same-length : tie.Need-same-length
 same-length c = search needs
 
 returns : tie.Need-returns
-returns c = instance-spent (c .before .before .before .before .before .before .before .before .before .before .before .before .before .before .before .pre) (c .before .before .before .before .before .before .before .before .before .before .before .tag .ensures) (c .before .before .before .before .before .before .before .before .before .before .if1 .taken) (c .before .before .before .before .before .before .before .before .name-of .ensures) (c .before .before .before .before .before .before .body-of .ensures) (c .before .before .before .before .subst-type .ensures) (c .enum-told .given .1)
+returns c =
+    let c₄ = c .before .before .before .before in let c₆ = c₄ .before .before in let c₈ = c₆ .before .before in let c₁₀ = c₈ .before .before in
+    let c₁₁ = c₁₀ .before in let c₁₅ = c₁₁ .before .before .before .before in
+    instance-spent (c₁₅ .pre) (c₁₁ .tag .ensures) (c₁₀ .if1 .taken) (c₈ .name-of .ensures) (c₆ .body-of .ensures) (c₄ .subst-type .ensures)
+        (c .enum-told .given .1)
 
 same-length-2 : tie.Need-same-length-2
 same-length-2 c = search needs
 
 returns-2 : tie.Need-returns-2
-returns-2 c = instance-done (c .before .before .before .before .before .before .before .before .before .before .before .before .before .before .before .before .pre) (c .before .before .before .before .before .before .before .before .before .before .before .before .tag .ensures) (c .before .before .before .before .before .before .before .before .before .before .before .if1 .taken) (c .before .before .before .before .before .before .before .before .before .name-of .ensures) (c .before .before .before .before .before .before .before .body-of .ensures) (c .before .before .before .before .before .subst-type .ensures) (c .before .st1 .given .1)
+returns-2 c =
+    let c₁ = c .before in let c₅ = c₁ .before .before .before .before in let c₇ = c₅ .before .before in let c₉ = c₇ .before .before in
+    let c₁₁ = c₉ .before .before in let c₁₂ = c₁₁ .before in let c₁₆ = c₁₂ .before .before .before .before in
+    instance-done (c₁₆ .pre) (c₁₂ .tag .ensures) (c₁₁ .if1 .taken) (c₉ .name-of .ensures) (c₇ .body-of .ensures) (c₅ .subst-type .ensures)
+        (c₁ .st1 .given .1)
 
 same-length-3 : tie.Need-same-length-3
 same-length-3 c = search needs

@@ -16,10 +16,15 @@ same-length c = search needs
 
 returns : tie.Need-returns
 unfolding kept
-returns c = rw (c .before .before .before .before .before .before .if1 .taken) (record { finished = λ q. both-kept (c .before .before .before .before .before .before .before .before .before .before .args .r .st) (c .before .before .before .before .before .before .before .before .before .before .args .r .st) 0 (keep-refl _ _ _) (omega arith) refl refl refl (omega (arith, c .before .before .before .before .before .before .before .before .before .before .pre .room)) (c .before .before .before .before .solved-and-right .ensures) (λ A d. d) })
+returns c =
+    let c₄ = c .before .before .before .before in let c₆ = c₄ .before .before in let c₁₀ = c₆ .before .before .before .before in
+    rw (c₆ .if1 .taken) (record { finished = λ q. both-kept (c₁₀ .args .r .st) (c₁₀ .args .r .st) 0 (keep-refl _ _ _) (omega arith) refl refl refl
+        (omega (arith, c₁₀ .pre .room)) (c₄ .solved-and-right .ensures) (λ A d. d) })
 
 right-of-requires : tie.Need-right-of-requires
-right-of-requires c κs = omega (arith, c .before .before .before .before .before .pre .below, c .before .before .before .before .before .pre .room, c .before .before .before .before .before .pre .low)
+right-of-requires c κs =
+    let c₅ = c .before .before .before .before .before in
+    omega (arith, c₅ .pre .below, c₅ .pre .room, c₅ .pre .low)
 
 same-length-2 : tie.Need-same-length-2
 same-length-2 c = search needs

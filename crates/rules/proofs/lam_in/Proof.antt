@@ -27,13 +27,18 @@ add-next : tie.Need-add-next
 add-next c = search needs
 
 push2-requires : tie.Need-push2-requires
-push2-requires c κs = lam-space (c .before .before .before .before .before .before .before .before .before .before .before .pre) (c .before .before .before .before .before .before .before .put-etvar .ensures) (c .before .before .before .put-arrow .ensures)
+push2-requires c κs =
+    let c₃ = c .before .before .before in let c₇ = c₃ .before .before .before .before in let c₁₁ = c₇ .before .before .before .before in
+    lam-space (c₁₁ .pre) (c₇ .put-etvar .ensures) (c₃ .put-arrow .ensures)
 
 same-length : tie.Need-same-length
 same-length c = search needs
 
 returns : tie.Need-returns
-returns c = lam-opened (c .before .before .before .before .before .before .before .before .before .before .before .before .before .before .before .before .pre) (c .before .before .before .before .before .before .before .before .before .before .before .before .put-etvar .ensures) (c .before .before .before .before .before .before .before .before .put-arrow .ensures) refl (c .before .before .before .before .push2 .ensures)
+returns c =
+    let c₄ = c .before .before .before .before in let c₈ = c₄ .before .before .before .before in let c₁₂ = c₈ .before .before .before .before in
+    let c₁₆ = c₁₂ .before .before .before .before in
+    lam-opened (c₁₆ .pre) (c₁₂ .put-etvar .ensures) (c₈ .put-arrow .ensures) refl (c₄ .push2 .ensures)
 
 pub lam-in-spec : {M : Type 1} → statement M
 lam-in-spec =

@@ -17,22 +17,31 @@ same-length : tie.Need-same-length
 same-length c = search needs
 
 returns : tie.Need-returns
-returns c = parameter-spent (c .before .before .before .before .before .before .if1 .taken) (c .before .before .before .before .apply-ctx-type .ensures) (c .enum-told .given .1)
+returns c =
+    let c₄ = c .before .before .before .before in let c₆ = c₄ .before .before in
+    parameter-spent (c₆ .if1 .taken) (c₄ .apply-ctx-type .ensures) (c .enum-told .given .1)
 
 same-type-requires : tie.Need-same-type-requires
-same-type-requires c κs = both-held (c .before .before .before .before .before .before .before .before .before .before .before .pre) (c .before .before .before .before .before .before .apply-ctx-type .ensures) (c .before .before .st1 .given .1)
+same-type-requires c κs =
+    let c₂ = c .before .before in let c₆ = c₂ .before .before .before .before in let c₁₁ = c₆ .before .before .before .before .before in
+    both-held (c₁₁ .pre) (c₆ .apply-ctx-type .ensures) (c₂ .st1 .given .1)
 
 same-length-2 : tie.Need-same-length-2
 same-length-2 c = search needs
 
 returns-2 : tie.Need-returns-2
-returns-2 c = parameter-same (c .before .before .before .before .before .before .before .before .before .before .if1 .taken) (c .before .before .before .before .before .before .before .before .apply-ctx-type .ensures) (c .before .before .before .before .st1 .given .1) (c .before .same-type .ensures) (c .if2 .taken)
+returns-2 c =
+    let c₁ = c .before in let c₄ = c₁ .before .before .before in let c₈ = c₄ .before .before .before .before in let c₁₀ = c₈ .before .before in
+    parameter-same (c₁₀ .if1 .taken) (c₈ .apply-ctx-type .ensures) (c₄ .st1 .given .1) (c₁ .same-type .ensures) (c .if2 .taken)
 
 same-length-3 : tie.Need-same-length-3
 same-length-3 c = search needs
 
 returns-3 : tie.Need-returns-3
-returns-3 c = parameter-other (c .before .before .before .before .before .before .before .before .before .before .if1 .taken) (c .before .before .before .before .before .before .before .before .apply-ctx-type .ensures) (c .before .before .before .before .st1 .given .1) (c .before .same-type .ensures) (c .if2 .left) (c .before .before .before .before .before .before .before .before .before .before .before .before .before .pre .two .room)
+returns-3 c =
+    let c₁ = c .before in let c₄ = c₁ .before .before .before in let c₈ = c₄ .before .before .before .before in let c₁₀ = c₈ .before .before in
+    let c₁₃ = c₁₀ .before .before .before in
+    parameter-other (c₁₀ .if1 .taken) (c₈ .apply-ctx-type .ensures) (c₄ .st1 .given .1) (c₁ .same-type .ensures) (c .if2 .left) (c₁₃ .pre .two .room)
 
 returns-4 : tie.Need-returns-4
 returns-4 c = not-compared (c .if1 .left)

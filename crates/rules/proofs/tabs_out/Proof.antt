@@ -19,7 +19,11 @@ same-length : tie.Need-same-length
 same-length c = search needs
 
 returns : tie.Need-returns
-returns c = record { finished = both-kept (c .before .before .before .before .before .before .before .before .before .before .before .before .args .st) (record { top = c .before .before .before .before .before .before .before .before .before .before .before .before .args .st .top + 4; low = c .before .before .before .before .before .before .before .before .before .before .before .before .args .st .low; left = c .before .before .before .before .before .before .before .before .before .before .before .before .args .st .left; fresh = c .before .before .before .before .before .before .before .before .before .before .before .before .args .st .fresh }) 4 (c .before .before .before .before .before .before .before .before .put-forall .ensures .keep) refl refl refl refl (c .before .before .before .before .before .before .before .before .before .before .before .before .pre .room) (c .before .before .before .before .solved-and-right .ensures) (c .before .before .before .before .before .before .before .before .put-forall .ensures .den) }
+returns c =
+    let c₄ = c .before .before .before .before in let c₈ = c₄ .before .before .before .before in let c₁₂ = c₈ .before .before .before .before in
+    record { finished = both-kept (c₁₂ .args .st) (record { top = c₁₂ .args .st .top + 4; low = c₁₂ .args .st .low; left = c₁₂ .args .st .left;
+        fresh = c₁₂ .args .st .fresh }) 4 (c₈ .put-forall .ensures .keep) refl refl refl refl (c₁₂ .pre .room) (c₄ .solved-and-right .ensures)
+        (c₈ .put-forall .ensures .den) }
 
 pub tabs-out-spec : {M : Type 1} → statement M
 tabs-out-spec =

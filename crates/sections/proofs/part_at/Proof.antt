@@ -27,10 +27,14 @@ add-to : tie.Need-add-to
 add-to c = search needs
 
 returns-2 : tie.Need-returns-2
-returns-2 c = record { is = found-at _ _ _ (c .before .before .before .pre) (c .before .before .if1 .left) (c .if2 .taken); order = omega arith; within = omega arith }
+returns-2 c =
+    let c₂ = c .before .before in let c₃ = c₂ .before in
+    record { is = found-at _ _ _ (c₃ .pre) (c₂ .if1 .left) (c .if2 .taken); order = omega arith; within = omega arith }
 
 returns-3 : tie.Need-returns-3
-returns-3 c = record { is = runs-past _ _ _ (c .before .before .before .pre) (c .before .before .if1 .left) (c .if2 .left); order = omega arith; within = omega arith }
+returns-3 c =
+    let c₂ = c .before .before in let c₃ = c₂ .before in
+    record { is = runs-past _ _ _ (c₃ .pre) (c₂ .if1 .left) (c .if2 .left); order = omega arith; within = omega arith }
 
 pub part-at-spec : {M : Type 1} → statement M
 part-at-spec =

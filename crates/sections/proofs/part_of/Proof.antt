@@ -16,13 +16,19 @@ abbrev μ-loop : tie.MeasureT-loop
 μ-loop report len k n b₀ i₀ b i = k - i
 
 part-at-requires : tie.Need-part-at-requires Inv-loop μ-loop
-part-at-requires c κs = cut (c .before .before .args .report .now) (c .before .before .args .len) (c .if1 .n) (⊎-elim (λ u. inl (omega arith, omega arith)) (λ u. inr (omega arith, omega arith)) (c .if1 .came)) .0
+part-at-requires c κs =
+    let c₂ = c .before .before in
+    cut (c₂ .args .report .now) (c₂ .args .len) (c .if1 .n) (⊎-elim (λ u. inl (omega arith, omega arith)) (λ u. inr (omega arith, omega arith))
+        (c .if1 .came)) .0
 
 loop-holds : tie.Need-loop-holds Inv-loop μ-loop
 loop-holds c = (omega arith, first-of _ (c .part-at .ensures .is), c .part-at .ensures .order, c .part-at .ensures .within)
 
 part-at-requires-2 : tie.Need-part-at-requires-2 Inv-loop μ-loop
-part-at-requires-2 c κs = cut (c .before .before .before .before .before .args .report .now) (c .before .before .before .before .before .args .len) (c .before .before .before .if1 .n) (⊎-elim (λ u. inl (omega arith, omega arith)) (λ u. inr (omega arith, omega arith)) (c .before .before .before .if1 .came)) .0
+part-at-requires-2 c κs =
+    let c₃ = c .before .before .before in let c₅ = c₃ .before .before in
+    cut (c₅ .args .report .now) (c₅ .args .len) (c₃ .if1 .n) (⊎-elim (λ u. inl (omega arith, omega arith)) (λ u. inr (omega arith, omega arith))
+        (c₃ .if1 .came)) .0
 
 add-i : tie.Need-add-i Inv-loop μ-loop
 add-i c = omega arith
@@ -31,12 +37,17 @@ loop-less : tie.Need-loop-less Inv-loop μ-loop
 loop-less c = omega arith
 
 loop-again : tie.Need-loop-again Inv-loop μ-loop
-loop-again c = (omega arith, next-of _ _ (c .before .before .loop .inv .1) (c .part-at2 .ensures .is), c .part-at2 .ensures .order, c .part-at2 .ensures .within)
+loop-again c =
+    let c₂ = c .before .before in
+    (omega arith, next-of _ _ (c₂ .loop .inv .1) (c .part-at2 .ensures .is), c .part-at2 .ensures .order, c .part-at2 .ensures .within)
 
 returns : tie.Need-returns Inv-loop μ-loop
 returns c =
-    let e : c .before .loop .i ≡ c .before .before .before .before .before .args .k = omega arith in
-    part-of _ _ _ (c .before .before .before .if1 .n) _ (cut (c .before .before .before .before .before .args .report .now) (c .before .before .before .before .before .args .len) (c .before .before .before .if1 .n) (⊎-elim (λ u. inl (omega arith, omega arith)) (λ u. inr (omega arith, omega arith)) (c .before .before .before .if1 .came))) (rw (← e) (c .before .loop .inv .1)) (c .before .loop .inv .2) (c .before .loop .inv .3)
+    let c₁ = c .before in let c₃ = c₁ .before .before in let c₅ = c₃ .before .before in
+    let e : c₁ .loop .i ≡ c₅ .args .k = omega arith in
+    part-of _ _ _ (c₃ .if1 .n) _ (cut (c₅ .args .report .now) (c₅ .args .len) (c₃ .if1 .n)
+        (⊎-elim (λ u. inl (omega arith, omega arith)) (λ u. inr (omega arith, omega arith)) (c₃ .if1 .came))) (rw (← e) (c₁ .loop .inv .1))
+        (c₁ .loop .inv .2) (c₁ .loop .inv .3)
 
 pub part-of-spec : {M : Type 1} → statement M
 part-of-spec =

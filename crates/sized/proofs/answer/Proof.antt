@@ -29,7 +29,9 @@ same-length-3 : tie.Need-same-length-3
 same-length-3 c = search needs
 
 returns : tie.Need-returns
-returns c = within _ _ (rw sub-zero (length-take-le _ _ (omega (arith, c .before .before .before .before .before .before .before .before .before .before .before .before .before .before .pre .0 .report, c .before .before .before .before .before .before .before .before .before .before .before .before .before .before .pre .1)))) (c .before .before .before .before .before .before .before .before .before .before .before .before .before .before .pre .1) (c .before .before .before .before .before .before .answer-words .ensures)
+returns c =
+    let c₆ = c .before .before .before .before .before .before in let c₁₄ = c₆ .before .before .before .before .before .before .before .before in
+    within _ _ (rw sub-zero (length-take-le _ _ (omega (arith, c₁₄ .pre .0 .report, c₁₄ .pre .1)))) (c₁₄ .pre .1) (c₆ .answer-words .ensures)
 
 pub answer-spec : {M : Type 1} → statement M
 answer-spec =

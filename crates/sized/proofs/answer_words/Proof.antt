@@ -44,7 +44,10 @@ same-length-3 : tie.Need-same-length-3
 same-length-3 c = search needs
 
 returns-3 : tie.Need-returns-3
-returns-3 c = asked _ _ (c .before .before .before .before .before .before .before .before .before .before .before .before .before .if2 .left) (c .before .before .before .before .before .before .before .before .before .before .before .before .before .before .before .before .before .before .before .pre .work) (c .before .before .before .before .before .before .before .before .before .before .before .before .before .before .before .before .before .before .before .pre .room) (c .before .before .before .before .before .before .before .before .before .before .before .read-words .ensures) (c .before .before .before .before .check .ensures)
+returns-3 c =
+    let c₄ = c .before .before .before .before in let c₁₁ = c₄ .before .before .before .before .before .before .before in
+    let c₁₃ = c₁₁ .before .before in let c₁₉ = c₁₃ .before .before .before .before .before .before in
+    asked _ _ (c₁₃ .if2 .left) (c₁₉ .pre .work) (c₁₉ .pre .room) (c₁₁ .read-words .ensures) (c₄ .check .ensures)
 
 pub answer-words-spec : {M : Type 1} → statement M
 answer-words-spec =

@@ -17,7 +17,10 @@ same-length : tie.Need-same-length
 same-length c = search needs
 
 returns : tie.Need-returns
-returns c = opens-right (c .before .before .before .before .before .before .before .before .before .before .before .before .pre) (c .before .before .before .before .before .before .before .before .name-of .ensures) (c .before .before .before .before .before .before .body-of .ensures) (c .before .before .before .before .push .ensures)
+returns c =
+    let c₄ = c .before .before .before .before in let c₆ = c₄ .before .before in let c₈ = c₆ .before .before in
+    let c₁₂ = c₈ .before .before .before .before in
+    opens-right (c₁₂ .pre) (c₈ .name-of .ensures) (c₆ .body-of .ensures) (c₄ .push .ensures)
 
 pub open-right-spec : {M : Type 1} → statement M
 open-right-spec =

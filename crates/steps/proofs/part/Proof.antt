@@ -30,7 +30,9 @@ add-put-arrow : tie.Need-add-put-arrow
 add-put-arrow c = search needs
 
 put-arrow-requires : tie.Need-put-arrow-requires
-put-arrow-requires c κs = arrow-room (c .before .before .before .before .before .before .before .before .before .before .before .pre) (c .before .before .before .before .before .before .before .put-etvar .ensures) (c .before .before .before .put-etvar2 .ensures)
+put-arrow-requires c κs =
+    let c₃ = c .before .before .before in let c₇ = c₃ .before .before .before .before in let c₁₁ = c₇ .before .before .before .before in
+    arrow-room (c₁₁ .pre) (c₇ .put-etvar .ensures) (c₃ .put-etvar2 .ensures)
 
 add-t24 : tie.Need-add-t24
 add-t24 c = search needs
@@ -45,7 +47,10 @@ same-length : tie.Need-same-length
 same-length c = search needs
 
 returns : tie.Need-returns
-returns c = parts (c .before .before .before .before .before .before .before .before .before .before .before .before .before .before .before .before .before .before .before .before .pre) (c .before .before .before .before .before .before .before .before .before .before .before .before .before .before .before .before .put-etvar .ensures) (c .before .before .before .before .before .before .before .before .before .before .before .before .put-etvar2 .ensures) refl refl (c .before .before .before .before .before .before .before .before .put-arrow .ensures) (c .before .before .before .before .split .ensures)
+returns c =
+    let c₄ = c .before .before .before .before in let c₈ = c₄ .before .before .before .before in let c₁₂ = c₈ .before .before .before .before in
+    let c₁₆ = c₁₂ .before .before .before .before in let c₂₀ = c₁₆ .before .before .before .before in
+    parts (c₂₀ .pre) (c₁₆ .put-etvar .ensures) (c₁₂ .put-etvar2 .ensures) refl refl (c₈ .put-arrow .ensures) (c₄ .split .ensures)
 
 pub part-spec : {M : Type 1} → statement M
 part-spec =

@@ -77,7 +77,10 @@ returns : (t : ℕ) → lts.Need-returns (claims t) (asked t) own.Post
 returns t c = applied (spent-at-once (apply-way _ _) (c .before .before .begin .ensures) (c .enum-told .given .1))
 
 name-of-requires : (t : ℕ) → lts.Need-name-of-requires (claims t) (asked t) own.Post
-name-of-requires t c κs = held-named (held (apply-asks (c .before .before .before .before .before .before .before .before .before .pre .1))) (began (c .before .before .before .before .before .begin .ensures) (c .before .before .before .paid .given .1) .tag) (omega (arith, c .before .match2 .keys1)) (λ e. omega (arith, c .before .match2 .keys1, e))
+name-of-requires t c κs =
+    let c₁ = c .before in let c₃ = c₁ .before .before in let c₅ = c₃ .before .before in let c₉ = c₅ .before .before .before .before in
+    held-named (held (apply-asks (c₉ .pre .1))) (began (c₅ .begin .ensures) (c₃ .paid .given .1) .tag) (omega (arith, c₁ .match2 .keys1))
+        (λ e. omega (arith, c₁ .match2 .keys1, e))
 
 find-requires : (t : ℕ) → lts.Need-find-requires (claims t) (asked t) own.Post
 find-requires t c κs = span-within (c .before .before .before .before .before .before .before .before .before .before .before .pre .1)
@@ -87,35 +90,50 @@ same-length-2 t c = search needs
 
 returns-2 : (t : ℕ) → lts.Need-returns-2 (claims t) (asked t) own.Post
 returns-2 t c =
-    let b = began (c .before .before .before .before .before .before .before .before .before .begin .ensures) (c .before .before .before .before .before .before .before .paid .given .1) in
-    applied (given-at-once b (λ Γ run. unsolved-applied (b .tag) (c .before .before .before .before .before .match2 .keys1) (c .before .before .before .name-of .ensures) (c .before .find .ensures) Γ run (c .if1 .taken)))
+    let c₁ = c .before in let c₃ = c₁ .before .before in let c₅ = c₃ .before .before in let c₇ = c₅ .before .before in let c₉ = c₇ .before .before in
+    let b = began (c₉ .begin .ensures) (c₇ .paid .given .1) in
+    applied (given-at-once b (λ Γ run. unsolved-applied (b .tag) (c₅ .match2 .keys1) (c₃ .name-of .ensures) (c₁ .find .ensures) Γ run
+        (c .if1 .taken)))
 
 type-at-requires : (t : ℕ) → lts.Need-type-at-requires (claims t) (asked t) own.Post
-type-at-requires t c κs = (span-within (c .before .before .before .before .before .before .before .before .before .before .before .before .before .before .pre .1), omega (arith, c .before .before .find .ensures .within, c .before .if1 .left))
+type-at-requires t c κs =
+    let c₁ = c .before in let c₂ = c₁ .before in
+    let c₁₄ = c₂ .before .before .before .before .before .before .before .before .before .before .before .before in
+    (span-within (c₁₄ .pre .1), omega (arith, c₂ .find .ensures .within, c₁ .if1 .left))
 
 apply-ctx-type-requires : (t : ℕ) → lts.Need-apply-ctx-type-requires (claims t) (asked t) own.Post
 apply-ctx-type-requires t c κs =
-    let b = began (c .before .before .before .before .before .before .before .before .before .before .before .before .begin .ensures) (c .before .before .before .before .before .before .before .before .before .before .paid .given .1) in
-    let h = apply-asks (c .before .before .before .before .before .before .before .before .before .before .before .before .before .before .before .before .pre .1) in
-    let v = solved-applied (b .tag) (c .before .before .before .before .before .before .before .before .match2 .keys1) (c .before .before .before .before .before .before .name-of .ensures) (c .before .before .before .before .find .ensures) (h .x) (h .given) (omega (arith, c .before .before .before .before .find .ensures .within, c .before .before .before .if1 .left)) (c .before .type-at .ensures .0) (h .type) (h .den) in
-    (omega (arith, c .before .before .before .before .before .before .before .before .before .before .before .before .before .before .before .before .pre .0, fewer b), apply-pre (part-asks b h (v .den)))
+    let c₁ = c .before in let c₃ = c₁ .before .before in let c₄ = c₃ .before in let c₆ = c₄ .before .before in let c₈ = c₆ .before .before in
+    let c₁₀ = c₈ .before .before in let c₁₂ = c₁₀ .before .before in let c₁₆ = c₁₂ .before .before .before .before in
+    let b = began (c₁₂ .begin .ensures) (c₁₀ .paid .given .1) in
+    let h = apply-asks (c₁₆ .pre .1) in
+    let v = solved-applied (b .tag) (c₈ .match2 .keys1) (c₆ .name-of .ensures) (c₄ .find .ensures) (h .x) (h .given)
+        (omega (arith, c₄ .find .ensures .within, c₃ .if1 .left)) (c₁ .type-at .ensures .0) (h .type) (h .den) in
+    (omega (arith, c₁₆ .pre .0, fewer b), apply-pre (part-asks b h (v .den)))
 
 anew-requires : (t : ℕ) → lts.Need-anew-requires (claims t) (asked t) own.Post
 anew-requires t c κs = tt
 
 left-of-requires : (t : ℕ) → lts.Need-left-of-requires (claims t) (asked t) own.Post
-left-of-requires t c κs = held-as (held (apply-asks (c .before .before .before .before .before .before .before .before .before .pre .1))) (began (c .before .before .before .before .before .begin .ensures) (c .before .before .before .paid .given .1) .tag) 5 (c .before .match2 .keys2)
+left-of-requires t c κs =
+    let c₁ = c .before in let c₃ = c₁ .before .before in let c₅ = c₃ .before .before in let c₉ = c₅ .before .before .before .before in
+    held-as (held (apply-asks (c₉ .pre .1))) (began (c₅ .begin .ensures) (c₃ .paid .given .1) .tag) 5 (c₁ .match2 .keys2)
 
 right-of-requires : (t : ℕ) → lts.Need-right-of-requires (claims t) (asked t) own.Post
-right-of-requires t c κs = held-as (held (apply-asks (c .before .before .before .before .before .before .before .before .before .before .before .pre .1))) (began (c .before .before .before .before .before .before .before .begin .ensures) (c .before .before .before .before .before .paid .given .1) .tag) 5 (c .before .before .before .match2 .keys2)
+right-of-requires t c κs =
+    let c₃ = c .before .before .before in let c₅ = c₃ .before .before in let c₇ = c₅ .before .before in
+    let c₁₁ = c₇ .before .before .before .before in
+    held-as (held (apply-asks (c₁₁ .pre .1))) (began (c₇ .begin .ensures) (c₅ .paid .given .1) .tag) 5 (c₃ .match2 .keys2)
 
 apply-ctx-type-requires-2 :
     (t : ℕ) → lts.Need-apply-ctx-type-requires-2 (claims t) (asked t) own.Post
 apply-ctx-type-requires-2 t c κs =
-    let b = began (c .before .before .before .before .before .before .before .before .before .begin .ensures) (c .before .before .before .before .before .before .before .paid .given .1) in
-    let parts = halves (b .tag) (c .before .before .before .before .before .match2 .keys2) (c .before .before .before .left-of .ensures) (c .before .right-of .ensures) in
-    let h = apply-asks (c .before .before .before .before .before .before .before .before .before .before .before .before .before .pre .1) in
-    (omega (arith, c .before .before .before .before .before .before .before .before .before .before .before .before .before .pre .0, fewer b), apply-pre (part-asks b h (parts (h .type) (h .den) .left)))
+    let c₁ = c .before in let c₃ = c₁ .before .before in let c₅ = c₃ .before .before in let c₇ = c₅ .before .before in let c₉ = c₇ .before .before in
+    let c₁₃ = c₉ .before .before .before .before in
+    let b = began (c₉ .begin .ensures) (c₇ .paid .given .1) in
+    let parts = halves (b .tag) (c₅ .match2 .keys2) (c₃ .left-of .ensures) (c₁ .right-of .ensures) in
+    let h = apply-asks (c₁₃ .pre .1) in
+    (omega (arith, c₁₃ .pre .0, fewer b), apply-pre (part-asks b h (parts (h .type) (h .den) .left)))
 
 enum-known-st1 : (t : ℕ) → lts.Need-enum-known-st1 (claims t) (asked t) own.Post
 enum-known-st1 t c = search needs
@@ -128,17 +146,23 @@ same-length-3 t c = search needs
 
 returns-3 : (t : ℕ) → lts.Need-returns-3 (claims t) (asked t) own.Post
 returns-3 t c =
-    let b = began (c .before .before .before .before .before .before .before .before .before .before .before .before .before .before .begin .ensures) (c .before .before .before .before .before .before .before .before .before .before .before .before .paid .given .1) in
-    let parts = halves (b .tag) (c .before .before .before .before .before .before .before .before .before .before .match2 .keys2) (c .before .before .before .before .before .before .before .before .left-of .ensures) (c .before .before .before .before .before .before .right-of .ensures) in
-    applied (left-spent (apply-way _ _) b parts (apply-does (c .before .before .before .before .apply-ctx-type2 .ensures)) (c .enum-told2 .given .1))
+    let c₄ = c .before .before .before .before in let c₆ = c₄ .before .before in let c₈ = c₆ .before .before in let c₁₀ = c₈ .before .before in
+    let c₁₂ = c₁₀ .before .before in let c₁₄ = c₁₂ .before .before in
+    let b = began (c₁₄ .begin .ensures) (c₁₂ .paid .given .1) in
+    let parts = halves (b .tag) (c₁₀ .match2 .keys2) (c₈ .left-of .ensures) (c₆ .right-of .ensures) in
+    applied (left-spent (apply-way _ _) b parts (apply-does (c₄ .apply-ctx-type2 .ensures)) (c .enum-told2 .given .1))
 
 apply-ctx-type-requires-3 :
     (t : ℕ) → lts.Need-apply-ctx-type-requires-3 (claims t) (asked t) own.Post
 apply-ctx-type-requires-3 t c κs =
-    let b = began (c .before .before .before .before .before .before .before .before .before .before .before .before .before .before .before .before .begin .ensures) (c .before .before .before .before .before .before .before .before .before .before .before .before .before .before .paid .given .1) in
-    let parts = halves (b .tag) (c .before .before .before .before .before .before .before .before .before .before .before .before .match2 .keys2) (c .before .before .before .before .before .before .before .before .before .before .left-of .ensures) (c .before .before .before .before .before .before .before .before .right-of .ensures) in
-    let h = apply-asks (c .before .before .before .before .before .before .before .before .before .before .before .before .before .before .before .before .before .before .before .before .pre .1) in
-    (omega (arith, c .before .before .before .before .before .before .before .before .before .before .before .before .before .before .before .before .before .before .before .before .pre .0, fewer b, left-fewer (apply-way _ _) b parts (apply-does (c .before .before .before .before .before .before .apply-ctx-type2 .ensures)) (c .before .before .st1 .given .1) h), apply-pre (right-asks (apply-way _ _) b parts (apply-does (c .before .before .before .before .before .before .apply-ctx-type2 .ensures)) (c .before .before .st1 .given .1) h))
+    let c₂ = c .before .before in let c₆ = c₂ .before .before .before .before in let c₈ = c₆ .before .before in let c₁₀ = c₈ .before .before in
+    let c₁₂ = c₁₀ .before .before in let c₁₄ = c₁₂ .before .before in let c₁₆ = c₁₄ .before .before in
+    let c₂₀ = c₁₆ .before .before .before .before in
+    let b = began (c₁₆ .begin .ensures) (c₁₄ .paid .given .1) in
+    let parts = halves (b .tag) (c₁₂ .match2 .keys2) (c₁₀ .left-of .ensures) (c₈ .right-of .ensures) in
+    let h = apply-asks (c₂₀ .pre .1) in
+    (omega (arith, c₂₀ .pre .0, fewer b, left-fewer (apply-way _ _) b parts (apply-does (c₆ .apply-ctx-type2 .ensures)) (c₂ .st1 .given .1) h),
+        apply-pre (right-asks (apply-way _ _) b parts (apply-does (c₆ .apply-ctx-type2 .ensures)) (c₂ .st1 .given .1) h))
 
 enum-known-st2 : (t : ℕ) → lts.Need-enum-known-st2 (claims t) (asked t) own.Post
 enum-known-st2 t c = search needs
@@ -151,32 +175,48 @@ same-length-4 t c = search needs
 
 returns-4 : (t : ℕ) → lts.Need-returns-4 (claims t) (asked t) own.Post
 returns-4 t c =
-    let b = began (c .before .before .before .before .before .before .before .before .before .before .before .before .before .before .before .before .before .before .before .before .before .begin .ensures) (c .before .before .before .before .before .before .before .before .before .before .before .before .before .before .before .before .before .before .before .paid .given .1) in
-    let parts = halves (b .tag) (c .before .before .before .before .before .before .before .before .before .before .before .before .before .before .before .before .before .match2 .keys2) (c .before .before .before .before .before .before .before .before .before .before .before .before .before .before .before .left-of .ensures) (c .before .before .before .before .before .before .before .before .before .before .before .before .before .right-of .ensures) in
-    applied (right-spent (apply-way _ _) b parts (apply-does (c .before .before .before .before .before .before .before .before .before .before .before .apply-ctx-type2 .ensures)) (c .before .before .before .before .before .before .before .st1 .given .1) (apply-does (c .before .before .before .before .apply-ctx-type3 .ensures)) (c .enum-told3 .given .1))
+    let c₄ = c .before .before .before .before in let c₇ = c₄ .before .before .before in let c₁₁ = c₇ .before .before .before .before in
+    let c₁₃ = c₁₁ .before .before in let c₁₅ = c₁₃ .before .before in let c₁₇ = c₁₅ .before .before in let c₁₉ = c₁₇ .before .before in
+    let c₂₁ = c₁₉ .before .before in
+    let b = began (c₂₁ .begin .ensures) (c₁₉ .paid .given .1) in
+    let parts = halves (b .tag) (c₁₇ .match2 .keys2) (c₁₅ .left-of .ensures) (c₁₃ .right-of .ensures) in
+    applied (right-spent (apply-way _ _) b parts (apply-does (c₁₁ .apply-ctx-type2 .ensures)) (c₇ .st1 .given .1)
+        (apply-does (c₄ .apply-ctx-type3 .ensures)) (c .enum-told3 .given .1))
 
 arrow-made-requires : (t : ℕ) → lts.Need-arrow-made-requires (claims t) (asked t) own.Post
 arrow-made-requires t c κs =
-    let b = began (c .before .before .before .before .before .before .before .before .before .before .before .before .before .before .before .before .before .before .before .before .before .before .before .begin .ensures) (c .before .before .before .before .before .before .before .before .before .before .before .before .before .before .before .before .before .before .before .before .before .paid .given .1) in
-    let parts = halves (b .tag) (c .before .before .before .before .before .before .before .before .before .before .before .before .before .before .before .before .before .before .before .match2 .keys2) (c .before .before .before .before .before .before .before .before .before .before .before .before .before .before .before .before .before .left-of .ensures) (c .before .before .before .before .before .before .before .before .before .before .before .before .before .before .before .right-of .ensures) in
-    arrow-asks (apply-way _ _) b parts (apply-does (c .before .before .before .before .before .before .before .before .before .before .before .before .before .apply-ctx-type2 .ensures)) (c .before .before .before .before .before .before .before .before .before .st1 .given .1) (apply-does (c .before .before .before .before .before .before .apply-ctx-type3 .ensures)) (c .before .before .st2 .given .1) (apply-asks (c .before .before .before .before .before .before .before .before .before .before .before .before .before .before .before .before .before .before .before .before .before .before .before .before .before .before .before .pre .1))
+    let c₂ = c .before .before in let c₆ = c₂ .before .before .before .before in let c₉ = c₆ .before .before .before in
+    let c₁₃ = c₉ .before .before .before .before in let c₁₅ = c₁₃ .before .before in let c₁₇ = c₁₅ .before .before in let c₁₉ = c₁₇ .before .before in
+    let c₂₁ = c₁₉ .before .before in let c₂₃ = c₂₁ .before .before in let c₂₇ = c₂₃ .before .before .before .before in
+    let b = began (c₂₃ .begin .ensures) (c₂₁ .paid .given .1) in
+    let parts = halves (b .tag) (c₁₉ .match2 .keys2) (c₁₇ .left-of .ensures) (c₁₅ .right-of .ensures) in
+    arrow-asks (apply-way _ _) b parts (apply-does (c₁₃ .apply-ctx-type2 .ensures)) (c₉ .st1 .given .1) (apply-does (c₆ .apply-ctx-type3 .ensures))
+        (c₂ .st2 .given .1) (apply-asks (c₂₇ .pre .1))
 
 anew-requires-2 : (t : ℕ) → lts.Need-anew-requires-2 (claims t) (asked t) own.Post
 anew-requires-2 t c κs = tt
 
 name-of-requires-2 : (t : ℕ) → lts.Need-name-of-requires-2 (claims t) (asked t) own.Post
-name-of-requires-2 t c κs = held-named (held (apply-asks (c .before .before .before .before .before .before .before .before .before .pre .1))) (began (c .before .before .before .before .before .begin .ensures) (c .before .before .before .paid .given .1) .tag) (omega (arith, c .before .match2 .keys3)) (λ e. omega (arith, c .before .match2 .keys3, e))
+name-of-requires-2 t c κs =
+    let c₁ = c .before in let c₃ = c₁ .before .before in let c₅ = c₃ .before .before in let c₉ = c₅ .before .before .before .before in
+    held-named (held (apply-asks (c₉ .pre .1))) (began (c₅ .begin .ensures) (c₃ .paid .given .1) .tag) (omega (arith, c₁ .match2 .keys3))
+        (λ e. omega (arith, c₁ .match2 .keys3, e))
 
 body-of-requires : (t : ℕ) → lts.Need-body-of-requires (claims t) (asked t) own.Post
-body-of-requires t c κs = held-as (held (apply-asks (c .before .before .before .before .before .before .before .before .before .before .before .pre .1))) (began (c .before .before .before .before .before .before .before .begin .ensures) (c .before .before .before .before .before .paid .given .1) .tag) 6 (c .before .before .before .match2 .keys3)
+body-of-requires t c κs =
+    let c₃ = c .before .before .before in let c₅ = c₃ .before .before in let c₇ = c₅ .before .before in
+    let c₁₁ = c₇ .before .before .before .before in
+    held-as (held (apply-asks (c₁₁ .pre .1))) (began (c₇ .begin .ensures) (c₅ .paid .given .1) .tag) 6 (c₃ .match2 .keys3)
 
 apply-ctx-type-requires-4 :
     (t : ℕ) → lts.Need-apply-ctx-type-requires-4 (claims t) (asked t) own.Post
 apply-ctx-type-requires-4 t c κs =
-    let b = began (c .before .before .before .before .before .before .before .before .before .begin .ensures) (c .before .before .before .before .before .before .before .paid .given .1) in
-    let parts = body (b .tag) (c .before .before .before .before .before .match2 .keys3) (c .before .before .before .name-of2 .ensures) (c .before .body-of .ensures) in
-    let h = apply-asks (c .before .before .before .before .before .before .before .before .before .before .before .before .before .pre .1) in
-    (omega (arith, c .before .before .before .before .before .before .before .before .before .before .before .before .before .pre .0, fewer b), apply-pre (part-asks b h (parts (h .type) (h .den) .den)))
+    let c₁ = c .before in let c₃ = c₁ .before .before in let c₅ = c₃ .before .before in let c₇ = c₅ .before .before in let c₉ = c₇ .before .before in
+    let c₁₃ = c₉ .before .before .before .before in
+    let b = began (c₉ .begin .ensures) (c₇ .paid .given .1) in
+    let parts = body (b .tag) (c₅ .match2 .keys3) (c₃ .name-of2 .ensures) (c₁ .body-of .ensures) in
+    let h = apply-asks (c₁₃ .pre .1) in
+    (omega (arith, c₁₃ .pre .0, fewer b), apply-pre (part-asks b h (parts (h .type) (h .den) .den)))
 
 enum-known-st1-2 : (t : ℕ) → lts.Need-enum-known-st1-2 (claims t) (asked t) own.Post
 enum-known-st1-2 t c = search needs
@@ -189,15 +229,20 @@ same-length-5 t c = search needs
 
 returns-5 : (t : ℕ) → lts.Need-returns-5 (claims t) (asked t) own.Post
 returns-5 t c =
-    let b = began (c .before .before .before .before .before .before .before .before .before .before .before .before .before .before .begin .ensures) (c .before .before .before .before .before .before .before .before .before .before .before .before .paid .given .1) in
-    let parts = body (b .tag) (c .before .before .before .before .before .before .before .before .before .before .match2 .keys3) (c .before .before .before .before .before .before .before .before .name-of2 .ensures) (c .before .before .before .before .before .before .body-of .ensures) in
-    applied (body-spent (λ Γ. apply-forall Γ _) b parts (apply-does (c .before .before .before .before .apply-ctx-type4 .ensures)) (c .enum-told4 .given .1))
+    let c₄ = c .before .before .before .before in let c₆ = c₄ .before .before in let c₈ = c₆ .before .before in let c₁₀ = c₈ .before .before in
+    let c₁₂ = c₁₀ .before .before in let c₁₄ = c₁₂ .before .before in
+    let b = began (c₁₄ .begin .ensures) (c₁₂ .paid .given .1) in
+    let parts = body (b .tag) (c₁₀ .match2 .keys3) (c₈ .name-of2 .ensures) (c₆ .body-of .ensures) in
+    applied (body-spent (λ Γ. apply-forall Γ _) b parts (apply-does (c₄ .apply-ctx-type4 .ensures)) (c .enum-told4 .given .1))
 
 forall-made-requires : (t : ℕ) → lts.Need-forall-made-requires (claims t) (asked t) own.Post
 forall-made-requires t c κs =
-    let b = began (c .before .before .before .before .before .before .before .before .before .before .before .before .before .before .before .before .begin .ensures) (c .before .before .before .before .before .before .before .before .before .before .before .before .before .before .paid .given .1) in
-    let parts = body (b .tag) (c .before .before .before .before .before .before .before .before .before .before .before .before .match2 .keys3) (c .before .before .before .before .before .before .before .before .before .before .name-of2 .ensures) (c .before .before .before .before .before .before .before .before .body-of .ensures) in
-    forall-asks (λ Γ. apply-forall Γ _) b parts (apply-does (c .before .before .before .before .before .before .apply-ctx-type4 .ensures)) (c .before .before .st12 .given .1) (apply-asks (c .before .before .before .before .before .before .before .before .before .before .before .before .before .before .before .before .before .before .before .before .pre .1))
+    let c₂ = c .before .before in let c₆ = c₂ .before .before .before .before in let c₈ = c₆ .before .before in let c₁₀ = c₈ .before .before in
+    let c₁₂ = c₁₀ .before .before in let c₁₄ = c₁₂ .before .before in let c₁₆ = c₁₄ .before .before in
+    let c₂₀ = c₁₆ .before .before .before .before in
+    let b = began (c₁₆ .begin .ensures) (c₁₄ .paid .given .1) in
+    let parts = body (b .tag) (c₁₂ .match2 .keys3) (c₁₀ .name-of2 .ensures) (c₈ .body-of .ensures) in
+    forall-asks (λ Γ. apply-forall Γ _) b parts (apply-does (c₆ .apply-ctx-type4 .ensures)) (c₂ .st12 .given .1) (apply-asks (c₂₀ .pre .1))
 
 anew-requires-3 : (t : ℕ) → lts.Need-anew-requires-3 (claims t) (asked t) own.Post
 anew-requires-3 t c κs = tt
@@ -207,26 +252,39 @@ same-length-6 t c = search needs
 
 returns-6 : (t : ℕ) → lts.Need-returns-6 (claims t) (asked t) own.Post
 returns-6 t c =
-    let b = began (c .before .before .before .before .before .before .before .before .before .before .before .before .before .before .before .before .begin .ensures) (c .before .before .before .before .before .before .before .before .before .before .before .before .before .before .paid .given .1) in
-    rw (c .anew .ensures) (applied (followed b (apply-does (c .before .before .before .apply-ctx-type .ensures)) (λ Γ run. solved-applied (b .tag) (c .before .before .before .before .before .before .before .before .before .before .before .before .match2 .keys1) (c .before .before .before .before .before .before .before .before .before .before .name-of .ensures) (c .before .before .before .before .before .before .before .before .find .ensures) Γ run (omega (arith, c .before .before .before .before .before .before .before .before .find .ensures .within, c .before .before .before .before .before .before .before .if1 .left)) (c .before .before .before .before .before .type-at .ensures .0))))
+    let c₃ = c .before .before .before in let c₅ = c₃ .before .before in let c₇ = c₅ .before .before in let c₈ = c₇ .before in
+    let c₁₀ = c₈ .before .before in let c₁₂ = c₁₀ .before .before in let c₁₄ = c₁₂ .before .before in let c₁₆ = c₁₄ .before .before in
+    let b = began (c₁₆ .begin .ensures) (c₁₄ .paid .given .1) in
+    rw (c .anew .ensures) (applied (followed b (apply-does (c₃ .apply-ctx-type .ensures))
+        (λ Γ run. solved-applied (b .tag) (c₁₂ .match2 .keys1) (c₁₀ .name-of .ensures) (c₈ .find .ensures) Γ run
+        (omega (arith, c₈ .find .ensures .within, c₇ .if1 .left)) (c₅ .type-at .ensures .0))))
 
 same-length-7 : (t : ℕ) → lts.Need-same-length-7 (claims t) (asked t) own.Post
 same-length-7 t c = search needs
 
 returns-7 : (t : ℕ) → lts.Need-returns-7 (claims t) (asked t) own.Post
 returns-7 t c =
-    let b = began (c .before .before .before .before .before .before .before .before .before .before .before .before .before .before .before .before .before .before .before .before .before .before .before .before .before .before .before .begin .ensures) (c .before .before .before .before .before .before .before .before .before .before .before .before .before .before .before .before .before .before .before .before .before .before .before .before .before .paid .given .1) in
-    let parts = halves (b .tag) (c .before .before .before .before .before .before .before .before .before .before .before .before .before .before .before .before .before .before .before .before .before .before .before .match2 .keys2) (c .before .before .before .before .before .before .before .before .before .before .before .before .before .before .before .before .before .before .before .before .before .left-of .ensures) (c .before .before .before .before .before .before .before .before .before .before .before .before .before .before .before .before .before .before .before .right-of .ensures) in
-    rw (c .anew2 .ensures) (applied (arrow-does (apply-way _ _) b parts (apply-does (c .before .before .before .before .before .before .before .before .before .before .before .before .before .before .before .before .before .apply-ctx-type2 .ensures)) (c .before .before .before .before .before .before .before .before .before .before .before .before .before .st1 .given .1) (apply-does (c .before .before .before .before .before .before .before .before .before .before .apply-ctx-type3 .ensures)) (c .before .before .before .before .before .before .st2 .given .1) (apply-asks (c .before .before .before .before .before .before .before .before .before .before .before .before .before .before .before .before .before .before .before .before .before .before .before .before .before .before .before .before .before .before .before .pre .1)) (c .before .before .before .arrow-made .ensures)))
+    let c₃ = c .before .before .before in let c₆ = c₃ .before .before .before in let c₁₀ = c₆ .before .before .before .before in
+    let c₁₃ = c₁₀ .before .before .before in let c₁₇ = c₁₃ .before .before .before .before in let c₁₉ = c₁₇ .before .before in
+    let c₂₁ = c₁₉ .before .before in let c₂₃ = c₂₁ .before .before in let c₂₅ = c₂₃ .before .before in let c₂₇ = c₂₅ .before .before in
+    let c₃₁ = c₂₇ .before .before .before .before in
+    let b = began (c₂₇ .begin .ensures) (c₂₅ .paid .given .1) in
+    let parts = halves (b .tag) (c₂₃ .match2 .keys2) (c₂₁ .left-of .ensures) (c₁₉ .right-of .ensures) in
+    rw (c .anew2 .ensures) (applied (arrow-does (apply-way _ _) b parts (apply-does (c₁₇ .apply-ctx-type2 .ensures)) (c₁₃ .st1 .given .1)
+        (apply-does (c₁₀ .apply-ctx-type3 .ensures)) (c₆ .st2 .given .1) (apply-asks (c₃₁ .pre .1)) (c₃ .arrow-made .ensures)))
 
 same-length-8 : (t : ℕ) → lts.Need-same-length-8 (claims t) (asked t) own.Post
 same-length-8 t c = search needs
 
 returns-8 : (t : ℕ) → lts.Need-returns-8 (claims t) (asked t) own.Post
 returns-8 t c =
-    let b = began (c .before .before .before .before .before .before .before .before .before .before .before .before .before .before .before .before .before .before .before .before .begin .ensures) (c .before .before .before .before .before .before .before .before .before .before .before .before .before .before .before .before .before .before .paid .given .1) in
-    let parts = body (b .tag) (c .before .before .before .before .before .before .before .before .before .before .before .before .before .before .before .before .match2 .keys3) (c .before .before .before .before .before .before .before .before .before .before .before .before .before .before .name-of2 .ensures) (c .before .before .before .before .before .before .before .before .before .before .before .before .body-of .ensures) in
-    rw (c .anew3 .ensures) (applied (forall-does (λ Γ. apply-forall Γ _) b parts (apply-does (c .before .before .before .before .before .before .before .before .before .before .apply-ctx-type4 .ensures)) (c .before .before .before .before .before .before .st12 .given .1) (apply-asks (c .before .before .before .before .before .before .before .before .before .before .before .before .before .before .before .before .before .before .before .before .before .before .before .before .pre .1)) (c .before .before .before .forall-made .ensures)))
+    let c₃ = c .before .before .before in let c₆ = c₃ .before .before .before in let c₁₀ = c₆ .before .before .before .before in
+    let c₁₂ = c₁₀ .before .before in let c₁₄ = c₁₂ .before .before in let c₁₆ = c₁₄ .before .before in let c₁₈ = c₁₆ .before .before in
+    let c₂₀ = c₁₈ .before .before in let c₂₄ = c₂₀ .before .before .before .before in
+    let b = began (c₂₀ .begin .ensures) (c₁₈ .paid .given .1) in
+    let parts = body (b .tag) (c₁₆ .match2 .keys3) (c₁₄ .name-of2 .ensures) (c₁₂ .body-of .ensures) in
+    rw (c .anew3 .ensures) (applied (forall-does (λ Γ. apply-forall Γ _) b parts (apply-does (c₁₀ .apply-ctx-type4 .ensures)) (c₆ .st12 .given .1)
+        (apply-asks (c₂₄ .pre .1)) (c₃ .forall-made .ensures)))
 
 same-length-9 : (t : ℕ) → lts.Need-same-length-9 (claims t) (asked t) own.Post
 same-length-9 t c = search needs

@@ -68,20 +68,29 @@ same-length : (t : ℕ) → lts.Need-same-length (claims t) (asked t) own.Post
 same-length t c = search needs
 
 returns : (t : ℕ) → lts.Need-returns (claims t) (asked t) own.Post
-returns t c = substed (spent-at-once (subst-way _ (c .before .before .before .before .before .before .args .a) _) (c .before .before .begin .ensures) (c .enum-told .given .1))
+returns t c =
+    let c₂ = c .before .before in let c₆ = c₂ .before .before .before .before in
+    substed (spent-at-once (subst-way _ (c₆ .args .a) _) (c₂ .begin .ensures) (c .enum-told .given .1))
 
 left-of-requires : (t : ℕ) → lts.Need-left-of-requires (claims t) (asked t) own.Post
-left-of-requires t c κs = held-as (held (subst-asks (c .before .before .before .before .before .before .before .before .before .pre .1))) (began (c .before .before .before .before .before .begin .ensures) (c .before .before .before .paid .given .1) .tag) 5 (c .before .match2 .keys1)
+left-of-requires t c κs =
+    let c₁ = c .before in let c₃ = c₁ .before .before in let c₅ = c₃ .before .before in let c₉ = c₅ .before .before .before .before in
+    held-as (held (subst-asks (c₉ .pre .1))) (began (c₅ .begin .ensures) (c₃ .paid .given .1) .tag) 5 (c₁ .match2 .keys1)
 
 right-of-requires : (t : ℕ) → lts.Need-right-of-requires (claims t) (asked t) own.Post
-right-of-requires t c κs = held-as (held (subst-asks (c .before .before .before .before .before .before .before .before .before .before .before .pre .1))) (began (c .before .before .before .before .before .before .before .begin .ensures) (c .before .before .before .before .before .paid .given .1) .tag) 5 (c .before .before .before .match2 .keys1)
+right-of-requires t c κs =
+    let c₃ = c .before .before .before in let c₅ = c₃ .before .before in let c₇ = c₅ .before .before in
+    let c₁₁ = c₇ .before .before .before .before in
+    held-as (held (subst-asks (c₁₁ .pre .1))) (began (c₇ .begin .ensures) (c₅ .paid .given .1) .tag) 5 (c₃ .match2 .keys1)
 
 subst-type-requires : (t : ℕ) → lts.Need-subst-type-requires (claims t) (asked t) own.Post
 subst-type-requires t c κs =
-    let b = began (c .before .before .before .before .before .before .before .before .before .begin .ensures) (c .before .before .before .before .before .before .before .paid .given .1) in
-    let parts = halves (b .tag) (c .before .before .before .before .before .match2 .keys1) (c .before .before .before .left-of .ensures) (c .before .right-of .ensures) in
-    let h = subst-asks (c .before .before .before .before .before .before .before .before .before .before .before .before .before .pre .1) in
-    (omega (arith, c .before .before .before .before .before .before .before .before .before .before .before .before .before .pre .0, fewer b), subst-pre (part-asks b h (parts (h .type) (h .den) .left)))
+    let c₁ = c .before in let c₃ = c₁ .before .before in let c₅ = c₃ .before .before in let c₇ = c₅ .before .before in let c₉ = c₇ .before .before in
+    let c₁₃ = c₉ .before .before .before .before in
+    let b = began (c₉ .begin .ensures) (c₇ .paid .given .1) in
+    let parts = halves (b .tag) (c₅ .match2 .keys1) (c₃ .left-of .ensures) (c₁ .right-of .ensures) in
+    let h = subst-asks (c₁₃ .pre .1) in
+    (omega (arith, c₁₃ .pre .0, fewer b), subst-pre (part-asks b h (parts (h .type) (h .den) .left)))
 
 enum-known-st1 : (t : ℕ) → lts.Need-enum-known-st1 (claims t) (asked t) own.Post
 enum-known-st1 t c = search needs
@@ -94,17 +103,23 @@ same-length-2 t c = search needs
 
 returns-2 : (t : ℕ) → lts.Need-returns-2 (claims t) (asked t) own.Post
 returns-2 t c =
-    let b = began (c .before .before .before .before .before .before .before .before .before .before .before .before .before .before .begin .ensures) (c .before .before .before .before .before .before .before .before .before .before .before .before .paid .given .1) in
-    let parts = halves (b .tag) (c .before .before .before .before .before .before .before .before .before .before .match2 .keys1) (c .before .before .before .before .before .before .before .before .left-of .ensures) (c .before .before .before .before .before .before .right-of .ensures) in
-    substed (left-spent (subst-way _ (c .before .before .before .before .before .before .before .before .before .before .before .before .before .before .before .before .before .before .args .a) _) b parts (subst-does (c .before .before .before .before .subst-type .ensures)) (c .enum-told2 .given .1))
+    let c₄ = c .before .before .before .before in let c₆ = c₄ .before .before in let c₈ = c₆ .before .before in let c₁₀ = c₈ .before .before in
+    let c₁₂ = c₁₀ .before .before in let c₁₄ = c₁₂ .before .before in let c₁₈ = c₁₄ .before .before .before .before in
+    let b = began (c₁₄ .begin .ensures) (c₁₂ .paid .given .1) in
+    let parts = halves (b .tag) (c₁₀ .match2 .keys1) (c₈ .left-of .ensures) (c₆ .right-of .ensures) in
+    substed (left-spent (subst-way _ (c₁₈ .args .a) _) b parts (subst-does (c₄ .subst-type .ensures)) (c .enum-told2 .given .1))
 
 subst-type-requires-2 : (t : ℕ) → lts.Need-subst-type-requires-2 (claims t) (asked t) own.Post
 subst-type-requires-2 t c κs =
-    let b = began (c .before .before .before .before .before .before .before .before .before .before .before .before .before .before .before .before .begin .ensures) (c .before .before .before .before .before .before .before .before .before .before .before .before .before .before .paid .given .1) in
-    let parts = halves (b .tag) (c .before .before .before .before .before .before .before .before .before .before .before .before .match2 .keys1) (c .before .before .before .before .before .before .before .before .before .before .left-of .ensures) (c .before .before .before .before .before .before .before .before .right-of .ensures) in
-    let h = subst-asks (c .before .before .before .before .before .before .before .before .before .before .before .before .before .before .before .before .before .before .before .before .pre .1) in
-    let fell = left-fewer (subst-way _ (c .before .before .before .before .before .before .before .before .before .before .before .before .before .before .before .before .before .before .before .before .args .a) _) b parts (subst-does (c .before .before .before .before .before .before .subst-type .ensures)) (c .before .before .st1 .given .1) h in
-    (omega (arith, c .before .before .before .before .before .before .before .before .before .before .before .before .before .before .before .before .before .before .before .before .pre .0, fewer b), subst-pre (right-asks (subst-way _ (c .before .before .before .before .before .before .before .before .before .before .before .before .before .before .before .before .before .before .before .before .args .a) _) b parts (subst-does (c .before .before .before .before .before .before .subst-type .ensures)) (c .before .before .st1 .given .1) h))
+    let c₂ = c .before .before in let c₆ = c₂ .before .before .before .before in let c₈ = c₆ .before .before in let c₁₀ = c₈ .before .before in
+    let c₁₂ = c₁₀ .before .before in let c₁₄ = c₁₂ .before .before in let c₁₆ = c₁₄ .before .before in
+    let c₂₀ = c₁₆ .before .before .before .before in
+    let b = began (c₁₆ .begin .ensures) (c₁₄ .paid .given .1) in
+    let parts = halves (b .tag) (c₁₂ .match2 .keys1) (c₁₀ .left-of .ensures) (c₈ .right-of .ensures) in
+    let h = subst-asks (c₂₀ .pre .1) in
+    let fell = left-fewer (subst-way _ (c₂₀ .args .a) _) b parts (subst-does (c₆ .subst-type .ensures)) (c₂ .st1 .given .1) h in
+    (omega (arith, c₂₀ .pre .0, fewer b), subst-pre (right-asks (subst-way _ (c₂₀ .args .a) _) b parts (subst-does (c₆ .subst-type .ensures))
+        (c₂ .st1 .given .1) h))
 
 enum-known-st2 : (t : ℕ) → lts.Need-enum-known-st2 (claims t) (asked t) own.Post
 enum-known-st2 t c = search needs
@@ -117,39 +132,57 @@ same-length-3 t c = search needs
 
 returns-3 : (t : ℕ) → lts.Need-returns-3 (claims t) (asked t) own.Post
 returns-3 t c =
-    let b = began (c .before .before .before .before .before .before .before .before .before .before .before .before .before .before .before .before .before .before .before .before .before .begin .ensures) (c .before .before .before .before .before .before .before .before .before .before .before .before .before .before .before .before .before .before .before .paid .given .1) in
-    let parts = halves (b .tag) (c .before .before .before .before .before .before .before .before .before .before .before .before .before .before .before .before .before .match2 .keys1) (c .before .before .before .before .before .before .before .before .before .before .before .before .before .before .before .left-of .ensures) (c .before .before .before .before .before .before .before .before .before .before .before .before .before .right-of .ensures) in
-    substed (right-spent (subst-way _ (c .before .before .before .before .before .before .before .before .before .before .before .before .before .before .before .before .before .before .before .before .before .before .before .before .before .args .a) _) b parts (subst-does (c .before .before .before .before .before .before .before .before .before .before .before .subst-type .ensures)) (c .before .before .before .before .before .before .before .st1 .given .1) (subst-does (c .before .before .before .before .subst-type2 .ensures)) (c .enum-told3 .given .1))
+    let c₄ = c .before .before .before .before in let c₇ = c₄ .before .before .before in let c₁₁ = c₇ .before .before .before .before in
+    let c₁₃ = c₁₁ .before .before in let c₁₅ = c₁₃ .before .before in let c₁₇ = c₁₅ .before .before in let c₁₉ = c₁₇ .before .before in
+    let c₂₁ = c₁₉ .before .before in let c₂₅ = c₂₁ .before .before .before .before in
+    let b = began (c₂₁ .begin .ensures) (c₁₉ .paid .given .1) in
+    let parts = halves (b .tag) (c₁₇ .match2 .keys1) (c₁₅ .left-of .ensures) (c₁₃ .right-of .ensures) in
+    substed (right-spent (subst-way _ (c₂₅ .args .a) _) b parts (subst-does (c₁₁ .subst-type .ensures)) (c₇ .st1 .given .1)
+        (subst-does (c₄ .subst-type2 .ensures)) (c .enum-told3 .given .1))
 
 arrow-made-requires : (t : ℕ) → lts.Need-arrow-made-requires (claims t) (asked t) own.Post
 arrow-made-requires t c κs =
-    let b = began (c .before .before .before .before .before .before .before .before .before .before .before .before .before .before .before .before .before .before .before .before .before .before .before .begin .ensures) (c .before .before .before .before .before .before .before .before .before .before .before .before .before .before .before .before .before .before .before .before .before .paid .given .1) in
-    let parts = halves (b .tag) (c .before .before .before .before .before .before .before .before .before .before .before .before .before .before .before .before .before .before .before .match2 .keys1) (c .before .before .before .before .before .before .before .before .before .before .before .before .before .before .before .before .before .left-of .ensures) (c .before .before .before .before .before .before .before .before .before .before .before .before .before .before .before .right-of .ensures) in
-    arrow-asks (subst-way _ (c .before .before .before .before .before .before .before .before .before .before .before .before .before .before .before .before .before .before .before .before .before .before .before .before .before .before .before .args .a) _) b parts (subst-does (c .before .before .before .before .before .before .before .before .before .before .before .before .before .subst-type .ensures)) (c .before .before .before .before .before .before .before .before .before .st1 .given .1) (subst-does (c .before .before .before .before .before .before .subst-type2 .ensures)) (c .before .before .st2 .given .1) (subst-asks (c .before .before .before .before .before .before .before .before .before .before .before .before .before .before .before .before .before .before .before .before .before .before .before .before .before .before .before .pre .1))
+    let c₂ = c .before .before in let c₆ = c₂ .before .before .before .before in let c₉ = c₆ .before .before .before in
+    let c₁₃ = c₉ .before .before .before .before in let c₁₅ = c₁₃ .before .before in let c₁₇ = c₁₅ .before .before in let c₁₉ = c₁₇ .before .before in
+    let c₂₁ = c₁₉ .before .before in let c₂₃ = c₂₁ .before .before in let c₂₇ = c₂₃ .before .before .before .before in
+    let b = began (c₂₃ .begin .ensures) (c₂₁ .paid .given .1) in
+    let parts = halves (b .tag) (c₁₉ .match2 .keys1) (c₁₇ .left-of .ensures) (c₁₅ .right-of .ensures) in
+    arrow-asks (subst-way _ (c₂₇ .args .a) _) b parts (subst-does (c₁₃ .subst-type .ensures)) (c₉ .st1 .given .1)
+        (subst-does (c₆ .subst-type2 .ensures)) (c₂ .st2 .given .1) (subst-asks (c₂₇ .pre .1))
 
 anew-requires : (t : ℕ) → lts.Need-anew-requires (claims t) (asked t) own.Post
 anew-requires t c κs = tt
 
 name-of-requires : (t : ℕ) → lts.Need-name-of-requires (claims t) (asked t) own.Post
-name-of-requires t c κs = held-named (held (subst-asks (c .before .before .before .before .before .before .before .before .before .pre .1))) (began (c .before .before .before .before .before .begin .ensures) (c .before .before .before .paid .given .1) .tag) (omega (arith, c .before .match2 .keys2)) (λ e. omega (arith, c .before .match2 .keys2, e))
+name-of-requires t c κs =
+    let c₁ = c .before in let c₃ = c₁ .before .before in let c₅ = c₃ .before .before in let c₉ = c₅ .before .before .before .before in
+    held-named (held (subst-asks (c₉ .pre .1))) (began (c₅ .begin .ensures) (c₃ .paid .given .1) .tag) (omega (arith, c₁ .match2 .keys2))
+        (λ e. omega (arith, c₁ .match2 .keys2, e))
 
 same-length-4 : (t : ℕ) → lts.Need-same-length-4 (claims t) (asked t) own.Post
 same-length-4 t c = search needs
 
 returns-4 : (t : ℕ) → lts.Need-returns-4 (claims t) (asked t) own.Post
 returns-4 t c =
-    let b = began (c .before .before .before .before .before .before .before .before .before .begin .ensures) (c .before .before .before .before .before .before .before .paid .given .1) in
-    substed (given-at-once b (λ B g. shadowed-substed (c .before .before .before .before .before .before .before .before .before .before .before .before .before .args .a) (b .tag) (c .before .before .before .before .before .match2 .keys2) (c .before .before .before .name-of .ensures) (c .if1 .taken) B))
+    let c₃ = c .before .before .before in let c₅ = c₃ .before .before in let c₇ = c₅ .before .before in let c₉ = c₇ .before .before in
+    let c₁₃ = c₉ .before .before .before .before in
+    let b = began (c₉ .begin .ensures) (c₇ .paid .given .1) in
+    substed (given-at-once b (λ B g. shadowed-substed (c₁₃ .args .a) (b .tag) (c₅ .match2 .keys2) (c₃ .name-of .ensures) (c .if1 .taken) B))
 
 body-of-requires : (t : ℕ) → lts.Need-body-of-requires (claims t) (asked t) own.Post
-body-of-requires t c κs = held-as (held (subst-asks (c .before .before .before .before .before .before .before .before .before .before .before .before .before .before .pre .1))) (began (c .before .before .before .before .before .before .before .before .before .before .begin .ensures) (c .before .before .before .before .before .before .before .before .paid .given .1) .tag) 6 (c .before .before .before .before .before .before .match2 .keys2)
+body-of-requires t c κs =
+    let c₆ = c .before .before .before .before .before .before in let c₈ = c₆ .before .before in let c₁₀ = c₈ .before .before in
+    let c₁₄ = c₁₀ .before .before .before .before in
+    held-as (held (subst-asks (c₁₄ .pre .1))) (began (c₁₀ .begin .ensures) (c₈ .paid .given .1) .tag) 6 (c₆ .match2 .keys2)
 
 subst-type-requires-3 : (t : ℕ) → lts.Need-subst-type-requires-3 (claims t) (asked t) own.Post
 subst-type-requires-3 t c κs =
-    let b = began (c .before .before .before .before .before .before .before .before .before .before .before .before .begin .ensures) (c .before .before .before .before .before .before .before .before .before .before .paid .given .1) in
-    let parts = body (b .tag) (c .before .before .before .before .before .before .before .before .match2 .keys2) (c .before .before .before .before .before .before .name-of .ensures) (c .before .body-of .ensures) in
-    let h = subst-asks (c .before .before .before .before .before .before .before .before .before .before .before .before .before .before .before .before .pre .1) in
-    (omega (arith, c .before .before .before .before .before .before .before .before .before .before .before .before .before .before .before .before .pre .0, fewer b), subst-pre (part-asks b h (parts (h .type) (h .den) .den)))
+    let c₁ = c .before in let c₆ = c₁ .before .before .before .before .before in let c₈ = c₆ .before .before in let c₁₀ = c₈ .before .before in
+    let c₁₂ = c₁₀ .before .before in let c₁₆ = c₁₂ .before .before .before .before in
+    let b = began (c₁₂ .begin .ensures) (c₁₀ .paid .given .1) in
+    let parts = body (b .tag) (c₈ .match2 .keys2) (c₆ .name-of .ensures) (c₁ .body-of .ensures) in
+    let h = subst-asks (c₁₆ .pre .1) in
+    (omega (arith, c₁₆ .pre .0, fewer b), subst-pre (part-asks b h (parts (h .type) (h .den) .den)))
 
 enum-known-st1-2 : (t : ℕ) → lts.Need-enum-known-st1-2 (claims t) (asked t) own.Post
 enum-known-st1-2 t c = search needs
@@ -162,15 +195,20 @@ same-length-5 t c = search needs
 
 returns-5 : (t : ℕ) → lts.Need-returns-5 (claims t) (asked t) own.Post
 returns-5 t c =
-    let b = began (c .before .before .before .before .before .before .before .before .before .before .before .before .before .before .before .before .before .begin .ensures) (c .before .before .before .before .before .before .before .before .before .before .before .before .before .before .before .paid .given .1) in
-    let parts = body (b .tag) (c .before .before .before .before .before .before .before .before .before .before .before .before .before .match2 .keys2) (c .before .before .before .before .before .before .before .before .before .before .before .name-of .ensures) (c .before .before .before .before .before .before .body-of .ensures) in
-    substed (body-spent (forall-substed (c .before .before .before .before .before .before .before .before .if1 .left)) b parts (subst-does (c .before .before .before .before .subst-type3 .ensures)) (c .enum-told4 .given .1))
+    let c₄ = c .before .before .before .before in let c₆ = c₄ .before .before in let c₈ = c₆ .before .before in
+    let c₁₁ = c₈ .before .before .before in let c₁₃ = c₁₁ .before .before in let c₁₅ = c₁₃ .before .before in let c₁₇ = c₁₅ .before .before in
+    let b = began (c₁₇ .begin .ensures) (c₁₅ .paid .given .1) in
+    let parts = body (b .tag) (c₁₃ .match2 .keys2) (c₁₁ .name-of .ensures) (c₆ .body-of .ensures) in
+    substed (body-spent (forall-substed (c₈ .if1 .left)) b parts (subst-does (c₄ .subst-type3 .ensures)) (c .enum-told4 .given .1))
 
 forall-made-requires : (t : ℕ) → lts.Need-forall-made-requires (claims t) (asked t) own.Post
 forall-made-requires t c κs =
-    let b = began (c .before .before .before .before .before .before .before .before .before .before .before .before .before .before .before .before .before .before .before .begin .ensures) (c .before .before .before .before .before .before .before .before .before .before .before .before .before .before .before .before .before .paid .given .1) in
-    let parts = body (b .tag) (c .before .before .before .before .before .before .before .before .before .before .before .before .before .before .before .match2 .keys2) (c .before .before .before .before .before .before .before .before .before .before .before .before .before .name-of .ensures) (c .before .before .before .before .before .before .before .before .body-of .ensures) in
-    forall-asks (forall-substed (c .before .before .before .before .before .before .before .before .before .before .if1 .left)) b parts (subst-does (c .before .before .before .before .before .before .subst-type3 .ensures)) (c .before .before .st12 .given .1) (subst-asks (c .before .before .before .before .before .before .before .before .before .before .before .before .before .before .before .before .before .before .before .before .before .before .before .pre .1))
+    let c₂ = c .before .before in let c₆ = c₂ .before .before .before .before in let c₈ = c₆ .before .before in let c₁₀ = c₈ .before .before in
+    let c₁₃ = c₁₀ .before .before .before in let c₁₅ = c₁₃ .before .before in let c₁₇ = c₁₅ .before .before in let c₁₉ = c₁₇ .before .before in
+    let c₂₃ = c₁₉ .before .before .before .before in
+    let b = began (c₁₉ .begin .ensures) (c₁₇ .paid .given .1) in
+    let parts = body (b .tag) (c₁₅ .match2 .keys2) (c₁₃ .name-of .ensures) (c₈ .body-of .ensures) in
+    forall-asks (forall-substed (c₁₀ .if1 .left)) b parts (subst-does (c₆ .subst-type3 .ensures)) (c₂ .st12 .given .1) (subst-asks (c₂₃ .pre .1))
 
 anew-requires-2 : (t : ℕ) → lts.Need-anew-requires-2 (claims t) (asked t) own.Post
 anew-requires-2 t c κs = tt
@@ -180,38 +218,54 @@ same-length-6 t c = search needs
 
 returns-6 : (t : ℕ) → lts.Need-returns-6 (claims t) (asked t) own.Post
 returns-6 t c =
-    let b = began (c .before .before .before .before .before .begin .ensures) (c .before .before .before .paid .given .1) in
-    substed (given-at-once b (λ B g. plain-substed (c .before .before .before .before .before .before .before .before .before .args .a) (b .tag) (c .if2 .taken) B))
+    let c₃ = c .before .before .before in let c₅ = c₃ .before .before in let c₉ = c₅ .before .before .before .before in
+    let b = began (c₅ .begin .ensures) (c₃ .paid .given .1) in
+    substed (given-at-once b (λ B g. plain-substed (c₉ .args .a) (b .tag) (c .if2 .taken) B))
 
 chosen-requires : (t : ℕ) → lts.Need-chosen-requires (claims t) (asked t) own.Post
-chosen-requires t c κs = held-named (held (subst-asks (c .before .before .before .before .before .before .before .before .before .before .pre .1))) (began (c .before .before .before .before .before .before .begin .ensures) (c .before .before .before .before .paid .given .1) .tag) (omega (arith, c .before .if2 .left)) (c .before .before .match2 .rest .0 .1)
+chosen-requires t c κs =
+    let c₁ = c .before in let c₂ = c₁ .before in let c₄ = c₂ .before .before in let c₆ = c₄ .before .before in
+    let c₁₀ = c₆ .before .before .before .before in
+    held-named (held (subst-asks (c₁₀ .pre .1))) (began (c₆ .begin .ensures) (c₄ .paid .given .1) .tag) (omega (arith, c₁ .if2 .left))
+        (c₂ .match2 .rest .0 .1)
 
 same-length-7 : (t : ℕ) → lts.Need-same-length-7 (claims t) (asked t) own.Post
 same-length-7 t c = search needs
 
 returns-7 : (t : ℕ) → lts.Need-returns-7 (claims t) (asked t) own.Post
 returns-7 t c =
-    let b = began (c .before .before .before .before .before .before .before .before .before .before .before .before .before .before .before .before .before .before .before .before .before .before .before .before .before .before .before .begin .ensures) (c .before .before .before .before .before .before .before .before .before .before .before .before .before .before .before .before .before .before .before .before .before .before .before .before .before .paid .given .1) in
-    let parts = halves (b .tag) (c .before .before .before .before .before .before .before .before .before .before .before .before .before .before .before .before .before .before .before .before .before .before .before .match2 .keys1) (c .before .before .before .before .before .before .before .before .before .before .before .before .before .before .before .before .before .before .before .before .before .left-of .ensures) (c .before .before .before .before .before .before .before .before .before .before .before .before .before .before .before .before .before .before .before .right-of .ensures) in
-    rw (c .anew .ensures) (substed (arrow-does (subst-way _ (c .before .before .before .before .before .before .before .before .before .before .before .before .before .before .before .before .before .before .before .before .before .before .before .before .before .before .before .before .before .before .before .args .a) _) b parts (subst-does (c .before .before .before .before .before .before .before .before .before .before .before .before .before .before .before .before .before .subst-type .ensures)) (c .before .before .before .before .before .before .before .before .before .before .before .before .before .st1 .given .1) (subst-does (c .before .before .before .before .before .before .before .before .before .before .subst-type2 .ensures)) (c .before .before .before .before .before .before .st2 .given .1) (subst-asks (c .before .before .before .before .before .before .before .before .before .before .before .before .before .before .before .before .before .before .before .before .before .before .before .before .before .before .before .before .before .before .before .pre .1)) (c .before .before .before .arrow-made .ensures)))
+    let c₃ = c .before .before .before in let c₆ = c₃ .before .before .before in let c₁₀ = c₆ .before .before .before .before in
+    let c₁₃ = c₁₀ .before .before .before in let c₁₇ = c₁₃ .before .before .before .before in let c₁₉ = c₁₇ .before .before in
+    let c₂₁ = c₁₉ .before .before in let c₂₃ = c₂₁ .before .before in let c₂₅ = c₂₃ .before .before in let c₂₇ = c₂₅ .before .before in
+    let c₃₁ = c₂₇ .before .before .before .before in
+    let b = began (c₂₇ .begin .ensures) (c₂₅ .paid .given .1) in
+    let parts = halves (b .tag) (c₂₃ .match2 .keys1) (c₂₁ .left-of .ensures) (c₁₉ .right-of .ensures) in
+    rw (c .anew .ensures) (substed (arrow-does (subst-way _ (c₃₁ .args .a) _) b parts (subst-does (c₁₇ .subst-type .ensures)) (c₁₃ .st1 .given .1)
+        (subst-does (c₁₀ .subst-type2 .ensures)) (c₆ .st2 .given .1) (subst-asks (c₃₁ .pre .1)) (c₃ .arrow-made .ensures)))
 
 same-length-8 : (t : ℕ) → lts.Need-same-length-8 (claims t) (asked t) own.Post
 same-length-8 t c = search needs
 
 returns-8 : (t : ℕ) → lts.Need-returns-8 (claims t) (asked t) own.Post
 returns-8 t c =
-    let b = began (c .before .before .before .before .before .before .before .before .before .before .before .before .before .before .before .before .before .before .before .before .before .before .before .begin .ensures) (c .before .before .before .before .before .before .before .before .before .before .before .before .before .before .before .before .before .before .before .before .before .paid .given .1) in
-    let parts = body (b .tag) (c .before .before .before .before .before .before .before .before .before .before .before .before .before .before .before .before .before .before .before .match2 .keys2) (c .before .before .before .before .before .before .before .before .before .before .before .before .before .before .before .before .before .name-of .ensures) (c .before .before .before .before .before .before .before .before .before .before .before .before .body-of .ensures) in
-    rw (c .anew2 .ensures) (substed (forall-does (forall-substed (c .before .before .before .before .before .before .before .before .before .before .before .before .before .before .if1 .left)) b parts (subst-does (c .before .before .before .before .before .before .before .before .before .before .subst-type3 .ensures)) (c .before .before .before .before .before .before .st12 .given .1) (subst-asks (c .before .before .before .before .before .before .before .before .before .before .before .before .before .before .before .before .before .before .before .before .before .before .before .before .before .before .before .pre .1)) (c .before .before .before .forall-made .ensures)))
+    let c₃ = c .before .before .before in let c₆ = c₃ .before .before .before in let c₁₀ = c₆ .before .before .before .before in
+    let c₁₂ = c₁₀ .before .before in let c₁₄ = c₁₂ .before .before in let c₁₇ = c₁₄ .before .before .before in let c₁₉ = c₁₇ .before .before in
+    let c₂₁ = c₁₉ .before .before in let c₂₃ = c₂₁ .before .before in let c₂₇ = c₂₃ .before .before .before .before in
+    let b = began (c₂₃ .begin .ensures) (c₂₁ .paid .given .1) in
+    let parts = body (b .tag) (c₁₉ .match2 .keys2) (c₁₇ .name-of .ensures) (c₁₂ .body-of .ensures) in
+    rw (c .anew2 .ensures) (substed (forall-does (forall-substed (c₁₄ .if1 .left)) b parts (subst-does (c₁₀ .subst-type3 .ensures))
+        (c₆ .st12 .given .1) (subst-asks (c₂₇ .pre .1)) (c₃ .forall-made .ensures)))
 
 same-length-9 : (t : ℕ) → lts.Need-same-length-9 (claims t) (asked t) own.Post
 same-length-9 t c = search needs
 
 returns-9 : (t : ℕ) → lts.Need-returns-9 (claims t) (asked t) own.Post
 returns-9 t c =
-    let b = began (c .before .before .before .before .before .before .before .begin .ensures) (c .before .before .before .before .before .paid .given .1) in
-    let low = no-parts (held (subst-asks (c .before .before .before .before .before .before .before .before .before .before .before .pre .1))) (b .tag) (c .before .before .before .match2 .rest .0 .1) (c .before .before .before .match2 .rest .1) in
-    substed (given-at-once b (name-substed (c .before .before .before .before .before .before .before .before .before .before .before .args .a) (b .tag) (omega (arith, c .before .before .if2 .left)) low (c .chosen .ensures)))
+    let c₂ = c .before .before in let c₃ = c₂ .before in let c₅ = c₃ .before .before in let c₇ = c₅ .before .before in
+    let c₁₁ = c₇ .before .before .before .before in
+    let b = began (c₇ .begin .ensures) (c₅ .paid .given .1) in
+    let low = no-parts (held (subst-asks (c₁₁ .pre .1))) (b .tag) (c₃ .match2 .rest .0 .1) (c₃ .match2 .rest .1) in
+    substed (given-at-once b (name-substed (c₁₁ .args .a) (b .tag) (omega (arith, c₂ .if2 .left)) low (c .chosen .ensures)))
 
 pub +subst-type-spec : {M : Type 1} → statement M
 +subst-type-spec = close measure λ t. lts.spec (claims t)

@@ -19,7 +19,9 @@ occurs-check-requires : tie.Need-occurs-check-requires
 occurs-check-requires c κs = search needs
 
 returns-2 : tie.Need-returns-2
-returns-2 c = absent-by (c .before .before .before .tag .ensures) (c .before .before .if1 .left) (c .before .name-of .ensures) (c .occurs-check .result) (c .occurs-check .ensures)
+returns-2 c =
+    let c₁ = c .before in let c₂ = c₁ .before in let c₃ = c₂ .before in
+    absent-by (c₃ .tag .ensures) (c₂ .if1 .left) (c₁ .name-of .ensures) (c .occurs-check .result) (c .occurs-check .ensures)
 
 pub absent-spec : {M : Type 1} → statement M
 absent-spec =

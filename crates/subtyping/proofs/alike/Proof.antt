@@ -19,22 +19,34 @@ returns-2 : tie.Need-returns-2
 returns-2 c = alike-base (c .before .before .before .tag .ensures) (c .before .before .tag2 .ensures) (c .before .if1 .left) (c .if2 .taken)
 
 returns-3 : tie.Need-returns-3
-returns-3 c = alike-large (c .before .before .before .before .tag .ensures) (c .before .before .before .tag2 .ensures) (c .before .before .if1 .left) (omega arith)
+returns-3 c =
+    let c₂ = c .before .before in let c₃ = c₂ .before in let c₄ = c₃ .before in
+    alike-large (c₄ .tag .ensures) (c₃ .tag2 .ensures) (c₂ .if1 .left) (omega arith)
 
 name-of-requires : tie.Need-name-of-requires
-name-of-requires c κs = held-named (c .before .before .before .before .before .before .before .pre .left) (c .before .before .before .before .tag .ensures) (omega arith) (λ e. omega arith)
+name-of-requires c κs =
+    let c₄ = c .before .before .before .before in let c₇ = c₄ .before .before .before in
+    held-named (c₇ .pre .left) (c₄ .tag .ensures) (omega arith) (λ e. omega arith)
 
 name-of-requires-2 : tie.Need-name-of-requires-2
-name-of-requires-2 c κs = held-named (c .before .before .before .before .before .before .before .before .pre .right) (c .before .before .before .before .tag2 .ensures) (omega arith) (λ e. omega arith)
+name-of-requires-2 c κs =
+    let c₄ = c .before .before .before .before in let c₈ = c₄ .before .before .before .before in
+    held-named (c₈ .pre .right) (c₄ .tag2 .ensures) (omega arith) (λ e. omega arith)
 
 add-result : tie.Need-add-result
 add-result c = search needs
 
 returns-4 : tie.Need-returns-4
-returns-4 c = alike-named (c .before .before .before .before .before .before .before .before .before .tag .ensures) (c .before .before .before .before .before .before .before .before .tag2 .ensures) (c .before .before .before .before .before .before .before .if1 .left) (omega arith) (omega arith) (c .before .before .before .before .name-of .ensures) (c .before .before .before .name-of2 .ensures) (c .if4 .taken)
+returns-4 c =
+    let c₃ = c .before .before .before in let c₄ = c₃ .before in let c₇ = c₄ .before .before .before in let c₈ = c₇ .before in let c₉ = c₈ .before in
+    alike-named (c₉ .tag .ensures) (c₈ .tag2 .ensures) (c₇ .if1 .left) (omega arith) (omega arith) (c₄ .name-of .ensures) (c₃ .name-of2 .ensures)
+        (c .if4 .taken)
 
 returns-5 : tie.Need-returns-5
-returns-5 c = alike-other (c .before .before .before .before .before .before .before .before .before .tag .ensures) (c .before .before .before .before .before .before .before .before .tag2 .ensures) (c .before .before .before .before .before .before .before .if1 .left) (omega arith) (omega arith) (c .before .before .before .before .name-of .ensures) (c .before .before .before .name-of2 .ensures) (c .if4 .left)
+returns-5 c =
+    let c₃ = c .before .before .before in let c₄ = c₃ .before in let c₇ = c₄ .before .before .before in let c₈ = c₇ .before in let c₉ = c₈ .before in
+    alike-other (c₉ .tag .ensures) (c₈ .tag2 .ensures) (c₇ .if1 .left) (omega arith) (omega arith) (c₄ .name-of .ensures) (c₃ .name-of2 .ensures)
+        (c .if4 .left)
 
 pub alike-spec : {M : Type 1} → statement M
 alike-spec =

@@ -18,34 +18,56 @@ tag-requires-2 : tie.Need-tag-requires-2
 tag-requires-2 c κs = search needs
 
 mul-both : tie.Need-mul-both
-mul-both c = let l = codes-small (c .before .before .before .before .before .before .pre) (c .before .tag .ensures) (c .tag2 .ensures) in omega (arith, l .0)
+mul-both c =
+    let c₁ = c .before in let c₆ = c₁ .before .before .before .before .before in
+    let l = codes-small (c₆ .pre) (c₁ .tag .ensures) (c .tag2 .ensures) in omega (arith, l .0)
 
 add-both : tie.Need-add-both
-add-both c = let l = codes-small (c .before .before .before .before .before .before .pre) (c .before .tag .ensures) (c .tag2 .ensures) in omega (arith, l .0, l .1)
+add-both c =
+    let c₁ = c .before in let c₆ = c₁ .before .before .before .before .before in
+    let l = codes-small (c₆ .pre) (c₁ .tag .ensures) (c .tag2 .ensures) in omega (arith, l .0, l .1)
 
 returns-2 : tie.Need-returns-2
-returns-2 c = chosen-arr (c .before .before .before .before .alike .ensures) (c .before .before .before .if1 .left) (c .before .before .tag .ensures) (c .before .tag2 .ensures) (codes-small (c .before .before .before .before .before .before .before .pre) (c .before .before .tag .ensures) (c .before .tag2 .ensures)) (c .if2 .taken)
+returns-2 c =
+    let c₁ = c .before in let c₂ = c₁ .before in let c₃ = c₂ .before in let c₄ = c₃ .before in let c₇ = c₄ .before .before .before in
+    chosen-arr (c₄ .alike .ensures) (c₃ .if1 .left) (c₂ .tag .ensures) (c₁ .tag2 .ensures)
+        (codes-small (c₇ .pre) (c₂ .tag .ensures) (c₁ .tag2 .ensures)) (c .if2 .taken)
 
 returns-3 : tie.Need-returns-3
-returns-3 c = chosen-all-r (c .before .before .before .before .before .alike .ensures) (c .before .before .before .before .if1 .left) (c .before .before .before .tag .ensures) (c .before .before .tag2 .ensures) (c .if3 .taken)
+returns-3 c =
+    let c₂ = c .before .before in let c₃ = c₂ .before in let c₄ = c₃ .before in let c₅ = c₄ .before in
+    chosen-all-r (c₅ .alike .ensures) (c₄ .if1 .left) (c₃ .tag .ensures) (c₂ .tag2 .ensures) (c .if3 .taken)
 
 returns-4 : tie.Need-returns-4
-returns-4 c = chosen-all-l (c .before .before .before .before .before .before .alike .ensures) (c .before .before .before .before .before .if1 .left) (c .before .before .before .before .tag .ensures) (c .before .before .before .tag2 .ensures) (c .before .if3 .left) (c .if4 .taken)
+returns-4 c =
+    let c₁ = c .before in let c₃ = c₁ .before .before in let c₄ = c₃ .before in let c₅ = c₄ .before in let c₆ = c₅ .before in
+    chosen-all-l (c₆ .alike .ensures) (c₅ .if1 .left) (c₄ .tag .ensures) (c₃ .tag2 .ensures) (c₁ .if3 .left) (c .if4 .taken)
 
 absent-requires : tie.Need-absent-requires
 absent-requires c κs = search needs
 
 returns-5 : tie.Need-returns-5
-returns-5 c = chosen-inst-l (c .before .before .before .before .before .before .before .before .alike .ensures) (c .before .before .before .before .before .before .before .if1 .left) (c .before .before .before .before .before .before .tag .ensures) (c .before .before .before .before .before .tag2 .ensures) (c .before .before .before .if3 .left) (c .before .absent .ensures) (c .if5 .taken)
+returns-5 c =
+    let c₁ = c .before in let c₃ = c₁ .before .before in let c₅ = c₃ .before .before in let c₆ = c₅ .before in let c₇ = c₆ .before in
+    let c₈ = c₇ .before in
+    chosen-inst-l (c₈ .alike .ensures) (c₇ .if1 .left) (c₆ .tag .ensures) (c₅ .tag2 .ensures) (c₃ .if3 .left) (c₁ .absent .ensures) (c .if5 .taken)
 
 absent-requires-2 : tie.Need-absent-requires-2
 absent-requires-2 c κs = search needs
 
 returns-6 : tie.Need-returns-6
-returns-6 c = chosen-inst-r (c .before .before .before .before .before .before .before .before .before .before .alike .ensures) (c .before .before .before .before .before .before .before .before .before .if1 .left) (c .before .before .before .before .before .before .before .before .tag .ensures) (c .before .before .before .before .before .before .before .tag2 .ensures) (c .before .before .before .before .before .if3 .left) (c .before .before .before .before .if4 .left) (c .before .before .before .absent .ensures) (c .before .before .if5 .left) (c .before .absent2 .ensures) (c .if6 .taken)
+returns-6 c =
+    let c₁ = c .before in let c₂ = c₁ .before in let c₃ = c₂ .before in let c₄ = c₃ .before in let c₅ = c₄ .before in let c₇ = c₅ .before .before in
+    let c₈ = c₇ .before in let c₉ = c₈ .before in let c₁₀ = c₉ .before in
+    chosen-inst-r (c₁₀ .alike .ensures) (c₉ .if1 .left) (c₈ .tag .ensures) (c₇ .tag2 .ensures) (c₅ .if3 .left) (c₄ .if4 .left) (c₃ .absent .ensures)
+        (c₂ .if5 .left) (c₁ .absent2 .ensures) (c .if6 .taken)
 
 returns-7 : tie.Need-returns-7
-returns-7 c = chosen-neither (c .before .before .before .before .before .before .before .before .before .before .alike .ensures) (c .before .before .before .before .before .before .before .before .before .if1 .left) (c .before .before .before .before .before .before .before .before .tag .ensures) (c .before .before .before .before .before .before .before .tag2 .ensures) (c .before .before .before .before .before .if3 .left) (c .before .before .before .before .if4 .left) (c .before .before .before .absent .ensures) (c .before .before .if5 .left) (c .before .absent2 .ensures) (c .before .before .before .before .before .before .if2 .left) (c .if6 .left)
+returns-7 c =
+    let c₁ = c .before in let c₂ = c₁ .before in let c₃ = c₂ .before in let c₄ = c₃ .before in let c₅ = c₄ .before in let c₆ = c₅ .before in
+    let c₇ = c₆ .before in let c₈ = c₇ .before in let c₉ = c₈ .before in let c₁₀ = c₉ .before in
+    chosen-neither (c₁₀ .alike .ensures) (c₉ .if1 .left) (c₈ .tag .ensures) (c₇ .tag2 .ensures) (c₅ .if3 .left) (c₄ .if4 .left) (c₃ .absent .ensures)
+        (c₂ .if5 .left) (c₁ .absent2 .ensures) (c₆ .if2 .left) (c .if6 .left)
 
 pub choose-spec : {M : Type 1} → statement M
 choose-spec =

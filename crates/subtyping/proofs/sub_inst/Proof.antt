@@ -23,7 +23,9 @@ same-length : tie.Need-same-length
 same-length c = search needs
 
 returns : tie.Need-returns
-returns c = inst-else (c .before .before .before .before .before .before .before .before .before .before .pre) (c .before .before .before .before .before .before .one2 .ensures) (c .before .before .before .before .before .one3 .ensures) (c .before .before .before .inst .ensures) (c .match .keys2)
+returns c =
+    let c₃ = c .before .before .before in let c₅ = c₃ .before .before in let c₆ = c₅ .before in let c₁₀ = c₆ .before .before .before .before in
+    inst-else (c₁₀ .pre) (c₆ .one2 .ensures) (c₅ .one3 .ensures) (c₃ .inst .ensures) (c .match .keys2)
 
 through-requires : tie.Need-through-requires
 through-requires c κs = search needs
@@ -32,7 +34,10 @@ same-length-2 : tie.Need-same-length-2
 same-length-2 c = search needs
 
 returns-2 : tie.Need-returns-2
-returns-2 c = inst-done (c .before .before .before .before .before .before .before .before .before .before .before .before .before .pre) (c .before .before .before .before .before .before .before .before .before .one2 .ensures) (c .before .before .before .before .before .before .before .before .one3 .ensures) (c .before .before .before .before .before .before .inst .ensures) (c .before .before .z .given .1) (c .before .before .before .before .before .before .before .before .before .before .one .ensures) (c .through .ensures)
+returns-2 c =
+    let c₂ = c .before .before in let c₆ = c₂ .before .before .before .before in let c₈ = c₆ .before .before in let c₉ = c₈ .before in
+    let c₁₀ = c₉ .before in let c₁₃ = c₁₀ .before .before .before in
+    inst-done (c₁₃ .pre) (c₉ .one2 .ensures) (c₈ .one3 .ensures) (c₆ .inst .ensures) (c₂ .z .given .1) (c₁₀ .one .ensures) (c .through .ensures)
 
 pub sub-inst-spec : {M : Type 1} → statement M
 sub-inst-spec =

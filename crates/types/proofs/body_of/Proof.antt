@@ -12,7 +12,9 @@ add-body : tie.Need-add-body
 add-body c = search needs
 
 word-requires : tie.Need-word-requires
-word-requires c κs = omega (arith, four-in-work (c .before .before .before .pre .held) (c .if1 .left) (omega (arith, (c .before .before .before .pre) .code)))
+word-requires c κs =
+    let c₃ = c .before .before .before in
+    omega (arith, four-in-work (c₃ .pre .held) (c .if1 .left) (omega (arith, (c₃ .pre) .code)))
 
 returns : tie.Need-returns
 returns c = body-written (c .if1 .taken)

@@ -22,13 +22,18 @@ sat-add-requires-2 : tie.Need-sat-add-requires-2
 sat-add-requires-2 c κs = search needs
 
 put4-requires : tie.Need-put4-requires
-put4-requires c κs = omega (arith, c .before .sat-add2 .ensures, den-small (c .before .before .before .before .before .before .before .before .before .pre .left .den), den-small (c .before .before .before .before .before .before .before .before .before .pre .right .den), c .before .before .before .before .before .before .before .before .before .pre .left .cap, c .before .before .before .before .before .before .before .before .before .pre .room)
+put4-requires c κs =
+    let c₁ = c .before in let c₉ = c₁ .before .before .before .before .before .before .before .before in
+    omega (arith, c₁ .sat-add2 .ensures, den-small (c₉ .pre .left .den), den-small (c₉ .pre .right .den), c₉ .pre .left .cap, c₉ .pre .room)
 
 same-length : tie.Need-same-length
 same-length c = search needs
 
 returns : tie.Need-returns
-returns c = record { keep = c .before .before .put4 .ensures .keep; ref = refl; den = λ A B d e. arrow-put (c .before .before .put4 .ensures) (omega (arith, c .before .before .before .before .sat-add2 .ensures, c .before .before .before .before .before .sat-add .ensures, c .before .before .before .before .before .before .before .before .type-length .ensures .is A d, c .before .before .before .before .before .before .type-length2 .ensures .is B e)) d e }
+returns c =
+    let c₂ = c .before .before in let c₄ = c₂ .before .before in let c₅ = c₄ .before in let c₆ = c₅ .before in let c₈ = c₆ .before .before in
+    record { keep = c₂ .put4 .ensures .keep; ref = refl; den = λ A B d e. arrow-put (c₂ .put4 .ensures)
+        (omega (arith, c₄ .sat-add2 .ensures, c₅ .sat-add .ensures, c₈ .type-length .ensures .is A d, c₆ .type-length2 .ensures .is B e)) d e }
 
 pub put-arrow-spec : {M : Type 1} → statement M
 put-arrow-spec =

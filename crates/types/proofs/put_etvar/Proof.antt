@@ -19,7 +19,9 @@ same-length : tie.Need-same-length
 same-length c = search needs
 
 returns : tie.Need-returns
-returns c = record { keep = c .before .before .put2 .ensures .keep; ref = refl; den = λ q. etvar-put (ty (c .before .before .before .before .before .before .args .a)) refl (c .before .before .put2 .ensures) }
+returns c =
+    let c₂ = c .before .before in let c₆ = c₂ .before .before .before .before in
+    record { keep = c₂ .put2 .ensures .keep; ref = refl; den = λ q. etvar-put (ty (c₆ .args .a)) refl (c₂ .put2 .ensures) }
 
 pub put-etvar-spec : {M : Type 1} → statement M
 put-etvar-spec = tie.close (tie.spec add-made cast-name put2-requires same-length returns)

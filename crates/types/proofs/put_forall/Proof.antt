@@ -20,13 +20,18 @@ sat-add-requires : tie.Need-sat-add-requires
 sat-add-requires c κs = search needs
 
 put4-requires : tie.Need-put4-requires
-put4-requires c κs = omega (arith, c .before .sat-add .ensures, c .before .before .before .before .struct-known .given, den-small (c .before .before .before .before .before .before .before .pre .body .den), c .before .before .before .before .before .before .before .pre .body .cap, c .before .before .before .before .before .before .before .pre .room)
+put4-requires c κs =
+    let c₁ = c .before in let c₄ = c₁ .before .before .before in let c₇ = c₄ .before .before .before in
+    omega (arith, c₁ .sat-add .ensures, c₄ .struct-known .given, den-small (c₇ .pre .body .den), c₇ .pre .body .cap, c₇ .pre .room)
 
 same-length : tie.Need-same-length
 same-length c = search needs
 
 returns : tie.Need-returns
-returns c = record { keep = c .before .before .put4 .ensures .keep; ref = refl; den = λ A d. forall-put (ty (c .before .before .before .before .before .before .before .before .before .before .args .a)) refl (c .before .before .put4 .ensures) (omega (arith, c .before .before .before .before .sat-add .ensures, c .before .before .before .before .before .type-length .ensures .is A d)) d }
+returns c =
+    let c₂ = c .before .before in let c₄ = c₂ .before .before in let c₅ = c₄ .before in let c₁₀ = c₅ .before .before .before .before .before in
+    record { keep = c₂ .put4 .ensures .keep; ref = refl; den = λ A d. forall-put (ty (c₁₀ .args .a)) refl (c₂ .put4 .ensures)
+        (omega (arith, c₄ .sat-add .ensures, c₅ .type-length .ensures .is A d)) d }
 
 pub put-forall-spec : {M : Type 1} → statement M
 put-forall-spec =

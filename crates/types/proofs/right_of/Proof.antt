@@ -18,7 +18,9 @@ add-right : tie.Need-add-right
 add-right c = search needs
 
 word-requires-2 : tie.Need-word-requires-2
-word-requires-2 c κs = omega (arith, four-in-work (c .before .before .before .pre .held) (c .if1 .left) (omega (arith, (c .before .before .before .pre) .code)))
+word-requires-2 c κs =
+    let c₃ = c .before .before .before in
+    omega (arith, four-in-work (c₃ .pre .held) (c .if1 .left) (omega (arith, (c₃ .pre) .code)))
 
 returns : tie.Need-returns
 returns c = right-written (c .before .before .before .before .pre .held .base) (c .before .if1 .taken) (c .word .ensures .0)

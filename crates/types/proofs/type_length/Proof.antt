@@ -24,16 +24,22 @@ record-length-requires : tie.Need-record-length-requires
 record-length-requires c κs = search needs
 
 returns-2 : tie.Need-returns-2
-returns-2 c = length-leaf (c .before .before .before .before .before .before .pre) (c .before .before .tag .ensures) (c .before .if2 .taken) (c .record-length .ensures)
+returns-2 c =
+    let c₁ = c .before in let c₂ = c₁ .before in let c₆ = c₂ .before .before .before .before in
+    length-leaf (c₆ .pre) (c₂ .tag .ensures) (c₁ .if2 .taken) (c .record-length .ensures)
 
 add-length : tie.Need-add-length
 add-length c = search needs
 
 word-requires-2 : tie.Need-word-requires-2
-word-requires-2 c κs = omega (arith, four-in-work (c .before .before .before .before .before .pre) (c .before .before .if1 .left) (omega (arith, c .before .tag .ensures .is (c .before .before .before .before .before .pre .type) (c .before .before .before .before .before .pre .den))))
+word-requires-2 c κs =
+    let c₁ = c .before in let c₂ = c₁ .before in let c₅ = c₂ .before .before .before in
+    omega (arith, four-in-work (c₅ .pre) (c₂ .if1 .left) (omega (arith, c₁ .tag .ensures .is (c₅ .pre .type) (c₅ .pre .den))))
 
 returns-3 : tie.Need-returns-3
-returns-3 c = length-made (c .before .before .before .before .before .before .pre) (c .before .before .before .if1 .left) (c .before .before .tag .ensures) (c .before .if2 .left) (c .word2 .ensures .0)
+returns-3 c =
+    let c₁ = c .before in let c₂ = c₁ .before in let c₃ = c₂ .before in let c₆ = c₃ .before .before .before in
+    length-made (c₆ .pre) (c₃ .if1 .left) (c₂ .tag .ensures) (c₁ .if2 .left) (c .word2 .ensures .0)
 
 pub type-length-spec : {M : Type 1} → statement M
 type-length-spec =

@@ -33,7 +33,9 @@ record-length-requires : tie.Need-record-length-requires
 record-length-requires c κs = search needs
 
 add-end : tie.Need-add-end
-add-end c = omega (arith, end-in-work (c .before .before .before .before .before .pre) (c .before .before .if1 .left) (c .before .tag .ensures) (c .record-length .ensures))
+add-end c =
+    let c₁ = c .before in let c₂ = c₁ .before in let c₅ = c₂ .before .before .before in
+    omega (arith, end-in-work (c₅ .pre) (c₂ .if1 .left) (c₁ .tag .ensures) (c .record-length .ensures))
 
 mul-result-2 : tie.Need-mul-result-2
 mul-result-2 c = omega (arith, record-in-work (c .before .before .before .before .before .pre) (c .before .before .if1 .left))
@@ -45,10 +47,14 @@ part-result-start-2 : tie.Need-part-result-start-2
 part-result-start-2 c = search needs
 
 part-result-end-2 : tie.Need-part-result-end-2
-part-result-end-2 c = end-in-work (c .before .before .before .before .before .pre) (c .before .before .if1 .left) (c .before .tag .ensures) (c .record-length .ensures)
+part-result-end-2 c =
+    let c₁ = c .before in let c₂ = c₁ .before in let c₅ = c₂ .before .before .before in
+    end-in-work (c₅ .pre) (c₂ .if1 .left) (c₁ .tag .ensures) (c .record-length .ensures)
 
 returns-2 : tie.Need-returns-2
-returns-2 c = words-made (c .before .before .before .before .before .before .pre) (c .before .before .before .if1 .left) (c .before .before .tag .ensures) (c .before .record-length .ensures)
+returns-2 c =
+    let c₁ = c .before in let c₂ = c₁ .before in let c₃ = c₂ .before in let c₆ = c₃ .before .before .before in
+    words-made (c₆ .pre) (c₃ .if1 .left) (c₂ .tag .ensures) (c₁ .record-length .ensures)
 
 pub type-words-spec : {M : Type 1} → statement M
 type-words-spec =

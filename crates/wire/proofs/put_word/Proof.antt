@@ -43,7 +43,9 @@ same-length : tie.Need-same-length
 same-length c = search needs
 
 returns : tie.Need-returns
-returns c = rw (c .low4 .ensures, c .before .low3 .ensures, c .before .before .low2 .ensures, c .before .before .before .low .ensures) (put-word _ _ _ (c .before .before .before .before .before .pre))
+returns c =
+    let c₁ = c .before in let c₂ = c₁ .before in let c₃ = c₂ .before in let c₅ = c₃ .before .before in
+    rw (c .low4 .ensures, c₁ .low3 .ensures, c₂ .low2 .ensures, c₃ .low .ensures) (put-word _ _ _ (c₅ .pre))
 
 pub put-word-spec : {M : Type 1} → statement M
 put-word-spec =

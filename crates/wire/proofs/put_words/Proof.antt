@@ -38,18 +38,23 @@ loop-less : tie.Need-loop-less Inv-loop μ-loop
 loop-less c = search needs
 
 loop-again : tie.Need-loop-again Inv-loop μ-loop
-loop-again c = (
-  omega arith,
-  omega arith,
-  c .before .before .put-word .kept .0 ∙ c .before .before .before .before .before .before .loop .inv .2,
-  c .before .before .before .before .before .before .loop .inv .3 ∙ put-step _ _ _ _ (c .before .before .before .before .before .loop-test .taken) ∙ ap (λ (l : List ℕ). putWords l (c .before .before .before .before .before .before .loop .to + 4) (drop (c .before .before .before .before .before .before .loop .i + 1) (c .before .before .before .before .before .before .before .before .before .args .ws .now))) (sym (c .before .before .put-word .ensures)),
-)
+loop-again c =
+    let c₂ = c .before .before in let c₅ = c₂ .before .before .before in let c₆ = c₅ .before in let c₉ = c₆ .before .before .before in
+    (
+      omega arith,
+      omega arith,
+      c₂ .put-word .kept .0 ∙ c₆ .loop .inv .2,
+      c₆ .loop .inv .3 ∙ put-step _ _ _ _ (c₅ .loop-test .taken) ∙ ap (λ (l : List ℕ). putWords l (c₆ .loop .to + 4)
+          (drop (c₆ .loop .i + 1) (c₉ .args .ws .now))) (sym (c₂ .put-word .ensures)),
+    )
 
 same-length : tie.Need-same-length Inv-loop μ-loop
 same-length c = c .before .loop .inv .2
 
 returns : tie.Need-returns Inv-loop μ-loop
-returns c = sym (c .before .loop .inv .3 ∙ put-end _ _ _ _ (c .loop-test .left)) ∙ put-words (c .before .before .before .before .args .ws .now) (c .before .before .before .before .args .dst .now) (c .before .before .before .before .args .at) (c .before .before .before .before .pre)
+returns c =
+    let c₁ = c .before in let c₄ = c₁ .before .before .before in
+    sym (c₁ .loop .inv .3 ∙ put-end _ _ _ _ (c .loop-test .left)) ∙ put-words (c₄ .args .ws .now) (c₄ .args .dst .now) (c₄ .args .at) (c₄ .pre)
 
 pub put-words-spec : {M : Type 1} → statement M
 put-words-spec =

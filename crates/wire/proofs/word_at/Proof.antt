@@ -60,7 +60,9 @@ add-result-3 c = search needs
 
 returns : tie.Need-returns
 unfolding wordAt
-returns c = rw (c .wide4 .ensures .0, c .before .before .wide3 .ensures .0, c .before .before .before .before .wide2 .ensures .0, c .before .before .before .before .before .before .wide .ensures .0)
+returns c =
+    let c₂ = c .before .before in let c₄ = c₂ .before .before in let c₆ = c₄ .before .before in
+    rw (c .wide4 .ensures .0, c₂ .wide3 .ensures .0, c₄ .wide2 .ensures .0, c₆ .wide .ensures .0)
 
 pub word-at-spec : {M : Type 1} → statement M
 word-at-spec =

@@ -33,7 +33,9 @@ loop-less : tie.Need-loop-less Inv-loop μ-loop
 loop-less c = omega (arith, c .before .before .loop-test .taken)
 
 loop-again : tie.Need-loop-again Inv-loop μ-loop
-loop-again c = sum-next (entries-first (c .before .before .loop-test .taken)) (c .before .before .before .loop .inv) (c .before .entry-length .ensures) (c .sum .ensures)
+loop-again c =
+    let c₁ = c .before in let c₂ = c₁ .before in let c₃ = c₂ .before in
+    sum-next (entries-first (c₂ .loop-test .taken)) (c₃ .loop .inv) (c₁ .entry-length .ensures) (c .sum .ensures)
 
 sum-requires-2 : tie.Need-sum-requires-2 Inv-loop μ-loop
 sum-requires-2 c κs = tt

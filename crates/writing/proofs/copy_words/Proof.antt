@@ -47,7 +47,9 @@ same-length : tie.Need-same-length Inv-loop μ-loop
 same-length c = copied-length (c .before .loop .inv .1)
 
 returns : tie.Need-returns Inv-loop μ-loop
-returns c = let n : c .before .loop .i ≡ c .before .before .args .n = omega (arith, c .before .loop .inv .0, c .loop-test .left) in rw n at (c .before .loop .inv .1)
+returns c =
+    let c₁ = c .before in let c₂ = c₁ .before in
+    let n : c₁ .loop .i ≡ c₂ .args .n = omega (arith, c₁ .loop .inv .0, c .loop-test .left) in rw n at (c₁ .loop .inv .1)
 
 pub copy-words-spec : {M : Type 1} → statement M
 copy-words-spec =

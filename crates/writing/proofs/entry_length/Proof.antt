@@ -20,13 +20,18 @@ holds-type-requires : tie.Need-holds-type-requires
 holds-type-requires c κs = search needs
 
 part-length-requires : tie.Need-part-length-requires
-part-length-requires c κs = spelled-second (spelled-as (entry-parts (c .before .before .word .ensures .0) refl (c .before .word2 .ensures .0) (c .holds-type .ensures)) (c .before .before .before .before .before .pre))
+part-length-requires c κs =
+    let c₁ = c .before in let c₂ = c₁ .before in let c₅ = c₂ .before .before .before in
+    spelled-second (spelled-as (entry-parts (c₂ .word .ensures .0) refl (c₁ .word2 .ensures .0) (c .holds-type .ensures)) (c₅ .pre))
 
 sum-requires : tie.Need-sum-requires
 sum-requires c κs = search needs
 
 returns : tie.Need-returns
-returns c = long-as (entry-parts (c .before .before .before .before .word .ensures .0) refl (c .before .before .before .word2 .ensures .0) (c .before .before .holds-type .ensures)) (long-after _ (c .before .part-length .ensures) (omega arith) (c .sum .ensures))
+returns c =
+    let c₁ = c .before in let c₂ = c₁ .before in let c₃ = c₂ .before in let c₄ = c₃ .before in
+    long-as (entry-parts (c₄ .word .ensures .0) refl (c₃ .word2 .ensures .0) (c₂ .holds-type .ensures))
+        (long-after _ (c₁ .part-length .ensures) (omega arith) (c .sum .ensures))
 
 pub entry-length-spec : {M : Type 1} → statement M
 entry-length-spec =

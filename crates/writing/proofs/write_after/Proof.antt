@@ -15,13 +15,17 @@ add-end : tie.Need-add-end
 add-end c = search needs
 
 copy-requires : tie.Need-copy-requires
-copy-requires c κs = let f = after-room (c .before .before .before .before .before .before .before .pre .0) (same-span (c .before .before .before .same .ensures) (c .before .before .if1 .taken)) (c .before .before .before .before .before .before .before .pre .1) in (omega (arith, c .before .before .before .before .before .before .before .pre .1 .below), f .0)
+copy-requires c κs =
+    let c₂ = c .before .before in let c₃ = c₂ .before in let c₇ = c₃ .before .before .before .before in
+    let f = after-room (c₇ .pre .0) (same-span (c₃ .same .ensures) (c₂ .if1 .taken)) (c₇ .pre .1) in (omega (arith, c₇ .pre .1 .below), f .0)
 
 same-length : tie.Need-same-length
 same-length c = search needs
 
 returns : tie.Need-returns
-returns c = after-copied (c .before .before .before .before .before .before .before .before .before .before .pre .0) (same-span (c .before .before .before .before .before .before .same .ensures) (c .before .before .before .before .before .if1 .taken)) (c .before .before .before .before .before .before .before .before .before .before .pre .1) (c .before .before .copy .ensures)
+returns c =
+    let c₂ = c .before .before in let c₅ = c₂ .before .before .before in let c₆ = c₅ .before in let c₁₀ = c₆ .before .before .before .before in
+    after-copied (c₁₀ .pre .0) (same-span (c₆ .same .ensures) (c₅ .if1 .taken)) (c₁₀ .pre .1) (c₂ .copy .ensures)
 
 write-context-requires : tie.Need-write-context-requires
 write-context-requires c κs = search needs
@@ -30,7 +34,9 @@ same-length-2 : tie.Need-same-length-2
 same-length-2 c = search needs
 
 returns-2 : tie.Need-returns-2
-returns-2 c = after-written (c .before .before .before .before .before .before .before .before .before .pre .0) (c .before .before .write-context .ensures)
+returns-2 c =
+    let c₂ = c .before .before in let c₉ = c₂ .before .before .before .before .before .before .before in
+    after-written (c₉ .pre .0) (c₂ .write-context .ensures)
 
 pub write-after-spec : {M : Type 1} → statement M
 write-after-spec =

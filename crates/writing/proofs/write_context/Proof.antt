@@ -10,7 +10,8 @@ use Rattle.writing.proofs.write_context.Statement.{statement}
 use Rattle.writing.proofs.write_context.Tie as tie
 
 abbrev Inv-loop : tie.InvT-loop
-Inv-loop q work top report₀ at first next₀ i₀ left₀ report next i left = Putting q work top (OfEntries q work top i₀ left₀) report₀ next₀ (OfEntries q work top i left) report next
+Inv-loop q work top report₀ at first next₀ i₀ left₀ report next i left =
+    Putting q work top (OfEntries q work top i₀ left₀) report₀ next₀ (OfEntries q work top i left) report next
 
 abbrev μ-loop : tie.MeasureT-loop
 μ-loop q work top report₀ at first next₀ i₀ left₀ report next i left = left
@@ -25,7 +26,9 @@ write-entry-requires : tie.Need-write-entry-requires Inv-loop μ-loop
 write-entry-requires c κs = writable-first (writable-as (entries-first (c .before .loop-test .taken)) (c .before .before .loop .inv .rest))
 
 add-i : tie.Need-add-i Inv-loop μ-loop
-add-i c = let x = writable-first (writable-as (entries-first (c .before .before .before .before .loop-test .taken)) (c .before .before .before .before .before .loop .inv .rest)) .spelled in
+add-i c =
+    let c₄ = c .before .before .before .before in let c₅ = c₄ .before in
+    let x = writable-first (writable-as (entries-first (c₄ .loop-test .taken)) (c₅ .loop .inv .rest)) .spelled in
     omega (arith, x .says .stands .below, x .ground .fits, x .ground .cap)
 
 sub-left : tie.Need-sub-left Inv-loop μ-loop
@@ -35,19 +38,29 @@ loop-less : tie.Need-loop-less Inv-loop μ-loop
 loop-less c = omega (arith, c .before .before .before .before .loop-test .taken)
 
 loop-again : tie.Need-loop-again Inv-loop μ-loop
-loop-again c = put-next (entries-first (c .before .before .before .before .loop-test .taken)) (c .before .before .before .before .before .loop .inv) (c .before .before .write-entry .ensures)
+loop-again c =
+    let c₂ = c .before .before in let c₄ = c₂ .before .before in let c₅ = c₄ .before in
+    put-next (entries-first (c₄ .loop-test .taken)) (c₅ .loop .inv) (c₂ .write-entry .ensures)
 
 sub-count : tie.Need-sub-count Inv-loop μ-loop
-sub-count c = omega (arith, counted (c .before .before .before .before .before .pre) (put-end (entries-none (c .loop-test .left)) (c .before .loop .inv)) .first)
+sub-count c =
+    let c₁ = c .before in let c₅ = c₁ .before .before .before .before in
+    omega (arith, counted (c₅ .pre) (put-end (entries-none (c .loop-test .left)) (c₁ .loop .inv)) .first)
 
 put-requires : tie.Need-put-requires Inv-loop μ-loop
-put-requires c κs = let k = counted (c .before .before .before .before .before .before .pre) (put-end (entries-none (c .before .loop-test .left)) (c .before .before .loop .inv)) in (k .place, omega (arith, k .small))
+put-requires c κs =
+    let c₁ = c .before in let c₂ = c₁ .before in let c₆ = c₂ .before .before .before .before in
+    let k = counted (c₆ .pre) (put-end (entries-none (c₁ .loop-test .left)) (c₂ .loop .inv)) in (k .place, omega (arith, k .small))
 
 same-length : tie.Need-same-length Inv-loop μ-loop
-same-length c = ap length (c .before .before .put .ensures) ∙ simp length-set (counted (c .before .before .before .before .before .before .before .before .before .pre) (put-end (entries-none (c .before .before .before .before .loop-test .left)) (c .before .before .before .before .before .loop .inv)) .long)
+same-length c =
+    let c₂ = c .before .before in let c₄ = c₂ .before .before in let c₅ = c₄ .before in let c₉ = c₅ .before .before .before .before in
+    ap length (c₂ .put .ensures) ∙ simp length-set (counted (c₉ .pre) (put-end (entries-none (c₄ .loop-test .left)) (c₅ .loop .inv)) .long)
 
 returns : tie.Need-returns Inv-loop μ-loop
-returns c = writes-section (put-end (entries-none (c .before .before .before .before .loop-test .left)) (c .before .before .before .before .before .loop .inv)) (c .before .before .put .ensures)
+returns c =
+    let c₂ = c .before .before in let c₄ = c₂ .before .before in let c₅ = c₄ .before in
+    writes-section (put-end (entries-none (c₄ .loop-test .left)) (c₅ .loop .inv)) (c₂ .put .ensures)
 
 pub write-context-spec : {M : Type 1} → statement M
 write-context-spec =

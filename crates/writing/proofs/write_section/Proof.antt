@@ -15,7 +15,9 @@ sub-count : tie.Need-sub-count
 sub-count c = omega (arith, counted (c .before .before .before .before .before .before .before .pre) (c .before .before .write-part .ensures) .first)
 
 put-requires : tie.Need-put-requires
-put-requires c κs = let k = counted (c .before .before .before .before .before .before .before .before .pre) (c .before .before .before .write-part .ensures) in (k .place, omega (arith, k .small))
+put-requires c κs =
+    let c₃ = c .before .before .before in let c₈ = c₃ .before .before .before .before .before in
+    let k = counted (c₈ .pre) (c₃ .write-part .ensures) in (k .place, omega (arith, k .small))
 
 same-length : tie.Need-same-length
 same-length c = search needs

@@ -10,7 +10,9 @@ tag-requires : tie.Need-tag-requires
 tag-requires c κs = type-held (c .before .before .before .pre .spelled)
 
 put-requires : tie.Need-put-requires
-put-requires c κs = (base-room (c .before .before .tag .ensures) (c .before .if1 .taken) (c .before .before .before .before .before .before .pre .spelled .says) (c .before .before .before .before .before .before .pre .room), omega (arith, c .before .if1 .taken))
+put-requires c κs =
+    let c₁ = c .before in let c₂ = c₁ .before in let c₆ = c₂ .before .before .before .before in
+    (base-room (c₂ .tag .ensures) (c₁ .if1 .taken) (c₆ .pre .spelled .says) (c₆ .pre .room), omega (arith, c₁ .if1 .taken))
 
 add-result : tie.Need-add-result
 add-result c = search needs
@@ -19,22 +21,30 @@ same-length : tie.Need-same-length
 same-length c = search needs
 
 returns : tie.Need-returns
-returns c = writes-base (c .before .before .before .before .before .tag .ensures) (c .before .before .before .before .if1 .taken) (c .before .before .put .ensures)
+returns c =
+    let c₂ = c .before .before in let c₄ = c₂ .before .before in let c₅ = c₄ .before in
+    writes-base (c₅ .tag .ensures) (c₄ .if1 .taken) (c₂ .put .ensures)
 
 type-length-requires : tie.Need-type-length-requires
 type-length-requires c κs = search needs
 
 add-end : tie.Need-add-end
-add-end c = omega (arith, copy-room (c .type-length .ensures) (c .before .if2 .taken) (c .before .before .before .before .before .before .before .pre .spelled .says) (c .before .before .before .before .before .before .before .pre .room))
+add-end c =
+    let c₁ = c .before in let c₇ = c₁ .before .before .before .before .before .before in
+    omega (arith, copy-room (c .type-length .ensures) (c₁ .if2 .taken) (c₇ .pre .spelled .says) (c₇ .pre .room))
 
 copy-words-requires : tie.Need-copy-words-requires
-copy-words-requires c κs = let f = copy-room (c .before .type-length .ensures) (c .before .before .if2 .taken) (c .before .before .before .before .before .before .before .before .pre .spelled .says) (c .before .before .before .before .before .before .before .before .pre .room) in (omega (arith, f .0), f .1)
+copy-words-requires c κs =
+    let c₁ = c .before in let c₂ = c₁ .before in let c₈ = c₂ .before .before .before .before .before .before in
+    let f = copy-room (c₁ .type-length .ensures) (c₂ .if2 .taken) (c₈ .pre .spelled .says) (c₈ .pre .room) in (omega (arith, f .0), f .1)
 
 same-length-2 : tie.Need-same-length-2
 same-length-2 c = copied-length (c .before .before .copy-words .ensures)
 
 returns-2 : tie.Need-returns-2
-returns-2 c = writes-copied (c .before .before .before .before .type-length .ensures) (c .before .before .before .before .before .if2 .taken) (c .before .before .copy-words .ensures)
+returns-2 c =
+    let c₂ = c .before .before in let c₄ = c₂ .before .before in let c₅ = c₄ .before in
+    writes-copied (c₄ .type-length .ensures) (c₅ .if2 .taken) (c₂ .copy-words .ensures)
 
 walk-type-requires : tie.Need-walk-type-requires
 walk-type-requires c κs = search needs

@@ -14,7 +14,9 @@ pub app-arr-right-of-requires : (t : ℕ) → app-arr-lts.Need-right-of-requires
 app-arr-right-of-requires t c κs = arr-held (c .before .before .before .before .before .args .m) (c .before .before .before .before .before .pre .1)
 
 pub app-arr-check-requires : (t : ℕ) → app-arr-lts.Need-check-requires (app-arr-claims t) (app-arr-at t) app-arr.Post
-app-arr-check-requires t c κs = may-ask (arr-asks (c .before .before .before .before .before .before .before .args .m) (c .before .before .before .before .before .before .before .pre .1) (c .before .before .before .left-of .ensures) (c .before .right-of .ensures)) (c .before .before .before .before .before .before .before .pre .0)
+app-arr-check-requires t c κs =
+    let c₁ = c .before in let c₃ = c₁ .before .before in let c₇ = c₃ .before .before .before .before in
+    may-ask (arr-asks (c₇ .args .m) (c₇ .pre .1) (c₃ .left-of .ensures) (c₁ .right-of .ensures)) (c₇ .pre .0)
 
 pub app-arr-enum-known-z : (t : ℕ) → app-arr-lts.Need-enum-known-z (app-arr-claims t) (app-arr-at t) app-arr.Post
 app-arr-enum-known-z t c = search needs
@@ -23,7 +25,10 @@ pub app-arr-same-length : (t : ℕ) → app-arr-lts.Need-same-length (app-arr-cl
 app-arr-same-length t c = search needs
 
 pub app-arr-returns : (t : ℕ) → app-arr-lts.Need-returns (app-arr-claims t) (app-arr-at t) app-arr.Post
-app-arr-returns t c = unless (arr-asks (c .before .before .before .before .before .before .before .before .before .before .before .args .m) (c .before .before .before .before .before .before .before .before .before .before .before .pre .1) (c .before .before .before .before .before .before .before .left-of .ensures) (c .before .before .before .before .before .right-of .ensures)) (c .before .before .before .check .ensures) (c .match .keys2)
+app-arr-returns t c =
+    let c₃ = c .before .before .before in let c₅ = c₃ .before .before in let c₇ = c₅ .before .before in
+    let c₁₁ = c₇ .before .before .before .before in
+    unless (arr-asks (c₁₁ .args .m) (c₁₁ .pre .1) (c₇ .left-of .ensures) (c₅ .right-of .ensures)) (c₃ .check .ensures) (c .match .keys2)
 
 pub app-arr-plain-out-requires : (t : ℕ) → app-arr-lts.Need-plain-out-requires (app-arr-claims t) (app-arr-at t) app-arr.Post
 app-arr-plain-out-requires t c κs = tt
@@ -32,4 +37,9 @@ pub app-arr-same-length-2 : (t : ℕ) → app-arr-lts.Need-same-length-2 (app-ar
 app-arr-same-length-2 t c = search needs
 
 pub app-arr-returns-2 : (t : ℕ) → app-arr-lts.Need-returns-2 (app-arr-claims t) (app-arr-at t) app-arr.Post
-app-arr-returns-2 t c = arr-done (c .before .before .before .before .before .before .before .before .before .before .before .before .before .before .before .before .args .m) (c .before .before .before .before .before .before .before .before .before .before .before .before .before .before .before .before .pre .1) (c .before .before .before .before .before .before .before .before .before .before .before .before .left-of .ensures) (c .before .before .before .before .before .before .before .before .before .before .right-of .ensures) (c .before .before .before .before .before .before .before .before .check .ensures) (c .before .before .before .before .z .given .1) (c .plain-out .ensures)
+app-arr-returns-2 t c =
+    let c₄ = c .before .before .before .before in let c₈ = c₄ .before .before .before .before in let c₁₀ = c₈ .before .before in
+    let c₁₂ = c₁₀ .before .before in let c₁₆ = c₁₂ .before .before .before .before in
+    arr-done (c₁₆ .args .m) (c₁₆ .pre .1) (c₁₂ .left-of .ensures) (c₁₀ .right-of .ensures) (c₈ .check .ensures) (c₄ .z .given .1)
+        (c .plain-out .ensures)
+    

@@ -14,7 +14,9 @@ pub app-etvar-part-requires : (t : ℕ) → app-etvar-lts.Need-part-requires (ap
 app-etvar-part-requires t c κs = etvar-part (c .before .before .before .before .before .args .m) (c .before .before .before .before .before .pre .1)
 
 pub app-etvar-check-requires : (t : ℕ) → app-etvar-lts.Need-check-requires (app-etvar-claims t) (app-etvar-at t) app-etvar.Post
-app-etvar-check-requires t c κs = may-ask (etvar-asks (c .before .before .before .before .before .before .before .before .before .before .before .args .m) (c .before .before .before .before .before .before .before .before .before .before .before .pre .1) (c .before .before .before .before .before .before .before .name-of .ensures) (c .before .before .before .before .before .part .ensures)) (c .before .before .before .before .before .before .before .before .before .before .before .pre .0)
+app-etvar-check-requires t c κs =
+    let c₅ = c .before .before .before .before .before in let c₇ = c₅ .before .before in let c₁₁ = c₇ .before .before .before .before in
+    may-ask (etvar-asks (c₁₁ .args .m) (c₁₁ .pre .1) (c₇ .name-of .ensures) (c₅ .part .ensures)) (c₁₁ .pre .0)
 
 pub app-etvar-enum-known-z : (t : ℕ) → app-etvar-lts.Need-enum-known-z (app-etvar-claims t) (app-etvar-at t) app-etvar.Post
 app-etvar-enum-known-z t c = search needs
@@ -23,7 +25,10 @@ pub app-etvar-same-length : (t : ℕ) → app-etvar-lts.Need-same-length (app-et
 app-etvar-same-length t c = search needs
 
 pub app-etvar-returns : (t : ℕ) → app-etvar-lts.Need-returns (app-etvar-claims t) (app-etvar-at t) app-etvar.Post
-app-etvar-returns t c = unless (etvar-asks (c .before .before .before .before .before .before .before .before .before .before .before .before .before .before .before .args .m) (c .before .before .before .before .before .before .before .before .before .before .before .before .before .before .before .pre .1) (c .before .before .before .before .before .before .before .before .before .before .before .name-of .ensures) (c .before .before .before .before .before .before .before .before .before .part .ensures)) (c .before .before .before .check .ensures) (c .match .keys2)
+app-etvar-returns t c =
+    let c₃ = c .before .before .before in let c₉ = c₃ .before .before .before .before .before .before in let c₁₁ = c₉ .before .before in
+    let c₁₅ = c₁₁ .before .before .before .before in
+    unless (etvar-asks (c₁₅ .args .m) (c₁₅ .pre .1) (c₁₁ .name-of .ensures) (c₉ .part .ensures)) (c₃ .check .ensures) (c .match .keys2)
 
 pub app-etvar-plain-out-requires : (t : ℕ) → app-etvar-lts.Need-plain-out-requires (app-etvar-claims t) (app-etvar-at t) app-etvar.Post
 app-etvar-plain-out-requires t c κs = tt
@@ -32,4 +37,9 @@ pub app-etvar-same-length-2 : (t : ℕ) → app-etvar-lts.Need-same-length-2 (ap
 app-etvar-same-length-2 t c = search needs
 
 pub app-etvar-returns-2 : (t : ℕ) → app-etvar-lts.Need-returns-2 (app-etvar-claims t) (app-etvar-at t) app-etvar.Post
-app-etvar-returns-2 t c = etvar-done (c .before .before .before .before .before .before .before .before .before .before .before .before .before .before .before .before .before .before .before .before .args .m) (c .before .before .before .before .before .before .before .before .before .before .before .before .before .before .before .before .before .before .before .before .pre .1) (c .before .before .before .before .before .before .before .before .before .before .before .before .before .before .before .before .name-of .ensures) (c .before .before .before .before .before .before .before .before .before .before .before .before .before .before .part .ensures) (c .before .before .before .before .before .before .before .before .check .ensures) (c .before .before .before .before .z .given .1) (c .plain-out .ensures)
+app-etvar-returns-2 t c =
+    let c₄ = c .before .before .before .before in let c₈ = c₄ .before .before .before .before in
+    let c₁₄ = c₈ .before .before .before .before .before .before in let c₁₆ = c₁₄ .before .before in let c₂₀ = c₁₆ .before .before .before .before in
+    etvar-done (c₂₀ .args .m) (c₂₀ .pre .1) (c₁₆ .name-of .ensures) (c₁₄ .part .ensures) (c₈ .check .ensures) (c₄ .z .given .1)
+        (c .plain-out .ensures)
+    

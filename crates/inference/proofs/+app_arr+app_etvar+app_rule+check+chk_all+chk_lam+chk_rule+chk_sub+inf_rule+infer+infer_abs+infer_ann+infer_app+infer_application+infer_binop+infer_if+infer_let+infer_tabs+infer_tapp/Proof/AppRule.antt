@@ -11,13 +11,19 @@ pub app-rule-tag-requires : (t : ℕ) → app-rule-lts.Need-tag-requires (app-ru
 app-rule-tag-requires t c κs = app-held (c .before .before .before .pre .1)
 
 pub app-rule-app-arr-requires : (t : ℕ) → app-rule-lts.Need-app-arr-requires (app-rule-claims t) (app-rule-at t) app-rule.Post
-app-rule-app-arr-requires t c κs = (omega (arith, c .before .before .before .before .before .before .pre .0), app-arm (c .before .before .before .before .before .before .pre .1) (c .before .before .tag .ensures) 5 (c .before .match .keys1))
+app-rule-app-arr-requires t c κs =
+    let c₁ = c .before in let c₂ = c₁ .before in let c₆ = c₂ .before .before .before .before in
+    (omega (arith, c₆ .pre .0), app-arm (c₆ .pre .1) (c₂ .tag .ensures) 5 (c₁ .match .keys1))
 
 pub app-rule-app-etvar-requires : (t : ℕ) → app-rule-lts.Need-app-etvar-requires (app-rule-claims t) (app-rule-at t) app-rule.Post
-app-rule-app-etvar-requires t c κs = (omega (arith, c .before .before .before .before .before .before .pre .0), app-arm (c .before .before .before .before .before .before .pre .1) (c .before .before .tag .ensures) 4 (c .before .match .keys2))
+app-rule-app-etvar-requires t c κs =
+    let c₁ = c .before in let c₂ = c₁ .before in let c₆ = c₂ .before .before .before .before in
+    (omega (arith, c₆ .pre .0), app-arm (c₆ .pre .1) (c₂ .tag .ensures) 4 (c₁ .match .keys2))
 
 pub app-rule-refuse-app-requires : (t : ℕ) → app-rule-lts.Need-refuse-app-requires (app-rule-claims t) (app-rule-at t) app-rule.Post
-app-rule-refuse-app-requires t c κs = app-refuse (c .before .before .before .before .before .before .pre .1) (c .before .before .tag .ensures) (c .before .match .rest .0 .1) (c .before .match .rest .1)
+app-rule-refuse-app-requires t c κs =
+    let c₁ = c .before in let c₂ = c₁ .before in let c₆ = c₂ .before .before .before .before in
+    app-refuse (c₆ .pre .1) (c₂ .tag .ensures) (c₁ .match .rest .0 .1) (c₁ .match .rest .1)
 
 pub app-rule-same-length : (t : ℕ) → app-rule-lts.Need-same-length (app-rule-claims t) (app-rule-at t) app-rule.Post
 app-rule-same-length t c = search needs

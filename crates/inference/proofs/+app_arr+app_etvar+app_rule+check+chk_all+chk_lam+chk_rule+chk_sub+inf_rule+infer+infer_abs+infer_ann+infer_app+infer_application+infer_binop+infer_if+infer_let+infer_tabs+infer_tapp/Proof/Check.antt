@@ -21,7 +21,10 @@ pub check-returns : (t : ℕ) → check-lts.Need-returns (check-claims t) (check
 check-returns t c = whole-spent (c .before .before .enter .ensures) (c .enum-told .given .1)
 
 pub check-chk-rule-requires : (t : ℕ) → check-lts.Need-chk-rule-requires (check-claims t) (check-at t) check.Post
-check-chk-rule-requires t c κs = (omega (arith, c .before .before .before .before .before .before .before .pre .0, whole-less (c .before .before .before .before .before .before .before .pre .1) (c .before .before .before .before .enter .ensures) (c .before .before .inner .given .1)), whole-rule (c .before .before .before .before .before .before .before .pre .1) (c .before .before .before .before .enter .ensures) (c .before .before .inner .given .1))
+check-chk-rule-requires t c κs =
+    let c₂ = c .before .before in let c₄ = c₂ .before .before in let c₇ = c₄ .before .before .before in
+    (omega (arith, c₇ .pre .0, whole-less (c₇ .pre .1) (c₄ .enter .ensures) (c₂ .inner .given .1)), whole-rule (c₇ .pre .1) (c₄ .enter .ensures)
+        (c₂ .inner .given .1))
 
 pub check-enum-known-z : (t : ℕ) → check-lts.Need-enum-known-z (check-claims t) (check-at t) check.Post
 check-enum-known-z t c = search needs
@@ -30,13 +33,23 @@ pub check-same-length : (t : ℕ) → check-lts.Need-same-length (check-claims t
 check-same-length t c = search needs
 
 pub check-returns-2 : (t : ℕ) → check-lts.Need-returns-2 (check-claims t) (check-at t) check.Post
-check-returns-2 t c = whole-else (c .before .before .before .before .before .before .before .before .before .before .before .pre .1) (c .before .before .before .before .before .before .before .before .enter .ensures) (c .before .before .before .before .before .before .inner .given .1) (c .before .before .before .chk-rule .ensures) (c .match2 .keys2)
+check-returns-2 t c =
+    let c₃ = c .before .before .before in let c₆ = c₃ .before .before .before in let c₈ = c₆ .before .before in
+    let c₁₁ = c₈ .before .before .before in
+    whole-else (c₁₁ .pre .1) (c₈ .enter .ensures) (c₆ .inner .given .1) (c₃ .chk-rule .ensures) (c .match2 .keys2)
 
 pub check-leave-requires : (t : ℕ) → check-lts.Need-leave-requires (check-claims t) (check-at t) check.Post
-check-leave-requires t c κs = whole-leave (c .before .before .before .before .before .before .before .before .before .before .before .before .before .before .pre .1) (c .before .before .before .before .before .before .before .before .before .before .before .enter .ensures) (c .before .before .before .before .before .before .before .before .before .inner .given .1) (c .before .before .before .before .before .before .chk-rule .ensures) (c .before .before .z .given .1)
+check-leave-requires t c κs =
+    let c₂ = c .before .before in let c₆ = c₂ .before .before .before .before in let c₉ = c₆ .before .before .before in
+    let c₁₁ = c₉ .before .before in let c₁₄ = c₁₁ .before .before .before in
+    whole-leave (c₁₄ .pre .1) (c₁₁ .enter .ensures) (c₉ .inner .given .1) (c₆ .chk-rule .ensures) (c₂ .z .given .1)
 
 pub check-same-length-2 : (t : ℕ) → check-lts.Need-same-length-2 (check-claims t) (check-at t) check.Post
 check-same-length-2 t c = search needs
 
 pub check-returns-3 : (t : ℕ) → check-lts.Need-returns-3 (check-claims t) (check-at t) check.Post
-check-returns-3 t c = whole-done (c .before .before .before .before .before .before .before .before .before .before .before .before .before .before .before .before .before .pre .1) (c .before .before .before .before .before .before .before .before .before .before .before .before .before .before .enter .ensures) (c .before .before .before .before .before .before .before .before .before .before .before .before .inner .given .1) (c .before .before .before .before .before .before .before .before .before .chk-rule .ensures) (c .before .before .before .before .before .z .given .1) (c .before .before .leave .ensures)
+check-returns-3 t c =
+    let c₂ = c .before .before in let c₅ = c₂ .before .before .before in let c₉ = c₅ .before .before .before .before in
+    let c₁₂ = c₉ .before .before .before in let c₁₄ = c₁₂ .before .before in let c₁₇ = c₁₄ .before .before .before in
+    whole-done (c₁₇ .pre .1) (c₁₄ .enter .ensures) (c₁₂ .inner .given .1) (c₉ .chk-rule .ensures) (c₅ .z .given .1) (c₂ .leave .ensures)
+    

@@ -19,16 +19,28 @@ pub chk-rule-check-choice-requires : (t : ℕ) → chk-rule-lts.Need-check-choic
 chk-rule-check-choice-requires t c κs = tt
 
 pub chk-rule-chk-lam-requires : (t : ℕ) → chk-rule-lts.Need-chk-lam-requires (chk-rule-claims t) (chk-rule-at t) chk-rule.Post
-chk-rule-chk-lam-requires t c κs = (omega (arith, c .before .before .before .before .before .before .before .before .pre .0), check-arm (c .before .before .before .before .before .before .before .before .pre .1) (c .before .before .before .before .before .word .ensures .0) (c .before .before .before .tag .ensures) (c .before .before .check-choice .ensures) 19 (c .before .match .keys1))
+chk-rule-chk-lam-requires t c κs =
+    let c₁ = c .before in let c₂ = c₁ .before in let c₃ = c₂ .before in let c₅ = c₃ .before .before in let c₈ = c₅ .before .before .before in
+    (omega (arith, c₈ .pre .0), check-arm (c₈ .pre .1) (c₅ .word .ensures .0) (c₃ .tag .ensures) (c₂ .check-choice .ensures) 19 (c₁ .match .keys1))
 
 pub chk-rule-chk-all-requires : (t : ℕ) → chk-rule-lts.Need-chk-all-requires (chk-rule-claims t) (chk-rule-at t) chk-rule.Post
-chk-rule-chk-all-requires t c κs = (omega (arith, c .before .before .before .before .before .before .before .before .pre .0), check-arm (c .before .before .before .before .before .before .before .before .pre .1) (c .before .before .before .before .before .word .ensures .0) (c .before .before .before .tag .ensures) (c .before .before .check-choice .ensures) 20 (c .before .match .keys2))
+chk-rule-chk-all-requires t c κs =
+    let c₁ = c .before in let c₂ = c₁ .before in let c₃ = c₂ .before in let c₅ = c₃ .before .before in let c₈ = c₅ .before .before .before in
+    (omega (arith, c₈ .pre .0), check-arm (c₈ .pre .1) (c₅ .word .ensures .0) (c₃ .tag .ensures) (c₂ .check-choice .ensures) 20 (c₁ .match .keys2))
 
 pub chk-rule-check-lit-requires : (t : ℕ) → chk-rule-lts.Need-check-lit-requires (chk-rule-claims t) (chk-rule-at t) chk-rule.Post
-chk-rule-check-lit-requires t c κs = (check-arm (c .before .before .before .before .before .before .before .before .before .before .pre .1) (c .before .before .before .before .before .before .before .word .ensures .0) (c .before .before .before .before .before .tag .ensures) (c .before .before .before .before .check-choice .ensures) _ refl, omega (arith, c .before .if2 .taken))
+chk-rule-check-lit-requires t c κs =
+    let c₁ = c .before in let c₄ = c₁ .before .before .before in let c₅ = c₄ .before in let c₇ = c₅ .before .before in
+    let c₁₀ = c₇ .before .before .before in
+    (check-arm (c₁₀ .pre .1) (c₇ .word .ensures .0) (c₅ .tag .ensures) (c₄ .check-choice .ensures) _ refl, omega (arith, c₁ .if2 .taken))
 
 pub chk-rule-chk-sub-requires : (t : ℕ) → chk-rule-lts.Need-chk-sub-requires (chk-rule-claims t) (chk-rule-at t) chk-rule.Post
-chk-rule-chk-sub-requires t c κs = (omega (arith, c .before .before .before .before .before .before .before .before .before .pre .0), check-arm (c .before .before .before .before .before .before .before .before .before .pre .1) (c .before .before .before .before .before .before .word .ensures .0) (c .before .before .before .before .tag .ensures) (c .before .before .before .check-choice .ensures) 21 (⊎-elim (λ w. omega (arith, w .taken, choices (c .before .before .before .check-choice .ensures))) (λ w. omega (arith, w .1 .left, c .before .before .match .rest, choices (c .before .before .before .check-choice .ensures))) (c .before .if1 .came)))
+chk-rule-chk-sub-requires t c κs =
+    let c₁ = c .before in let c₂ = c₁ .before in let c₃ = c₂ .before in let c₄ = c₃ .before in let c₆ = c₄ .before .before in
+    let c₉ = c₆ .before .before .before in
+    (omega (arith, c₉ .pre .0), check-arm (c₉ .pre .1) (c₆ .word .ensures .0) (c₄ .tag .ensures) (c₃ .check-choice .ensures) 21
+        (⊎-elim (λ w. omega (arith, w .taken, choices (c₃ .check-choice .ensures)))
+        (λ w. omega (arith, w .1 .left, c₂ .match .rest, choices (c₃ .check-choice .ensures))) (c₁ .if1 .came)))
 
 pub chk-rule-same-length : (t : ℕ) → chk-rule-lts.Need-same-length (chk-rule-claims t) (chk-rule-at t) chk-rule.Post
 chk-rule-same-length t c = search needs
@@ -46,7 +58,9 @@ pub chk-rule-same-length-3 : (t : ℕ) → chk-rule-lts.Need-same-length-3 (chk-
 chk-rule-same-length-3 t c = search needs
 
 pub chk-rule-returns-3 : (t : ℕ) → chk-rule-lts.Need-returns-3 (chk-rule-claims t) (chk-rule-at t) chk-rule.Post
-chk-rule-returns-3 t c = c .check-lit .ensures .in-mode (c .before .before .before .before .before .before .before .before .before .before .before .args .m)
+chk-rule-returns-3 t c =
+    let c₁₁ = c .before .before .before .before .before .before .before .before .before .before .before in
+    c .check-lit .ensures .in-mode (c₁₁ .args .m)
 
 pub chk-rule-same-length-4 : (t : ℕ) → chk-rule-lts.Need-same-length-4 (chk-rule-claims t) (chk-rule-at t) chk-rule.Post
 chk-rule-same-length-4 t c = search needs

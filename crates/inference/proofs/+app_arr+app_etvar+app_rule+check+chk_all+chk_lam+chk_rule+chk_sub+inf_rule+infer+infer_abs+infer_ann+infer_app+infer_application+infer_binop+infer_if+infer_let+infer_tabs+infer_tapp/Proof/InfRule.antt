@@ -11,37 +11,59 @@ pub inf-rule-word-requires : (t : ℕ) → inf-rule-lts.Need-word-requires (inf-
 inf-rule-word-requires t c κs = infer-within (c .before .before .pre .1)
 
 pub inf-rule-infer-var-requires : (t : ℕ) → inf-rule-lts.Need-infer-var-requires (inf-rule-claims t) (inf-rule-at t) inf-rule.Post
-inf-rule-infer-var-requires t c κs = infer-arm (c .before .before .before .before .before .pre .1) (c .before .before .word .ensures .0) 16 (c .before .match .keys1)
+inf-rule-infer-var-requires t c κs =
+    let c₁ = c .before in let c₂ = c₁ .before in let c₅ = c₂ .before .before .before in
+    infer-arm (c₅ .pre .1) (c₂ .word .ensures .0) 16 (c₁ .match .keys1)
 
 pub inf-rule-infer-ann-requires : (t : ℕ) → inf-rule-lts.Need-infer-ann-requires (inf-rule-claims t) (inf-rule-at t) inf-rule.Post
-inf-rule-infer-ann-requires t c κs = (omega (arith, c .before .before .before .before .before .pre .0), infer-arm (c .before .before .before .before .before .pre .1) (c .before .before .word .ensures .0) 21 (c .before .match .keys2))
+inf-rule-infer-ann-requires t c κs =
+    let c₁ = c .before in let c₂ = c₁ .before in let c₅ = c₂ .before .before .before in
+    (omega (arith, c₅ .pre .0), infer-arm (c₅ .pre .1) (c₂ .word .ensures .0) 21 (c₁ .match .keys2))
 
 pub inf-rule-infer-lit-int-requires : (t : ℕ) → inf-rule-lts.Need-infer-lit-int-requires (inf-rule-claims t) (inf-rule-at t) inf-rule.Post
-inf-rule-infer-lit-int-requires t c κs = infer-arm (c .before .before .before .before .before .pre .1) (c .before .before .word .ensures .0) 22 (c .before .match .keys3)
+inf-rule-infer-lit-int-requires t c κs =
+    let c₁ = c .before in let c₂ = c₁ .before in let c₅ = c₂ .before .before .before in
+    infer-arm (c₅ .pre .1) (c₂ .word .ensures .0) 22 (c₁ .match .keys3)
 
 pub inf-rule-infer-lit-bool-requires : (t : ℕ) → inf-rule-lts.Need-infer-lit-bool-requires (inf-rule-claims t) (inf-rule-at t) inf-rule.Post
-inf-rule-infer-lit-bool-requires t c κs = infer-arm (c .before .before .before .before .before .pre .1) (c .before .before .word .ensures .0) 23 (c .before .match .keys4)
+inf-rule-infer-lit-bool-requires t c κs =
+    let c₁ = c .before in let c₂ = c₁ .before in let c₅ = c₂ .before .before .before in
+    infer-arm (c₅ .pre .1) (c₂ .word .ensures .0) 23 (c₁ .match .keys4)
 
 pub inf-rule-infer-abs-requires : (t : ℕ) → inf-rule-lts.Need-infer-abs-requires (inf-rule-claims t) (inf-rule-at t) inf-rule.Post
-inf-rule-infer-abs-requires t c κs = (omega (arith, c .before .before .before .before .before .pre .0), infer-arm (c .before .before .before .before .before .pre .1) (c .before .before .word .ensures .0) 18 (c .before .match .keys5))
+inf-rule-infer-abs-requires t c κs =
+    let c₁ = c .before in let c₂ = c₁ .before in let c₅ = c₂ .before .before .before in
+    (omega (arith, c₅ .pre .0), infer-arm (c₅ .pre .1) (c₂ .word .ensures .0) 18 (c₁ .match .keys5))
 
 pub inf-rule-infer-application-requires : (t : ℕ) → inf-rule-lts.Need-infer-application-requires (inf-rule-claims t) (inf-rule-at t) inf-rule.Post
-inf-rule-infer-application-requires t c κs = (omega (arith, c .before .before .before .before .before .pre .0), infer-arm (c .before .before .before .before .before .pre .1) (c .before .before .word .ensures .0) 17 (c .before .match .keys6))
+inf-rule-infer-application-requires t c κs =
+    let c₁ = c .before in let c₂ = c₁ .before in let c₅ = c₂ .before .before .before in
+    (omega (arith, c₅ .pre .0), infer-arm (c₅ .pre .1) (c₂ .word .ensures .0) 17 (c₁ .match .keys6))
 
 pub inf-rule-infer-tabs-requires : (t : ℕ) → inf-rule-lts.Need-infer-tabs-requires (inf-rule-claims t) (inf-rule-at t) inf-rule.Post
-inf-rule-infer-tabs-requires t c κs = (omega (arith, c .before .before .before .before .before .pre .0), infer-arm (c .before .before .before .before .before .pre .1) (c .before .before .word .ensures .0) 20 (c .before .match .keys7))
+inf-rule-infer-tabs-requires t c κs =
+    let c₁ = c .before in let c₂ = c₁ .before in let c₅ = c₂ .before .before .before in
+    (omega (arith, c₅ .pre .0), infer-arm (c₅ .pre .1) (c₂ .word .ensures .0) 20 (c₁ .match .keys7))
 
 pub inf-rule-infer-tapp-requires : (t : ℕ) → inf-rule-lts.Need-infer-tapp-requires (inf-rule-claims t) (inf-rule-at t) inf-rule.Post
-inf-rule-infer-tapp-requires t c κs = (omega (arith, c .before .before .before .before .before .pre .0), infer-arm (c .before .before .before .before .before .pre .1) (c .before .before .word .ensures .0) 19 (c .before .match .keys8))
+inf-rule-infer-tapp-requires t c κs =
+    let c₁ = c .before in let c₂ = c₁ .before in let c₅ = c₂ .before .before .before in
+    (omega (arith, c₅ .pre .0), infer-arm (c₅ .pre .1) (c₂ .word .ensures .0) 19 (c₁ .match .keys8))
 
 pub inf-rule-infer-let-requires : (t : ℕ) → inf-rule-lts.Need-infer-let-requires (inf-rule-claims t) (inf-rule-at t) inf-rule.Post
-inf-rule-infer-let-requires t c κs = (omega (arith, c .before .before .before .before .before .pre .0), infer-arm (c .before .before .before .before .before .pre .1) (c .before .before .word .ensures .0) 24 (c .before .match .keys9))
+inf-rule-infer-let-requires t c κs =
+    let c₁ = c .before in let c₂ = c₁ .before in let c₅ = c₂ .before .before .before in
+    (omega (arith, c₅ .pre .0), infer-arm (c₅ .pre .1) (c₂ .word .ensures .0) 24 (c₁ .match .keys9))
 
 pub inf-rule-infer-if-requires : (t : ℕ) → inf-rule-lts.Need-infer-if-requires (inf-rule-claims t) (inf-rule-at t) inf-rule.Post
-inf-rule-infer-if-requires t c κs = (omega (arith, c .before .before .before .before .before .pre .0), infer-arm (c .before .before .before .before .before .pre .1) (c .before .before .word .ensures .0) 25 (c .before .match .keys10))
+inf-rule-infer-if-requires t c κs =
+    let c₁ = c .before in let c₂ = c₁ .before in let c₅ = c₂ .before .before .before in
+    (omega (arith, c₅ .pre .0), infer-arm (c₅ .pre .1) (c₂ .word .ensures .0) 25 (c₁ .match .keys10))
 
 pub inf-rule-infer-binop-requires : (t : ℕ) → inf-rule-lts.Need-infer-binop-requires (inf-rule-claims t) (inf-rule-at t) inf-rule.Post
-inf-rule-infer-binop-requires t c κs = (omega (arith, c .before .before .before .before .before .pre .0), infer-last (c .before .before .before .before .before .pre .1) (c .before .before .word .ensures .0) (c .before .match .rest))
+inf-rule-infer-binop-requires t c κs =
+    let c₁ = c .before in let c₂ = c₁ .before in let c₅ = c₂ .before .before .before in
+    (omega (arith, c₅ .pre .0), infer-last (c₅ .pre .1) (c₂ .word .ensures .0) (c₁ .match .rest))
 
 pub inf-rule-same-length : (t : ℕ) → inf-rule-lts.Need-same-length (inf-rule-claims t) (inf-rule-at t) inf-rule.Post
 inf-rule-same-length t c = search needs

@@ -21,7 +21,10 @@ pub infer-returns : (t : ℕ) → infer-lts.Need-returns (infer-claims t) (infer
 infer-returns t c = whole-spent (c .before .before .enter .ensures) (c .enum-told .given .1)
 
 pub infer-inf-rule-requires : (t : ℕ) → infer-lts.Need-inf-rule-requires (infer-claims t) (infer-at t) infer.Post
-infer-inf-rule-requires t c κs = (omega (arith, c .before .before .before .before .before .before .before .pre .0, whole-less (c .before .before .before .before .before .before .before .pre .1) (c .before .before .before .before .enter .ensures) (c .before .before .inner .given .1)), whole-rule (c .before .before .before .before .before .before .before .pre .1) (c .before .before .before .before .enter .ensures) (c .before .before .inner .given .1))
+infer-inf-rule-requires t c κs =
+    let c₂ = c .before .before in let c₄ = c₂ .before .before in let c₇ = c₄ .before .before .before in
+    (omega (arith, c₇ .pre .0, whole-less (c₇ .pre .1) (c₄ .enter .ensures) (c₂ .inner .given .1)), whole-rule (c₇ .pre .1) (c₄ .enter .ensures)
+        (c₂ .inner .given .1))
 
 pub infer-enum-known-z : (t : ℕ) → infer-lts.Need-enum-known-z (infer-claims t) (infer-at t) infer.Post
 infer-enum-known-z t c = search needs
@@ -30,13 +33,23 @@ pub infer-same-length : (t : ℕ) → infer-lts.Need-same-length (infer-claims t
 infer-same-length t c = search needs
 
 pub infer-returns-2 : (t : ℕ) → infer-lts.Need-returns-2 (infer-claims t) (infer-at t) infer.Post
-infer-returns-2 t c = whole-else (c .before .before .before .before .before .before .before .before .before .before .before .pre .1) (c .before .before .before .before .before .before .before .before .enter .ensures) (c .before .before .before .before .before .before .inner .given .1) (c .before .before .before .inf-rule .ensures) (c .match2 .keys2)
+infer-returns-2 t c =
+    let c₃ = c .before .before .before in let c₆ = c₃ .before .before .before in let c₈ = c₆ .before .before in
+    let c₁₁ = c₈ .before .before .before in
+    whole-else (c₁₁ .pre .1) (c₈ .enter .ensures) (c₆ .inner .given .1) (c₃ .inf-rule .ensures) (c .match2 .keys2)
 
 pub infer-leave-requires : (t : ℕ) → infer-lts.Need-leave-requires (infer-claims t) (infer-at t) infer.Post
-infer-leave-requires t c κs = whole-leave (c .before .before .before .before .before .before .before .before .before .before .before .before .before .before .pre .1) (c .before .before .before .before .before .before .before .before .before .before .before .enter .ensures) (c .before .before .before .before .before .before .before .before .before .inner .given .1) (c .before .before .before .before .before .before .inf-rule .ensures) (c .before .before .z .given .1)
+infer-leave-requires t c κs =
+    let c₂ = c .before .before in let c₆ = c₂ .before .before .before .before in let c₉ = c₆ .before .before .before in
+    let c₁₁ = c₉ .before .before in let c₁₄ = c₁₁ .before .before .before in
+    whole-leave (c₁₄ .pre .1) (c₁₁ .enter .ensures) (c₉ .inner .given .1) (c₆ .inf-rule .ensures) (c₂ .z .given .1)
 
 pub infer-same-length-2 : (t : ℕ) → infer-lts.Need-same-length-2 (infer-claims t) (infer-at t) infer.Post
 infer-same-length-2 t c = search needs
 
 pub infer-returns-3 : (t : ℕ) → infer-lts.Need-returns-3 (infer-claims t) (infer-at t) infer.Post
-infer-returns-3 t c = whole-done (c .before .before .before .before .before .before .before .before .before .before .before .before .before .before .before .before .before .pre .1) (c .before .before .before .before .before .before .before .before .before .before .before .before .before .before .enter .ensures) (c .before .before .before .before .before .before .before .before .before .before .before .before .inner .given .1) (c .before .before .before .before .before .before .before .before .before .inf-rule .ensures) (c .before .before .before .before .before .z .given .1) (c .before .before .leave .ensures)
+infer-returns-3 t c =
+    let c₂ = c .before .before in let c₅ = c₂ .before .before .before in let c₉ = c₅ .before .before .before .before in
+    let c₁₂ = c₉ .before .before .before in let c₁₄ = c₁₂ .before .before in let c₁₇ = c₁₄ .before .before .before in
+    whole-done (c₁₇ .pre .1) (c₁₄ .enter .ensures) (c₁₂ .inner .given .1) (c₉ .inf-rule .ensures) (c₅ .z .given .1) (c₂ .leave .ensures)
+    

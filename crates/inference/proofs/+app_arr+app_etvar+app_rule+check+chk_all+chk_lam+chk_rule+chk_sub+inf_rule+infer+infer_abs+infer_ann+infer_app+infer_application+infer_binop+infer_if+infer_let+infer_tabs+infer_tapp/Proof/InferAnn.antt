@@ -19,7 +19,9 @@ pub infer-ann-word-requires : (t : ℕ) → infer-ann-lts.Need-word-requires (in
 infer-ann-word-requires t c κs = table 1 (omega arith) (c .before .before .before .pre .1)
 
 pub infer-ann-check-requires : (t : ℕ) → infer-ann-lts.Need-check-requires (infer-ann-claims t) (infer-ann-at t) infer-ann.Post
-infer-ann-check-requires t c κs = may-ask (ann-asks (c .before .before .before .before .before .args .m) (c .before .before .before .before .before .pre .1) (c .before .word .ensures .0)) (c .before .before .before .before .before .pre .0)
+infer-ann-check-requires t c κs =
+    let c₁ = c .before in let c₅ = c₁ .before .before .before .before in
+    may-ask (ann-asks (c₅ .args .m) (c₅ .pre .1) (c₁ .word .ensures .0)) (c₅ .pre .0)
 
 pub infer-ann-enum-known-z : (t : ℕ) → infer-ann-lts.Need-enum-known-z (infer-ann-claims t) (infer-ann-at t) infer-ann.Post
 infer-ann-enum-known-z t c = search needs
@@ -28,7 +30,9 @@ pub infer-ann-same-length : (t : ℕ) → infer-ann-lts.Need-same-length (infer-
 infer-ann-same-length t c = search needs
 
 pub infer-ann-returns : (t : ℕ) → infer-ann-lts.Need-returns (infer-ann-claims t) (infer-ann-at t) infer-ann.Post
-infer-ann-returns t c = unless (ann-asks (c .before .before .before .before .before .before .before .before .before .args .m) (c .before .before .before .before .before .before .before .before .before .pre .1) (c .before .before .before .before .before .word .ensures .0)) (c .before .before .before .check .ensures) (c .match .keys2)
+infer-ann-returns t c =
+    let c₃ = c .before .before .before in let c₅ = c₃ .before .before in let c₉ = c₅ .before .before .before .before in
+    unless (ann-asks (c₉ .args .m) (c₉ .pre .1) (c₅ .word .ensures .0)) (c₃ .check .ensures) (c .match .keys2)
 
 pub infer-ann-plain-out-requires : (t : ℕ) → infer-ann-lts.Need-plain-out-requires (infer-ann-claims t) (infer-ann-at t) infer-ann.Post
 infer-ann-plain-out-requires t c κs = tt
@@ -37,4 +41,8 @@ pub infer-ann-same-length-2 : (t : ℕ) → infer-ann-lts.Need-same-length-2 (in
 infer-ann-same-length-2 t c = search needs
 
 pub infer-ann-returns-2 : (t : ℕ) → infer-ann-lts.Need-returns-2 (infer-ann-claims t) (infer-ann-at t) infer-ann.Post
-infer-ann-returns-2 t c = ann-done (c .before .before .before .before .before .before .before .before .before .before .before .before .before .before .args .m) (c .before .before .before .before .before .before .before .before .before .before .before .before .before .before .pre .1) (c .before .before .before .before .before .before .before .before .before .before .word .ensures .0) (c .before .before .before .before .before .before .before .before .check .ensures) (c .before .before .before .before .z .given .1) (c .plain-out .ensures)
+infer-ann-returns-2 t c =
+    let c₄ = c .before .before .before .before in let c₈ = c₄ .before .before .before .before in let c₁₀ = c₈ .before .before in
+    let c₁₄ = c₁₀ .before .before .before .before in
+    ann-done (c₁₄ .args .m) (c₁₄ .pre .1) (c₁₀ .word .ensures .0) (c₈ .check .ensures) (c₄ .z .given .1) (c .plain-out .ensures)
+    

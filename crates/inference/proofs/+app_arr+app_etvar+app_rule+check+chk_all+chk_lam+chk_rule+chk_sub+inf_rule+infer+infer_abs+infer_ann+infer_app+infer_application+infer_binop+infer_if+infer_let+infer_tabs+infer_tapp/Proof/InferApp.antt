@@ -21,7 +21,10 @@ pub infer-app-returns : (t : ℕ) → infer-app-lts.Need-returns (infer-app-clai
 infer-app-returns t c = whole-spent (c .before .before .enter .ensures) (c .enum-told .given .1)
 
 pub infer-app-app-rule-requires : (t : ℕ) → infer-app-lts.Need-app-rule-requires (infer-app-claims t) (infer-app-at t) infer-app.Post
-infer-app-app-rule-requires t c κs = (omega (arith, c .before .before .before .before .before .before .before .pre .0, whole-less (c .before .before .before .before .before .before .before .pre .1) (c .before .before .before .before .enter .ensures) (c .before .before .inner .given .1)), whole-rule (c .before .before .before .before .before .before .before .pre .1) (c .before .before .before .before .enter .ensures) (c .before .before .inner .given .1))
+infer-app-app-rule-requires t c κs =
+    let c₂ = c .before .before in let c₄ = c₂ .before .before in let c₇ = c₄ .before .before .before in
+    (omega (arith, c₇ .pre .0, whole-less (c₇ .pre .1) (c₄ .enter .ensures) (c₂ .inner .given .1)), whole-rule (c₇ .pre .1) (c₄ .enter .ensures)
+        (c₂ .inner .given .1))
 
 pub infer-app-enum-known-z : (t : ℕ) → infer-app-lts.Need-enum-known-z (infer-app-claims t) (infer-app-at t) infer-app.Post
 infer-app-enum-known-z t c = search needs
@@ -30,13 +33,23 @@ pub infer-app-same-length : (t : ℕ) → infer-app-lts.Need-same-length (infer-
 infer-app-same-length t c = search needs
 
 pub infer-app-returns-2 : (t : ℕ) → infer-app-lts.Need-returns-2 (infer-app-claims t) (infer-app-at t) infer-app.Post
-infer-app-returns-2 t c = whole-else (c .before .before .before .before .before .before .before .before .before .before .before .pre .1) (c .before .before .before .before .before .before .before .before .enter .ensures) (c .before .before .before .before .before .before .inner .given .1) (c .before .before .before .app-rule .ensures) (c .match2 .keys2)
+infer-app-returns-2 t c =
+    let c₃ = c .before .before .before in let c₆ = c₃ .before .before .before in let c₈ = c₆ .before .before in
+    let c₁₁ = c₈ .before .before .before in
+    whole-else (c₁₁ .pre .1) (c₈ .enter .ensures) (c₆ .inner .given .1) (c₃ .app-rule .ensures) (c .match2 .keys2)
 
 pub infer-app-leave-requires : (t : ℕ) → infer-app-lts.Need-leave-requires (infer-app-claims t) (infer-app-at t) infer-app.Post
-infer-app-leave-requires t c κs = whole-leave (c .before .before .before .before .before .before .before .before .before .before .before .before .before .before .pre .1) (c .before .before .before .before .before .before .before .before .before .before .before .enter .ensures) (c .before .before .before .before .before .before .before .before .before .inner .given .1) (c .before .before .before .before .before .before .app-rule .ensures) (c .before .before .z .given .1)
+infer-app-leave-requires t c κs =
+    let c₂ = c .before .before in let c₆ = c₂ .before .before .before .before in let c₉ = c₆ .before .before .before in
+    let c₁₁ = c₉ .before .before in let c₁₄ = c₁₁ .before .before .before in
+    whole-leave (c₁₄ .pre .1) (c₁₁ .enter .ensures) (c₉ .inner .given .1) (c₆ .app-rule .ensures) (c₂ .z .given .1)
 
 pub infer-app-same-length-2 : (t : ℕ) → infer-app-lts.Need-same-length-2 (infer-app-claims t) (infer-app-at t) infer-app.Post
 infer-app-same-length-2 t c = search needs
 
 pub infer-app-returns-3 : (t : ℕ) → infer-app-lts.Need-returns-3 (infer-app-claims t) (infer-app-at t) infer-app.Post
-infer-app-returns-3 t c = whole-done (c .before .before .before .before .before .before .before .before .before .before .before .before .before .before .before .before .before .pre .1) (c .before .before .before .before .before .before .before .before .before .before .before .before .before .before .enter .ensures) (c .before .before .before .before .before .before .before .before .before .before .before .before .inner .given .1) (c .before .before .before .before .before .before .before .before .before .app-rule .ensures) (c .before .before .before .before .before .z .given .1) (c .before .before .leave .ensures)
+infer-app-returns-3 t c =
+    let c₂ = c .before .before in let c₅ = c₂ .before .before .before in let c₉ = c₅ .before .before .before .before in
+    let c₁₂ = c₉ .before .before .before in let c₁₄ = c₁₂ .before .before in let c₁₇ = c₁₄ .before .before .before in
+    whole-done (c₁₇ .pre .1) (c₁₄ .enter .ensures) (c₁₂ .inner .given .1) (c₉ .app-rule .ensures) (c₅ .z .given .1) (c₂ .leave .ensures)
+    

@@ -49,11 +49,15 @@ infer-binop-operator-requires t c κs = tt
 
 pub infer-binop-infer-requires : (t : ℕ) → infer-binop-lts.Need-infer-requires (infer-binop-claims t) (infer-binop-at t) infer-binop.Post
 unfolding pick
-infer-binop-infer-requires t c κs = rw (c .before .if1 .taken) at (may-ask (op-asks (c .before .before .before .before .before .before .before .before .args .m) (c .before .before .before .before .before .before .before .before .pre .1) (c .before .before .before .before .before .word .ensures .0) (c .before .before .operator .ensures)) (c .before .before .before .before .before .before .before .before .pre .0))
+infer-binop-infer-requires t c κs =
+    let c₁ = c .before in let c₂ = c₁ .before in let c₅ = c₂ .before .before .before in let c₈ = c₅ .before .before .before in
+    rw (c₁ .if1 .taken) at (may-ask (op-asks (c₈ .args .m) (c₈ .pre .1) (c₅ .word .ensures .0) (c₂ .operator .ensures)) (c₈ .pre .0))
 
 pub infer-binop-check-requires : (t : ℕ) → infer-binop-lts.Need-check-requires (infer-binop-claims t) (infer-binop-at t) infer-binop.Post
 unfolding pick
-infer-binop-check-requires t c κs = rw (c .before .if1 .left) at (may-ask (op-asks (c .before .before .before .before .before .before .before .before .args .m) (c .before .before .before .before .before .before .before .before .pre .1) (c .before .before .before .before .before .word .ensures .0) (c .before .before .operator .ensures)) (c .before .before .before .before .before .before .before .before .pre .0))
+infer-binop-check-requires t c κs =
+    let c₁ = c .before in let c₂ = c₁ .before in let c₅ = c₂ .before .before .before in let c₈ = c₅ .before .before .before in
+    rw (c₁ .if1 .left) at (may-ask (op-asks (c₈ .args .m) (c₈ .pre .1) (c₅ .word .ensures .0) (c₂ .operator .ensures)) (c₈ .pre .0))
 
 pub infer-binop-enum-known-z : (t : ℕ) → infer-binop-lts.Need-enum-known-z (infer-binop-claims t) (infer-binop-at t) infer-binop.Post
 infer-binop-enum-known-z t c = search needs
@@ -62,25 +66,47 @@ pub infer-binop-same-length : (t : ℕ) → infer-binop-lts.Need-same-length (in
 infer-binop-same-length t c = left-length t (c .before)
 
 pub infer-binop-returns : (t : ℕ) → infer-binop-lts.Need-returns (infer-binop-claims t) (infer-binop-at t) infer-binop.Post
-infer-binop-returns t c = unless (op-asks (c .before .before .before .before .before .before .before .before .args .m) (c .before .before .before .before .before .before .before .before .pre .1) (c .before .before .before .before .before .word .ensures .0) (c .before .before .operator .ensures)) (left t (c .before)) (c .match .keys2)
+infer-binop-returns t c =
+    let c₁ = c .before in let c₂ = c₁ .before in let c₅ = c₂ .before .before .before in let c₈ = c₅ .before .before .before in
+    unless (op-asks (c₈ .args .m) (c₈ .pre .1) (c₅ .word .ensures .0) (c₂ .operator .ensures)) (left t (c₁)) (c .match .keys2)
 
 pub infer-binop-check-requires-2 : (t : ℕ) → infer-binop-lts.Need-check-requires-2 (infer-binop-claims t) (infer-binop-at t) infer-binop.Post
-infer-binop-check-requires-2 t c κs = may-ask (op-asks₂ (c .before .before .before .before .before .before .before .before .before .before .before .before .before .before .args .m) (c .before .before .before .before .before .before .before .before .before .before .before .before .before .before .pre .1) (c .before .before .before .before .before .before .before .before .before .before .before .word .ensures .0) (c .before .before .before .before .before .before .before .before .operator .ensures) (left t (c .before .before .before .before .before .before .before)) (c .before .before .before .before .before .z .given .1) (c .before .before .before .before .before .before .before .before .before .word2 .ensures .0) (right t (c .before))) (c .before .before .before .before .before .before .before .before .before .before .before .before .before .before .pre .0)
+infer-binop-check-requires-2 t c κs =
+    let c₁ = c .before in let c₅ = c₁ .before .before .before .before in let c₇ = c₅ .before .before in let c₈ = c₇ .before in let c₉ = c₈ .before in
+    let c₁₁ = c₉ .before .before in let c₁₄ = c₁₁ .before .before .before in
+    may-ask (op-asks₂ (c₁₄ .args .m) (c₁₄ .pre .1) (c₁₁ .word .ensures .0) (c₈ .operator .ensures) (left t (c₇)) (c₅ .z .given .1)
+        (c₉ .word2 .ensures .0) (right t (c₁))) (c₁₄ .pre .0)
 
 pub infer-binop-enum-known-y : (t : ℕ) → infer-binop-lts.Need-enum-known-y (infer-binop-claims t) (infer-binop-at t) infer-binop.Post
 infer-binop-enum-known-y t c = search needs
 
 pub infer-binop-same-length-2 : (t : ℕ) → infer-binop-lts.Need-same-length-2 (infer-binop-claims t) (infer-binop-at t) infer-binop.Post
-infer-binop-same-length-2 t c = c .before .before .before .check2 .kept .1 .0 ∙ left-length t (c .before .before .before .before .before .before .before .before .before .before .before)
+infer-binop-same-length-2 t c =
+    let c₃ = c .before .before .before in let c₁₁ = c₃ .before .before .before .before .before .before .before .before in
+    c₃ .check2 .kept .1 .0 ∙ left-length t (c₁₁)
 
 pub infer-binop-returns-2 : (t : ℕ) → infer-binop-lts.Need-returns-2 (infer-binop-claims t) (infer-binop-at t) infer-binop.Post
-infer-binop-returns-2 t c = unless (op-asks₂ (c .before .before .before .before .before .before .before .before .before .before .before .before .before .before .before .before .before .before .args .m) (c .before .before .before .before .before .before .before .before .before .before .before .before .before .before .before .before .before .before .pre .1) (c .before .before .before .before .before .before .before .before .before .before .before .before .before .before .before .word .ensures .0) (c .before .before .before .before .before .before .before .before .before .before .before .before .operator .ensures) (left t (c .before .before .before .before .before .before .before .before .before .before .before)) (c .before .before .before .before .before .before .before .before .before .z .given .1) (c .before .before .before .before .before .before .before .before .before .before .before .before .before .word2 .ensures .0) (right t (c .before .before .before .before .before))) (c .before .before .before .check2 .ensures) (c .match2 .keys2)
+infer-binop-returns-2 t c =
+    let c₃ = c .before .before .before in let c₅ = c₃ .before .before in let c₉ = c₅ .before .before .before .before in
+    let c₁₁ = c₉ .before .before in let c₁₂ = c₁₁ .before in let c₁₃ = c₁₂ .before in let c₁₅ = c₁₃ .before .before in
+    let c₁₈ = c₁₅ .before .before .before in
+    unless (op-asks₂ (c₁₈ .args .m) (c₁₈ .pre .1) (c₁₅ .word .ensures .0) (c₁₂ .operator .ensures) (left t (c₁₁)) (c₉ .z .given .1)
+        (c₁₃ .word2 .ensures .0) (right t (c₅))) (c₃ .check2 .ensures) (c .match2 .keys2)
 
 pub infer-binop-plain-out-requires : (t : ℕ) → infer-binop-lts.Need-plain-out-requires (infer-binop-claims t) (infer-binop-at t) infer-binop.Post
 infer-binop-plain-out-requires t c κs = tt
 
 pub infer-binop-same-length-3 : (t : ℕ) → infer-binop-lts.Need-same-length-3 (infer-binop-claims t) (infer-binop-at t) infer-binop.Post
-infer-binop-same-length-3 t c = c .before .before .before .before .before .before .before .before .check2 .kept .1 .0 ∙ left-length t (c .before .before .before .before .before .before .before .before .before .before .before .before .before .before .before .before)
+infer-binop-same-length-3 t c =
+    let c₈ = c .before .before .before .before .before .before .before .before in
+    let c₁₆ = c₈ .before .before .before .before .before .before .before .before in
+    c₈ .check2 .kept .1 .0 ∙ left-length t (c₁₆)
 
 pub infer-binop-returns-3 : (t : ℕ) → infer-binop-lts.Need-returns-3 (infer-binop-claims t) (infer-binop-at t) infer-binop.Post
-infer-binop-returns-3 t c = op-done (c .before .before .before .before .before .before .before .before .before .before .before .before .before .before .before .before .before .before .before .before .before .before .before .args .m) (c .before .before .before .before .before .before .before .before .before .before .before .before .before .before .before .before .before .before .before .before .before .before .before .pre .1) (c .before .before .before .before .before .before .before .before .before .before .before .before .before .before .before .before .before .before .before .before .word .ensures .0) (c .before .before .before .before .before .before .before .before .before .before .before .before .before .before .before .before .before .operator .ensures) (left t (c .before .before .before .before .before .before .before .before .before .before .before .before .before .before .before .before)) (c .before .before .before .before .before .before .before .before .before .before .before .before .before .before .z .given .1) (c .before .before .before .before .before .before .before .before .before .before .before .before .before .before .before .before .before .before .word2 .ensures .0) (right t (c .before .before .before .before .before .before .before .before .before .before)) (c .before .before .before .before .before .before .before .before .check2 .ensures) (c .before .before .before .before .y .given .1) (c .plain-out .ensures)
+infer-binop-returns-3 t c =
+    let c₄ = c .before .before .before .before in let c₈ = c₄ .before .before .before .before in let c₁₀ = c₈ .before .before in
+    let c₁₄ = c₁₀ .before .before .before .before in let c₁₆ = c₁₄ .before .before in let c₁₇ = c₁₆ .before in let c₁₈ = c₁₇ .before in
+    let c₂₀ = c₁₈ .before .before in let c₂₃ = c₂₀ .before .before .before in
+    op-done (c₂₃ .args .m) (c₂₃ .pre .1) (c₂₀ .word .ensures .0) (c₁₇ .operator .ensures) (left t (c₁₆)) (c₁₄ .z .given .1) (c₁₈ .word2 .ensures .0)
+        (right t (c₁₀)) (c₈ .check2 .ensures) (c₄ .y .given .1) (c .plain-out .ensures)
+    

@@ -26,7 +26,9 @@ pub infer-tabs-push-requires : (t : ℕ) → infer-tabs-lts.Need-push-requires (
 infer-tabs-push-requires t c κs = tabs-space (c .before .before .before .before .args .m) (c .before .before .before .before .pre .1)
 
 pub infer-tabs-infer-requires : (t : ℕ) → infer-tabs-lts.Need-infer-requires (infer-tabs-claims t) (infer-tabs-at t) infer-tabs.Post
-infer-tabs-infer-requires t c κs = may-ask (tabs-asks (c .before .before .before .before .before .before .before .before .before .before .args .m) (c .before .before .before .before .before .before .before .before .before .before .pre .1) refl (c .before .before .before .before .before .push .ensures)) (c .before .before .before .before .before .before .before .before .before .before .pre .0)
+infer-tabs-infer-requires t c κs =
+    let c₅ = c .before .before .before .before .before in let c₁₀ = c₅ .before .before .before .before .before in
+    may-ask (tabs-asks (c₁₀ .args .m) (c₁₀ .pre .1) refl (c₅ .push .ensures)) (c₁₀ .pre .0)
 
 pub infer-tabs-enum-known-z : (t : ℕ) → infer-tabs-lts.Need-enum-known-z (infer-tabs-claims t) (infer-tabs-at t) infer-tabs.Post
 infer-tabs-enum-known-z t c = search needs
@@ -35,10 +37,16 @@ pub infer-tabs-same-length : (t : ℕ) → infer-tabs-lts.Need-same-length (infe
 infer-tabs-same-length t c = search needs
 
 pub infer-tabs-returns : (t : ℕ) → infer-tabs-lts.Need-returns (infer-tabs-claims t) (infer-tabs-at t) infer-tabs.Post
-infer-tabs-returns t c = unless (tabs-asks (c .before .before .before .before .before .before .before .before .before .before .before .before .before .before .args .m) (c .before .before .before .before .before .before .before .before .before .before .before .before .before .before .pre .1) refl (c .before .before .before .before .before .before .before .before .before .push .ensures)) (c .before .before .before .infer .ensures) (c .match .keys2)
+infer-tabs-returns t c =
+    let c₃ = c .before .before .before in let c₉ = c₃ .before .before .before .before .before .before in
+    let c₁₄ = c₉ .before .before .before .before .before in
+    unless (tabs-asks (c₁₄ .args .m) (c₁₄ .pre .1) refl (c₉ .push .ensures)) (c₃ .infer .ensures) (c .match .keys2)
 
 pub infer-tabs-apply-ctx-type-requires : (t : ℕ) → infer-tabs-lts.Need-apply-ctx-type-requires (infer-tabs-claims t) (infer-tabs-at t) infer-tabs.Post
-infer-tabs-apply-ctx-type-requires t c κs = tabs-apply (c .before .before .before .before .before .before .before .before .before .before .before .before .before .before .before .before .before .before .before .args .m) (c .before .before .before .before .before .before .before .before .before .before .before .before .before .before .before .before .before .before .before .pre .1) refl (c .before .before .before .before .before .before .before .before .before .before .before .before .before .before .push .ensures) (c .before .before .before .before .before .before .before .before .infer .ensures) (c .before .before .before .before .z .given .1)
+infer-tabs-apply-ctx-type-requires t c κs =
+    let c₄ = c .before .before .before .before in let c₈ = c₄ .before .before .before .before in
+    let c₁₄ = c₈ .before .before .before .before .before .before in let c₁₉ = c₁₄ .before .before .before .before .before in
+    tabs-apply (c₁₉ .args .m) (c₁₉ .pre .1) refl (c₁₄ .push .ensures) (c₈ .infer .ensures) (c₄ .z .given .1)
 
 pub infer-tabs-enum-known-st3 : (t : ℕ) → infer-tabs-lts.Need-enum-known-st3 (infer-tabs-claims t) (infer-tabs-at t) infer-tabs.Post
 infer-tabs-enum-known-st3 t c = search needs
@@ -50,13 +58,33 @@ pub infer-tabs-same-length-2 : (t : ℕ) → infer-tabs-lts.Need-same-length-2 (
 infer-tabs-same-length-2 t c = search needs
 
 pub infer-tabs-returns-2 : (t : ℕ) → infer-tabs-lts.Need-returns-2 (infer-tabs-claims t) (infer-tabs-at t) infer-tabs.Post
-infer-tabs-returns-2 t c = tabs-spent (c .before .before .before .before .before .before .before .before .before .before .before .before .before .before .before .before .before .before .before .before .before .before .before .before .args .m) (c .before .before .before .before .before .before .before .before .before .before .before .before .before .before .before .before .before .before .before .before .before .before .before .before .pre .1) refl (c .before .before .before .before .before .before .before .before .before .before .before .before .before .before .before .before .before .before .before .push .ensures) (c .before .before .before .before .before .before .before .before .before .before .before .before .before .infer .ensures) (c .before .before .before .before .before .before .before .before .before .z .given .1) (c .before .before .before .before .apply-ctx-type .ensures) (c .enum-told .given .1)
+infer-tabs-returns-2 t c =
+    let c₄ = c .before .before .before .before in let c₉ = c₄ .before .before .before .before .before in
+    let c₁₃ = c₉ .before .before .before .before in let c₁₉ = c₁₃ .before .before .before .before .before .before in
+    let c₂₄ = c₁₉ .before .before .before .before .before in
+    tabs-spent (c₂₄ .args .m) (c₂₄ .pre .1) refl (c₁₉ .push .ensures) (c₁₃ .infer .ensures) (c₉ .z .given .1) (c₄ .apply-ctx-type .ensures)
+        (c .enum-told .given .1)
 
 pub infer-tabs-tabs-out-requires : (t : ℕ) → infer-tabs-lts.Need-tabs-out-requires (infer-tabs-claims t) (infer-tabs-at t) infer-tabs.Post
-infer-tabs-tabs-out-requires t c κs = tabs-pre (c .before .before .before .before .before .before .before .before .before .before .before .before .before .before .before .before .before .before .before .before .before .before .before .before .before .before .args .m) (c .before .before .before .before .before .before .before .before .before .before .before .before .before .before .before .before .before .before .before .before .before .before .before .before .before .before .pre .1) refl (c .before .before .before .before .before .before .before .before .before .before .before .before .before .before .before .before .before .before .before .before .before .push .ensures) (c .before .before .before .before .before .before .before .before .before .before .before .before .before .before .before .infer .ensures) (c .before .before .before .before .before .before .before .before .before .before .before .z .given .1) (c .before .before .before .before .before .before .apply-ctx-type .ensures) (c .before .before .st3 .given .1)
+infer-tabs-tabs-out-requires t c κs =
+    let c₂ = c .before .before in let c₆ = c₂ .before .before .before .before in let c₁₁ = c₆ .before .before .before .before .before in
+    let c₁₅ = c₁₁ .before .before .before .before in let c₂₁ = c₁₅ .before .before .before .before .before .before in
+    let c₂₆ = c₂₁ .before .before .before .before .before in
+    tabs-pre (c₂₆ .args .m) (c₂₆ .pre .1) refl (c₂₁ .push .ensures) (c₁₅ .infer .ensures) (c₁₁ .z .given .1) (c₆ .apply-ctx-type .ensures)
+        (c₂ .st3 .given .1)
 
 pub infer-tabs-same-length-3 : (t : ℕ) → infer-tabs-lts.Need-same-length-3 (infer-tabs-claims t) (infer-tabs-at t) infer-tabs.Post
-infer-tabs-same-length-3 t c = c .before .before .tabs-out .kept .1 .0 ∙ c .before .before .before .before .before .before .before .before .before .apply-ctx-type .kept .1 .0 ∙ c .before .before .before .before .before .before .before .before .before .before .before .before .before .before .before .before .before .before .infer .kept .1 .0 ∙ c .before .before .before .before .before .before .before .before .before .before .before .before .before .before .before .before .before .before .before .before .before .before .before .before .push .kept .0
+infer-tabs-same-length-3 t c =
+    let c₂ = c .before .before in let c₉ = c₂ .before .before .before .before .before .before .before in
+    let c₁₈ = c₉ .before .before .before .before .before .before .before .before .before in
+    let c₂₄ = c₁₈ .before .before .before .before .before .before in
+    c₂ .tabs-out .kept .1 .0 ∙ c₉ .apply-ctx-type .kept .1 .0 ∙ c₁₈ .infer .kept .1 .0 ∙ c₂₄ .push .kept .0
 
 pub infer-tabs-returns-3 : (t : ℕ) → infer-tabs-lts.Need-returns-3 (infer-tabs-claims t) (infer-tabs-at t) infer-tabs.Post
-infer-tabs-returns-3 t c = tabs-done (c .before .before .before .before .before .before .before .before .before .before .before .before .before .before .before .before .before .before .before .before .before .before .before .before .before .before .before .before .before .args .m) (c .before .before .before .before .before .before .before .before .before .before .before .before .before .before .before .before .before .before .before .before .before .before .before .before .before .before .before .before .before .pre .1) refl (c .before .before .before .before .before .before .before .before .before .before .before .before .before .before .before .before .before .before .before .before .before .before .before .before .push .ensures) (c .before .before .before .before .before .before .before .before .before .before .before .before .before .before .before .before .before .before .infer .ensures) (c .before .before .before .before .before .before .before .before .before .before .before .before .before .before .z .given .1) (c .before .before .before .before .before .before .before .before .before .apply-ctx-type .ensures) (c .before .before .before .before .before .st3 .given .1) (c .before .before .tabs-out .ensures)
+infer-tabs-returns-3 t c =
+    let c₂ = c .before .before in let c₅ = c₂ .before .before .before in let c₉ = c₅ .before .before .before .before in
+    let c₁₄ = c₉ .before .before .before .before .before in let c₁₈ = c₁₄ .before .before .before .before in
+    let c₂₄ = c₁₈ .before .before .before .before .before .before in let c₂₉ = c₂₄ .before .before .before .before .before in
+    tabs-done (c₂₉ .args .m) (c₂₉ .pre .1) refl (c₂₄ .push .ensures) (c₁₈ .infer .ensures) (c₁₄ .z .given .1) (c₉ .apply-ctx-type .ensures)
+        (c₅ .st3 .given .1) (c₂ .tabs-out .ensures)
+    

@@ -12,16 +12,24 @@ pub inst-rule-tag-requires : (t : ℕ) → inst-rule-lts.Need-tag-requires (inst
 inst-rule-tag-requires t c κs = side-held (side (c .before .before .before .args .s)) _ _ (c .before .before .before .pre .1)
 
 pub inst-rule-meet-requires : (t : ℕ) → inst-rule-lts.Need-meet-requires (inst-rule-claims t) (inst-rule-at t) inst-rule.Post
-inst-rule-meet-requires t c κs = choose-form (side (c .before .before .before .before .before .before .args .s)) _ _ (c .before .before .before .before .before .before .pre .1) (c .before .before .tag .ensures) (c .before .match .keys1)
+inst-rule-meet-requires t c κs =
+    let c₁ = c .before in let c₂ = c₁ .before in let c₆ = c₂ .before .before .before .before in
+    choose-form (side (c₆ .args .s)) _ _ (c₆ .pre .1) (c₂ .tag .ensures) (c₁ .match .keys1)
 
 pub inst-rule-inst-arr-requires : (t : ℕ) → inst-rule-lts.Need-inst-arr-requires (inst-rule-claims t) (inst-rule-at t) inst-rule.Post
-inst-rule-inst-arr-requires t c κs = (omega (arith, c .before .before .before .before .before .before .pre .0), choose-form (side (c .before .before .before .before .before .before .args .s)) _ _ (c .before .before .before .before .before .before .pre .1) (c .before .before .tag .ensures) (c .before .match .keys2))
+inst-rule-inst-arr-requires t c κs =
+    let c₁ = c .before in let c₂ = c₁ .before in let c₆ = c₂ .before .before .before .before in
+    (omega (arith, c₆ .pre .0), choose-form (side (c₆ .args .s)) _ _ (c₆ .pre .1) (c₂ .tag .ensures) (c₁ .match .keys2))
 
 pub inst-rule-inst-all-requires : (t : ℕ) → inst-rule-lts.Need-inst-all-requires (inst-rule-claims t) (inst-rule-at t) inst-rule.Post
-inst-rule-inst-all-requires t c κs = (omega (arith, c .before .before .before .before .before .before .pre .0), choose-form (side (c .before .before .before .before .before .before .args .s)) _ _ (c .before .before .before .before .before .before .pre .1) (c .before .before .tag .ensures) (c .before .match .keys3))
+inst-rule-inst-all-requires t c κs =
+    let c₁ = c .before in let c₂ = c₁ .before in let c₆ = c₂ .before .before .before .before in
+    (omega (arith, c₆ .pre .0), choose-form (side (c₆ .args .s)) _ _ (c₆ .pre .1) (c₂ .tag .ensures) (c₁ .match .keys3))
 
 pub inst-rule-solve-requires : (t : ℕ) → inst-rule-lts.Need-solve-requires (inst-rule-claims t) (inst-rule-at t) inst-rule.Post
-inst-rule-solve-requires t c κs = choose-solve (side (c .before .before .before .before .before .before .args .s)) _ _ (c .before .before .before .before .before .before .pre .1) (c .before .before .tag .ensures) (c .before .match .rest .0 .0 .1) (c .before .match .rest .0 .1) (c .before .match .rest .1)
+inst-rule-solve-requires t c κs =
+    let c₁ = c .before in let c₂ = c₁ .before in let c₆ = c₂ .before .before .before .before in
+    choose-solve (side (c₆ .args .s)) _ _ (c₆ .pre .1) (c₂ .tag .ensures) (c₁ .match .rest .0 .0 .1) (c₁ .match .rest .0 .1) (c₁ .match .rest .1)
 
 pub inst-rule-same-length : (t : ℕ) → inst-rule-lts.Need-same-length (inst-rule-claims t) (inst-rule-at t) inst-rule.Post
 inst-rule-same-length t c = c .before .before .meet .kept .1 .0

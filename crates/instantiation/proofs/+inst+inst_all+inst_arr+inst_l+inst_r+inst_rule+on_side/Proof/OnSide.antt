@@ -10,13 +10,17 @@ pub on-side-enum-told : (t : ℕ) → on-side-lts.Need-enum-told (on-side-claims
 on-side-enum-told t c = search needs
 
 pub on-side-inst-l-requires : (t : ℕ) → on-side-lts.Need-inst-l-requires (on-side-claims t) (on-side-at t) on-side.Post
-on-side-inst-l-requires t c κs = (omega (arith, c .before .before .before .before .before .pre .0), rw (c .before .enum-told .given .1) at (c .before .before .before .before .before .pre .1))
+on-side-inst-l-requires t c κs =
+    let c₁ = c .before in let c₅ = c₁ .before .before .before .before in
+    (omega (arith, c₅ .pre .0), rw (c₁ .enum-told .given .1) at (c₅ .pre .1))
 
 pub on-side-enum-told-2 : (t : ℕ) → on-side-lts.Need-enum-told-2 (on-side-claims t) (on-side-at t) on-side.Post
 on-side-enum-told-2 t c = search needs
 
 pub on-side-inst-r-requires : (t : ℕ) → on-side-lts.Need-inst-r-requires (on-side-claims t) (on-side-at t) on-side.Post
-on-side-inst-r-requires t c κs = (omega (arith, c .before .before .before .before .before .pre .0), rw (c .before .enum-told2 .given .1) at (c .before .before .before .before .before .pre .1))
+on-side-inst-r-requires t c κs =
+    let c₁ = c .before in let c₅ = c₁ .before .before .before .before in
+    (omega (arith, c₅ .pre .0), rw (c₁ .enum-told2 .given .1) at (c₅ .pre .1))
 
 pub on-side-same-length : (t : ℕ) → on-side-lts.Need-same-length (on-side-claims t) (on-side-at t) on-side.Post
 on-side-same-length t c = c .before .before .inst-l .kept .1 .0

@@ -49,31 +49,48 @@ past-requires-8 c κs = search needs
 
 returns : tie.Need-returns
 unfolding look table pick
-returns c = end-none (c .before .before .before .before .pre) 2 (omega arith) (each (λ w. look w table ≡ (2, 0)) (3 ∷ 16 ∷ []) (refl, (refl, tt)) (c .match .keys1)) (omega arith)
+returns c =
+    let c₄ = c .before .before .before .before in
+    end-none (c₄ .pre) 2 (omega arith) (each (λ w. look w table ≡ (2, 0)) (3 ∷ 16 ∷ []) (refl, (refl, tt)) (c .match .keys1)) (omega arith)
 
 returns-2 : tie.Need-returns-2
 unfolding look table pick
-returns-2 c = end-none (c .before .before .before .before .pre) 2 (omega arith) (each (λ w. look w table ≡ (2, 0)) (4 ∷ 23 ∷ []) (refl, (refl, tt)) (c .match .keys2)) (omega arith)
+returns-2 c =
+    let c₄ = c .before .before .before .before in
+    end-none (c₄ .pre) 2 (omega arith) (each (λ w. look w table ≡ (2, 0)) (4 ∷ 23 ∷ []) (refl, (refl, tt)) (c .match .keys2)) (omega arith)
 
 returns-3 : tie.Need-returns-3
 unfolding look table pick
-returns-3 c = end-none (c .before .before .before .before .pre) 3 (omega arith) (each (λ w. look w table ≡ (3, 0)) (22 ∷ []) (refl, tt) (c .match .keys3)) (omega arith)
+returns-3 c =
+    let c₄ = c .before .before .before .before in
+    end-none (c₄ .pre) 3 (omega arith) (each (λ w. look w table ≡ (3, 0)) (22 ∷ []) (refl, tt) (c .match .keys3)) (omega arith)
 
 returns-4 : tie.Need-returns-4
 unfolding look table pick
-returns-4 c = end-one (c .before .before .before .before .before .pre) 2 (omega arith) (c .past .ensures) (each (λ w. look w table ≡ (2, 1)) (6 ∷ 20 ∷ []) (refl, (refl, tt)) (c .before .match .keys4))
+returns-4 c =
+    let c₁ = c .before in let c₅ = c₁ .before .before .before .before in
+    end-one (c₅ .pre) 2 (omega arith) (c .past .ensures) (each (λ w. look w table ≡ (2, 1)) (6 ∷ 20 ∷ []) (refl, (refl, tt)) (c₁ .match .keys4))
 
 returns-5 : tie.Need-returns-5
 unfolding look table pick
-returns-5 c = end-two (c .before .before .before .before .before .before .pre) 1 (omega arith) (c .before .past2 .ensures) (c .past3 .ensures) (each (λ w. look w table ≡ (1, 2)) (5 ∷ 17 ∷ 19 ∷ 21 ∷ []) (refl, (refl, (refl, (refl, tt)))) (c .before .before .match .keys5))
+returns-5 c =
+    let c₁ = c .before in let c₂ = c₁ .before in let c₆ = c₂ .before .before .before .before in
+    end-two (c₆ .pre) 1 (omega arith) (c₁ .past2 .ensures) (c .past3 .ensures)
+        (each (λ w. look w table ≡ (1, 2)) (5 ∷ 17 ∷ 19 ∷ 21 ∷ []) (refl, (refl, (refl, (refl, tt)))) (c₂ .match .keys5))
 
 returns-6 : tie.Need-returns-6
 unfolding look table pick
-returns-6 c = end-two (c .before .before .before .before .before .before .pre) 2 (omega arith) (c .before .past4 .ensures) (c .past5 .ensures) (each (λ w. look w table ≡ (2, 2)) (18 ∷ 24 ∷ 26 ∷ []) (refl, (refl, (refl, tt))) (c .before .before .match .keys6))
+returns-6 c =
+    let c₁ = c .before in let c₂ = c₁ .before in let c₆ = c₂ .before .before .before .before in
+    end-two (c₆ .pre) 2 (omega arith) (c₁ .past4 .ensures) (c .past5 .ensures)
+        (each (λ w. look w table ≡ (2, 2)) (18 ∷ 24 ∷ 26 ∷ []) (refl, (refl, (refl, tt))) (c₂ .match .keys6))
 
 returns-7 : tie.Need-returns-7
 unfolding look table pick
-returns-7 c = end-three (c .before .before .before .before .before .before .before .pre) 1 (omega arith) (c .before .before .past6 .ensures) (c .before .past7 .ensures) (c .past8 .ensures) (each (λ w. look w table ≡ (1, 3)) (25 ∷ []) (refl, tt) (c .before .before .before .match .keys7))
+returns-7 c =
+    let c₁ = c .before in let c₂ = c₁ .before in let c₃ = c₂ .before in let c₇ = c₃ .before .before .before .before in
+    end-three (c₇ .pre) 1 (omega arith) (c₂ .past6 .ensures) (c₁ .past7 .ensures) (c .past8 .ensures)
+        (each (λ w. look w table ≡ (1, 3)) (25 ∷ []) (refl, tt) (c₃ .match .keys7))
 
 returns-8 : tie.Need-returns-8
 unfolding table

@@ -25,7 +25,9 @@ sub-i : tie.Need-sub-i Inv-loop μ-loop
 sub-i c = omega arith
 
 end-of-requires : tie.Need-end-of-requires Inv-loop μ-loop
-end-of-requires c κs = record { sized = record { small = c .before .before .before .before .before .before .before .before .before .pre .small; room = omega arith }; within = omega arith; table = table-at (omega arith) (c .before .before .loop .inv .2) }
+end-of-requires c κs =
+    let c₂ = c .before .before in let c₉ = c₂ .before .before .before .before .before .before .before in
+    record { sized = record { small = c₉ .pre .small; room = omega arith }; within = omega arith; table = table-at (omega arith) (c₂ .loop .inv .2) }
 
 add-at : tie.Need-add-at Inv-loop μ-loop
 add-at c = omega arith
@@ -37,7 +39,10 @@ loop-less : tie.Need-loop-less Inv-loop μ-loop
 loop-less c = omega arith
 
 loop-again : tie.Need-loop-again Inv-loop μ-loop
-loop-again c = rw (c .before .before .put .ensures) (omega arith, keep-trans (c .before .before .before .before .before .before .before .loop .inv .1) (keep-set _ _ _ _ _ (omega arith) (omega arith)), table-more (omega arith) (c .before .before .before .before .end-of .ensures) (table-at (omega arith) (c .before .before .before .before .before .before .before .loop .inv .2)))
+loop-again c =
+    let c₂ = c .before .before in let c₄ = c₂ .before .before in let c₇ = c₄ .before .before .before in
+    rw (c₂ .put .ensures) (omega arith, keep-trans (c₇ .loop .inv .1) (keep-set _ _ _ _ _ (omega arith) (omega arith)), table-more (omega arith)
+        (c₄ .end-of .ensures) (table-at (omega arith) (c₇ .loop .inv .2)))
 
 same-length : tie.Need-same-length Inv-loop μ-loop
 same-length c = omega arith

@@ -13,19 +13,30 @@ pub is-mono-left-of-requires : (t : ℕ) → is-mono-lts.Need-left-of-requires (
 is-mono-left-of-requires t c κs = held-as (c .before .before .before .before .pre .1) (c .before .tag .ensures) 5 (c .match .keys1)
 
 pub is-mono-is-mono-requires : (t : ℕ) → is-mono-lts.Need-is-mono-requires (is-mono-claims t) (is-mono-at t) is-mono.Post
-is-mono-is-mono-requires t c κs = left-below (c .before .before .before .before .before .pre .0) (held-as (c .before .before .before .before .before .pre .1) (c .before .before .tag .ensures) 5 (c .before .match .keys1)) (c .left-of .ensures)
+is-mono-is-mono-requires t c κs =
+    let c₁ = c .before in let c₂ = c₁ .before in let c₅ = c₂ .before .before .before in
+    left-below (c₅ .pre .0) (held-as (c₅ .pre .1) (c₂ .tag .ensures) 5 (c₁ .match .keys1)) (c .left-of .ensures)
 
 pub is-mono-right-of-requires : (t : ℕ) → is-mono-lts.Need-right-of-requires (is-mono-claims t) (is-mono-at t) is-mono.Post
-is-mono-right-of-requires t c κs = held-as (c .before .before .before .before .before .before .before .pre .1) (c .before .before .before .before .tag .ensures) 5 (c .before .before .before .match .keys1)
+is-mono-right-of-requires t c κs =
+    let c₃ = c .before .before .before in let c₄ = c₃ .before in let c₇ = c₄ .before .before .before in
+    held-as (c₇ .pre .1) (c₄ .tag .ensures) 5 (c₃ .match .keys1)
 
 pub is-mono-is-mono-requires-2 : (t : ℕ) → is-mono-lts.Need-is-mono-requires-2 (is-mono-claims t) (is-mono-at t) is-mono.Post
-is-mono-is-mono-requires-2 t c κs = right-below (c .before .before .before .before .before .before .before .before .pre .0) (held-as (c .before .before .before .before .before .before .before .before .pre .1) (c .before .before .before .before .before .tag .ensures) 5 (c .before .before .before .before .match .keys1)) (c .right-of .ensures)
+is-mono-is-mono-requires-2 t c κs =
+    let c₄ = c .before .before .before .before in let c₅ = c₄ .before in let c₈ = c₅ .before .before .before in
+    right-below (c₈ .pre .0) (held-as (c₈ .pre .1) (c₅ .tag .ensures) 5 (c₄ .match .keys1)) (c .right-of .ensures)
 
 pub is-mono-returns : (t : ℕ) → is-mono-lts.Need-returns (is-mono-claims t) (is-mono-at t) is-mono.Post
-is-mono-returns t c = mono-both (c .before .before .before .before .before .before .tag .ensures) (c .before .before .before .before .before .match .keys1) (c .before .before .before .before .left-of .ensures) (c .before .before .before .is-mono .ensures) (c .before .before .if1 .taken) (c .before .right-of .ensures) (c .is-mono2 .ensures)
+is-mono-returns t c =
+    let c₁ = c .before in let c₂ = c₁ .before in let c₃ = c₂ .before in let c₄ = c₃ .before in let c₅ = c₄ .before in let c₆ = c₅ .before in
+    mono-both (c₆ .tag .ensures) (c₅ .match .keys1) (c₄ .left-of .ensures) (c₃ .is-mono .ensures) (c₂ .if1 .taken) (c₁ .right-of .ensures)
+        (c .is-mono2 .ensures)
 
 pub is-mono-returns-2 : (t : ℕ) → is-mono-lts.Need-returns-2 (is-mono-claims t) (is-mono-at t) is-mono.Post
-is-mono-returns-2 t c = mono-no (c .before .before .before .before .tag .ensures) (c .before .before .before .match .keys1) (c .before .before .left-of .ensures) (c .before .is-mono .ensures) (c .if1 .left)
+is-mono-returns-2 t c =
+    let c₁ = c .before in let c₂ = c₁ .before in let c₃ = c₂ .before in let c₄ = c₃ .before in
+    mono-no (c₄ .tag .ensures) (c₃ .match .keys1) (c₂ .left-of .ensures) (c₁ .is-mono .ensures) (c .if1 .left)
 
 pub is-mono-returns-3 : (t : ℕ) → is-mono-lts.Need-returns-3 (is-mono-claims t) (is-mono-at t) is-mono.Post
 is-mono-returns-3 t c = mono-forall (c .before .tag .ensures) (c .match .keys2)
