@@ -18,6 +18,12 @@ use Rattle.alike.proofs.Related.{NameR, TyR, EntryR, CtxR, nilR, consR,
 use Rattle.alike.proofs.Words.{lengthL, lengthR, Parts, parts, splitE}
 use Rattle.alike.proofs.Readers.{GotR, gotR, Reads, Fills, giveR, codeR, nextR, bindR, lastR, endFills, variableR, typeNameR, halfR, truthR, withinR, emptyR, typeNameTakes, modeTakes, fills, countedR}
 
+-- two questions with the same kind and mode, on judgements that are alike
+pub record QuestionR (P : Pairing) (q q′ : Question) : Type 0 where
+  pub kinds : q .kind ≡ q′ .kind
+  pub manners : q .manner ≡ q′ .manner
+  pub judgements : JudgementR P (q .asks) (q′ .asks)
+
 -- ## Depths that the words allow: both readers' depths, and labels
 
 record Deep (d d′ : ℕ) (s : List Label) : Type 0 where
@@ -88,11 +94,19 @@ exact e = record { left = omega (arith, lengthL e); right = omega (arith, length
 after : {d d′ : ℕ} {s t : List Label} → Starts s → Deep (suc d) (suc d′) (s ++ t) → Deep d d′ t
 after (starts {s = s}) k = second s (deeper k)
 
--- two questions with the same kind and mode, on judgements that are alike
-pub record QuestionR (P : Pairing) (q q′ : Question) : Type 0 where
-  pub kinds : q .kind ≡ q′ .kind
-  pub manners : q .manner ≡ q′ .manner
-  pub judgements : JudgementR P (q .asks) (q′ .asks)
+-- ## Two readers to a depth, as they go from one depth to the next
+
+module _ {P : Pairing} {A : Type 0} {W : A → A → Type 0} (Is : List Label → Type 0) (R : ℕ → Reader A) (begins : (s : List Label) → Is s → Starts s)
+    (step : (d d′ : ℕ) → ((s : List Label) → Is s → Deep d d′ s → Reads P W (R d) (R d′) s)
+        → (s : List Label) → Is s → Deep (suc d) (suc d′) s → Reads P W (R (suc d)) (R (suc d′)) s) where
+  deepR : (d d′ : ℕ) (s : List Label) → Is s → Deep d d′ s → Reads P W (R d) (R d′) s
+  deepR zero d′ s t k = noDepth (begins s t) k
+  deepR (suc d) zero s t k = noDepth′ (begins s t) k
+  deepR (suc d) (suc d′) s t k = step d d′ (λ v i j. deepR d d′ v i j) s t k
+
+  -- each at the depth of its words
+  wholeR : {s : List Label} → Is s → Reads P W (λ p ws. R (length ws) p ws) (λ p ws. R (length ws) p ws) s
+  wholeR {s} t = record { at = λ {u} {u′} e p r r′. deepR (length (u ++ r)) (length (u′ ++ r′)) s t (ample r r′ e) .at e p r r′ }
 
 module _ {P : Pairing} where
   -- ## Types
@@ -109,16 +123,9 @@ module _ {P : Pairing} where
     tyRowsR (IsTy.forall a) k =
         codeR _ _ (λ p. typeNameR _ _ (λ a₁ a₁′ n. lastR _ _ (h _ a (past (deeper k))) (λ A A′ x. Related.forallR n x)))
 
-  readTyR : (d d′ : ℕ) (s : List Label) → IsTy s → Deep d d′ s → Reads P (TyR P) (readTy d) (readTy d′) s
-  unfolding readTy
-  readTyR zero d′ s t k = noDepth (tyStarts t) k
-  readTyR (suc d) zero s t k = noDepth′ (tyStarts t) k
-  readTyR (suc d) (suc d′) s t k =
-      record { at = λ e p r r′. tyRowsR d d′ _ _ (λ v i j. record { at = λ f q. readTyR d d′ v i j .at f q }) t k .at e p r r′ }
-
   typeR : {s : List Label} → IsTy s → Reads P (TyR P) type type s
-  unfolding type
-  typeR {s} t = record { at = λ {u} {u′} e p r r′. readTyR (length (u ++ r)) (length (u′ ++ r′)) s t (ample r r′ e) .at e p r r′ }
+  unfolding type readTy
+  typeR = wholeR IsTy readTy (λ s. tyStarts) (λ d d′ h s t k. tyRowsR d d′ _ _ h t k)
 
   -- ## Expressions
 
@@ -150,16 +157,10 @@ module _ {P : Pairing} where
         codeR _ _ (λ q. withinR 1 12 _ _ low high (bindR (h _ e (first _ (past (deeper k))))
         (λ a a′ x. lastR _ _ (h _ f (second s (past (deeper k)))) (λ b b′ y. Related.binOpR x y))))
 
-  readExprR : (d d′ : ℕ) (s : List Label) → IsExpr s → Deep d d′ s → Reads P (ExprR P) (readExpr d) (readExpr d′) s
-  unfolding readExpr
-  readExprR zero d′ s t k = noDepth (exprStarts t) k
-  readExprR (suc d) zero s t k = noDepth′ (exprStarts t) k
-  readExprR (suc d) (suc d′) s t k =
-      record { at = λ e p r r′. exprRowsR d d′ _ _ (λ v i j. record { at = λ f q. readExprR d d′ v i j .at f q }) p t k .at e p r r′ }
-
   expressionR : {s : List Label} → IsExpr s → Reads P (ExprR P) expression expression s
-  unfolding expression
-  expressionR {s} t = record { at = λ {u} {u′} e p r r′. readExprR (length (u ++ r)) (length (u′ ++ r′)) s t (ample r r′ e) .at e p r r′ }
+  unfolding expression readExpr
+  expressionR =
+      wholeR IsExpr readExpr (λ s. exprStarts) (λ d d′ h s t k. record { at = λ e p r r′. exprRowsR d d′ _ _ h p t k .at e p r r′ })
 
   -- ## Contexts
 

@@ -99,6 +99,26 @@ oneOf-upto : {A : Type 0} {n : ℕ} {r r′ : List (ℕ × Reader A)} → Rows n
 unfolding oneOf
 oneOf-upto h = word-upto (λ p w. row-upto w p h)
 
+-- on no words, where both say o
+none-upto : {A : Type 0} (m m′ : Reader A) (o : ℕ → Read A) → ((p : ℕ) → Left 0 (o p)) → ((p : ℕ) → m p [] ≡ o p) → ((p : ℕ) → m′ p [] ≡ o p)
+    → Upto 0 m m′
+none-upto m m′ o h e e′ p [] l = (e p ∙ sym (e′ p), rw (e p) (h p))
+none-upto m m′ o h e e′ p (w ∷ ws) l = absurd (not-suc-le-zero l)
+
+-- ## A reader to a depth, as it goes from one depth to the next; on no words it says o at each
+
+module _ {A : Type 0} (R : ℕ → Reader A) (o : ℕ → Read A) (few : (p : ℕ) → Left 0 (o p)) (none : (d p : ℕ) → R d p [] ≡ o p)
+    (step : (n d d′ : ℕ) → Upto n (R d) (R d′) → Upto (suc n) (R (suc d)) (R (suc d′))) where
+  deep-upto : (n d d′ : ℕ) → n ≤ d → n ≤ d′ → Upto n (R d) (R d′)
+  deep-upto zero d d′ h h′ = none-upto (R d) (R d′) o few (none d) (none d′)
+  deep-upto (suc n) zero d′ h h′ = absurd (not-suc-le-zero h)
+  deep-upto (suc n) (suc d) zero h h′ = absurd (not-suc-le-zero h′)
+  deep-upto (suc n) (suc d) (suc d′) h h′ = step n d d′ (deep-upto n d d′ (le-of-suc-le-suc h) (le-of-suc-le-suc h′))
+
+  -- any depth that is enough is as good as the words' own number
+  whole-upto : (n d : ℕ) → n ≤ d → Upto n (R d) (λ p ws. R (length ws) p ws)
+  whole-upto n d h p ws l = deep-upto (length ws) d (length ws) (omega arith) (le-refl (length ws)) p ws (le-refl (length ws))
+
 -- ## Types
 
 tyRows-upto : {n : ℕ} {m m′ : Reader Ty} → Upto n m m′ → Rows n (tyRows m) (tyRows m′)
@@ -111,33 +131,19 @@ tyRows-upto h =
     (and (bind-upto h (λ A. bind-upto h (λ B. give-upto _)))
     (and (bind-upto typeName-upto (λ a. bind-upto h (λ A. give-upto _))) last)))))
 
--- on no words, where both say o
-none-upto : {A : Type 0} (m m′ : Reader A) (o : ℕ → Read A) → ((p : ℕ) → Left 0 (o p)) → ((p : ℕ) → m p [] ≡ o p) → ((p : ℕ) → m′ p [] ≡ o p)
-    → Upto 0 m m′
-none-upto m m′ o h e e′ p [] l = (e p ∙ sym (e′ p), rw (e p) (h p))
-none-upto m m′ o h e e′ p (w ∷ ws) l = absurd (not-suc-le-zero l)
-
 readTy-none : (d p : ℕ) → readTy d p [] ≡ fault 4 p
 unfolding readTy oneOf word
 readTy-none zero p = refl
 readTy-none (suc d) p = refl
 
-readTy-upto : (n d d′ : ℕ) → n ≤ d → n ≤ d′ → Upto n (readTy d) (readTy d′)
-unfolding readTy
-readTy-upto zero d d′ h h′ = none-upto (readTy d) (readTy d′) (λ p. fault 4 p) (λ p. tt) (readTy-none d) (readTy-none d′)
-readTy-upto (suc n) zero d′ h h′ = absurd (not-suc-le-zero h)
-readTy-upto (suc n) (suc d) zero h h′ = absurd (not-suc-le-zero h′)
-readTy-upto (suc n) (suc d) (suc d′) h h′ =
-    oneOf-upto (tyRows-upto (readTy-upto n d d′ (le-of-suc-le-suc h) (le-of-suc-le-suc h′)))
-
 -- `type` is the reader of types at any depth that is enough
 type-upto : (n d : ℕ) → n ≤ d → Upto n (readTy d) type
-unfolding type
-type-upto n d h p ws l = readTy-upto (length ws) d (length ws) (omega arith) (le-refl (length ws)) p ws (le-refl (length ws))
+unfolding type readTy
+type-upto = whole-upto readTy (λ p. fault 4 p) (λ p. tt) readTy-none (λ n d d′ h. oneOf-upto (tyRows-upto h))
 
 type-self : {n : ℕ} → Upto n type type
 unfolding type
-type-self p ws l = readTy-upto (length ws) (length ws) (length ws) (le-refl (length ws)) (le-refl (length ws)) p ws (le-refl (length ws))
+type-self p ws l = type-upto (length ws) (length ws) (le-refl (length ws)) p ws (le-refl (length ws))
 
 -- the equation of `type`
 pub type-eq : (p : ℕ) (ws : List ℕ) → type p ws ≡ oneOf (tyRows type) p ws
@@ -171,16 +177,9 @@ unfolding readExpr oneOf word
 readExpr-none zero p = refl
 readExpr-none (suc d) p = refl
 
-readExpr-upto : (n d d′ : ℕ) → n ≤ d → n ≤ d′ → Upto n (readExpr d) (readExpr d′)
-unfolding readExpr
-readExpr-upto zero d d′ h h′ = none-upto (readExpr d) (readExpr d′) (λ p. fault 4 p) (λ p. tt) (readExpr-none d) (readExpr-none d′)
-readExpr-upto (suc n) zero d′ h h′ = absurd (not-suc-le-zero h)
-readExpr-upto (suc n) (suc d) zero h h′ = absurd (not-suc-le-zero h′)
-readExpr-upto (suc n) (suc d) (suc d′) h h′ = exprOf-upto (readExpr-upto n d d′ (le-of-suc-le-suc h) (le-of-suc-le-suc h′))
-
 expression-upto : (n d : ℕ) → n ≤ d → Upto n (readExpr d) expression
-unfolding expression
-expression-upto n d h p ws l = readExpr-upto (length ws) d (length ws) (omega arith) (le-refl (length ws)) p ws (le-refl (length ws))
+unfolding expression readExpr
+expression-upto = whole-upto readExpr (λ p. fault 4 p) (λ p. tt) readExpr-none (λ n d d′ h. exprOf-upto h)
 
 -- the equation of `expression`
 pub expression-eq : (p : ℕ) (ws : List ℕ) → expression p ws ≡ oneOf (exprRows p expression) p ws
@@ -219,17 +218,9 @@ unfolding unlessEnd
 unlessEnd-upto a h p [] l = (refl, le-refl 0)
 unlessEnd-upto a h p (w ∷ ws) l = h p (w ∷ ws) l
 
-readCtx-upto : (n d d′ : ℕ) → n ≤ d → n ≤ d′ → Upto n (readCtx d) (readCtx d′)
-unfolding readCtx more
-readCtx-upto zero d d′ h h′ = none-upto (readCtx d) (readCtx d′) (λ p. got [] p []) (λ p. le-refl 0) (readCtx-none d) (readCtx-none d′)
-readCtx-upto (suc n) zero d′ h h′ = absurd (not-suc-le-zero h)
-readCtx-upto (suc n) (suc d) zero h h′ = absurd (not-suc-le-zero h′)
-readCtx-upto (suc n) (suc d) (suc d′) h h′ =
-    unlessEnd-upto [] (more-upto (readCtx-upto n d d′ (le-of-suc-le-suc h) (le-of-suc-le-suc h′)))
-
 context-upto : (n d : ℕ) → n ≤ d → Upto n (readCtx d) context
-unfolding context
-context-upto n d h p ws l = readCtx-upto (length ws) d (length ws) (omega arith) (le-refl (length ws)) p ws (le-refl (length ws))
+unfolding context readCtx more
+context-upto = whole-upto readCtx (λ p. got [] p []) (λ p. le-refl 0) readCtx-none (λ n d d′ h. unlessEnd-upto [] (more-upto h))
 
 -- the equation of `context`
 pub context-eq : (p : ℕ) (ws : List ℕ) → context p ws ≡ unlessEnd [] (more context) p ws
