@@ -24,20 +24,20 @@ use Rattle.judging.specs.Asking.{mode, Asks, JudgePre, RulePre}
 use Rattle.judging.specs.Nodes.{NodeAt, NodesAt, no-nodes, a-node}
 use Rattle.judging.specs.Ending.{Landed, EndsJ, landed, failed, ran-out, EndsR, fired, refused, out, RunsJ, Judged, Fires}
 use Rattle.judging.specs.Leaving.{Entering, inner, LeavePre, paid, Left, unpaid-out, wrote}
-use Rattle.judging.proofs.Nodes.{asks-frame, asks-count, asks-below, nodes-frame}
+use Rattle.judging.proofs.Nodes.{asks-frame, asks-run, nodes-frame}
 use Rattle.judging.proofs.Steps.{NotDone, no-done, step-none, step-stop, step-fail, step-unpaid, step-paid, FiredBy, fired-by}
 
 -- ## Entering
 
 pub may-enter : {q w : List ℕ} {s : State} {g : Span} {a : Ask} → JudgePre q w s g a → Entering s g
 may-enter pre =
-    let b = asks-below (pre .asks) in
+    let b = asks-run (pre .asks) .below in
     record { node = λ h. omega (arith, pre .ready .fits); entries = omega (arith, pre .ready .over, pre .ready .low, pre .ready .cap) }
 
 pub judge-spent : {m : Mode} {q w : List ℕ} {s : State} {g : Span} {a : Ask} → s .left ≤ g .n → Judged m q w w s g a Spent
 judge-spent {m} {s = s} h = record {
   run = λ j k.
-      let c = asks-count k in
+      let c = asks-run k .count in
       record { keep = keep-refl _ _ _; ends = rw (step-none (mode m) j (s .left) (s .fresh) (omega arith)) ran-out };
 }
 
@@ -105,10 +105,10 @@ module _ {q w : List ℕ} {s : State} {g : Span} {a : Ask} (pre : JudgePre q w s
       }
 
   cost : {j : Judgement} → Asks q w (s .top) g a j → 1 + length (given j) ≤ s .left
-  cost k = let c = asks-count k in omega arith
+  cost k = let c = asks-run k .count in omega arith
 
   less : {j : Judgement} → Asks q w (s .top) g a j → s .left - (g .n + 1) ≡ s .left - (1 + length (given j))
-  less k = let c = asks-count k in omega arith
+  less k = let c = asks-run k .count in omega arith
 
   module _ {m : Mode} {w₁ : List ℕ} {z₁ : Step} (call : Fires m q w w₁ (inner s g) g a z₁) where
     keep₁ : {j : Judgement} → Asks q w (s .top) g a j → Keep (s .top) (s .low) w w₁
@@ -134,7 +134,7 @@ module _ {q w : List ℕ} {s : State} {g : Span} {a : Ask} (pre : JudgePre q w s
           let x = f .land in
           let lw = call .run (pre .j) (pre .asks) .keep .long in
           let d = deep in
-          let b = asks-below (pre .asks) in
+          let b = asks-run (pre .asks) .below in
           let u = den-small (x .den) in
           record {
             node = omega (arith, pre .ready .low);

@@ -1,12 +1,13 @@
 -- What is asked, and nodes, stay where their words stay; trees after trees.
 use mathlib.Core.Path.{_≡_, refl, sym, _∙_}
 use mathlib.Core.List.{List}
-use Prim.Native.Nat.{ℕ, _+_, _*_, _≤_, _<_}
+use Prim.Native.Nat.{ℕ, _+_, _≤_, _<_}
 use native.Mathlib.Nat.{le-trans, le-refl}
 use native.Mathlib.Omega.{arith}
-use lib.ListN.{length, getD}
+use lib.ListN.{getD}
 use Rattle.definition.specs.Syntax.{Ty, Ctx, Judgement, given, Rule, Trees, leaf, _&_}
 use Rattle.layout.specs.Words.{Keep, Put4}
+use Rattle.layout.specs.Denotes.{Run}
 use Rattle.layout.specs.declared.Span.{Span}
 use Rattle.layout.proofs.Words.{keep-less, keep-trans}
 use Rattle.layout.proofs.Denotes.{den-frame, run-frame}
@@ -24,22 +25,15 @@ asks-frame kp le (as-sub k z r d e) = as-sub k z (run-frame kp le r) (den-frame 
 asks-frame kp le (as-inst-l k z r d e) = as-inst-l k z (run-frame kp le r) (den-frame kp le d) (den-frame kp le e)
 asks-frame kp le (as-inst-r k z r d e) = as-inst-r k z (run-frame kp le r) (den-frame kp le d) (den-frame kp le e)
 
-pub asks-count : {q w : List ℕ} {t : ℕ} {g : Span} {a : Ask} {j : Judgement} → Asks q w t g a j → g .n ≡ length (given j)
+-- its context is a run of entries
+pub asks-run : {q w : List ℕ} {t : ℕ} {g : Span} {a : Ask} {j : Judgement} → Asks q w t g a j → Run q w t (g .at) (g .n) (given j)
 unfolding given
-asks-count (as-infer k r x) = r .count
-asks-count (as-check k r x d) = r .count
-asks-count (as-app k r x d) = r .count
-asks-count (as-sub k z r d e) = r .count
-asks-count (as-inst-l k z r d e) = r .count
-asks-count (as-inst-r k z r d e) = r .count
-
-pub asks-below : {q w : List ℕ} {t : ℕ} {g : Span} {a : Ask} {j : Judgement} → Asks q w t g a j → g .at + 4 * g .n ≤ t
-asks-below (as-infer k r x) = r .below
-asks-below (as-check k r x d) = r .below
-asks-below (as-app k r x d) = r .below
-asks-below (as-sub k z r d e) = r .below
-asks-below (as-inst-l k z r d e) = r .below
-asks-below (as-inst-r k z r d e) = r .below
+asks-run (as-infer k r x) = r
+asks-run (as-check k r x d) = r
+asks-run (as-app k r x d) = r
+asks-run (as-sub k z r d e) = r
+asks-run (as-inst-l k z r d e) = r
+asks-run (as-inst-r k z r d e) = r
 
 -- ## Nodes
 

@@ -24,7 +24,7 @@ use Rattle.judging.specs.declared.Step.the-variants.{Done, Fail}
 use Rattle.judging.specs.Asking.{mode, Asks, inferAsk, checkAsk, appAsk, RulePre}
 use Rattle.judging.specs.Ending.{Failed, e-unbound, e-application}
 use Rattle.judging.proofs.Asking.{infer-asked, check-asked, app-asked}
-use Rattle.judging.proofs.Nodes.{asks-below}
+use Rattle.judging.proofs.Nodes.{asks-run}
 use Rattle.judging.proofs.Chain.{room-within, begin, refuses, fires}
 use Rattle.rules.specs.Taking.{InferPre, Choice, lit-int, lit-bool, lam, all, sub, CheckPre, RefusePre}
 use Rattle.steps.specs.Modes.{FiresBoth}
@@ -66,7 +66,7 @@ module _ {q w : List ℕ} {s : State} {g : Span} {a : Ask} (pre : RulePre q w s 
 
   -- the run of entries lies in work
   pub run-within : g .at + 4 * g .n ≤ length w
-  run-within = omega (arith, asks-below (pre .asks), pre .room .fits, pre .room .low)
+  run-within = omega (arith, asks-run (pre .asks) .below, pre .room .fits, pre .room .low)
 
 is-int : (T : Ty) → tyCode T ≡ 1 → T ≡ int
 unfolding tyCode
