@@ -1,8 +1,6 @@
 -- `write_node` meets its contract.
-use mathlib.Core.Path.{_∙_}
-use Rattle.writing.proofs.Spelling.{just-room, writable-as, writable-first, writable-next, writes-as, writes-then, writes-length}
-use Rattle.writing.proofs.After.{stands-next}
-use Rattle.report.proofs.Nodes.{node-parts, output-read}
+use Rattle.writing.proofs.Spelling.{writes-length}
+use Rattle.report.proofs.Writing.{three-fits, input-fits, left-fits, right-fits, output-fits, result-fits, node-written}
 use borrow.Author.Needs.{needs}
 use Rattle.report.proofs.write_node.Statement.{statement}
 use Rattle.report.proofs.write_node.Tie as tie
@@ -12,82 +10,48 @@ node-at-requires c κs = search needs
 
 write-three-requires : tie.Need-write-three-requires
 write-three-requires c κs =
-    let x₀ = writable-as (node-parts (c .before .before .node-at .ensures)) (c .before .before .before .before .before .before .pre .0) in
-    record { room = just-room (writable-first x₀) .room; small = c .before .before .node-at .ensures .small }
+    let c₂ = c .before .before in let c₆ = c₂ .before .before .before .before in
+    three-fits (c₂ .node-at .ensures) (c₆ .pre .0) (c₆ .pre .1)
 
 write-after-requires : tie.Need-write-after-requires
 write-after-requires c κs =
     let c₃ = c .before .before .before in let c₆ = c₃ .before .before .before in let c₁₀ = c₆ .before .before .before .before in
-    let x₀ = writable-as (node-parts (c₆ .node-at .ensures)) (c₁₀ .pre .0) in
-    let x₁ = writable-next x₀ (c₃ .write-three .ensures) in
-    let y₁ = stands-next (writable-first x₀) (c₃ .write-three .ensures) (c₁₀ .pre .1) in
-    (writable-first x₁, y₁)
+    input-fits (c₆ .node-at .ensures) (c₁₀ .pre .0) (c₁₀ .pre .1) (c₃ .write-three .ensures)
 
 write-section-requires : tie.Need-write-section-requires
 write-section-requires c κs =
     let c₃ = c .before .before .before in let c₇ = c₃ .before .before .before .before in let c₁₀ = c₇ .before .before .before in
     let c₁₄ = c₁₀ .before .before .before .before in
-    let x₀ = writable-as (node-parts (c₁₀ .node-at .ensures)) (c₁₄ .pre .0) in
-    let x₁ = writable-next x₀ (c₇ .write-three .ensures) in
-    let x₂ = writable-next x₁ (c₃ .write-after .ensures .writes) in
-    writable-first x₂
+    left-fits (c₁₀ .node-at .ensures) (c₁₄ .pre .0) (c₁₄ .pre .1) (c₇ .write-three .ensures) (c₃ .write-after .ensures)
 
 write-section-requires-2 : tie.Need-write-section-requires-2
 write-section-requires-2 c κs =
     let c₃ = c .before .before .before in let c₇ = c₃ .before .before .before .before in let c₁₁ = c₇ .before .before .before .before in
     let c₁₄ = c₁₁ .before .before .before in let c₁₈ = c₁₄ .before .before .before .before in
-    let x₀ = writable-as (node-parts (c₁₄ .node-at .ensures)) (c₁₈ .pre .0) in
-    let x₁ = writable-next x₀ (c₁₁ .write-three .ensures) in
-    let x₂ = writable-next x₁ (c₇ .write-after .ensures .writes) in
-    let x₃ = writable-next x₂ (c₃ .write-section .ensures) in
-    writable-first x₃
+    right-fits (c₁₄ .node-at .ensures) (c₁₈ .pre .0) (c₁₈ .pre .1) (c₁₁ .write-three .ensures) (c₇ .write-after .ensures) (c₃ .write-section .ensures)
 
 write-after-requires-2 : tie.Need-write-after-requires-2
 write-after-requires-2 c κs =
     let c₃ = c .before .before .before in let c₇ = c₃ .before .before .before .before in let c₁₁ = c₇ .before .before .before .before in
     let c₁₅ = c₁₁ .before .before .before .before in let c₁₈ = c₁₅ .before .before .before in let c₂₂ = c₁₈ .before .before .before .before in
-    let x₀ = writable-as (node-parts (c₁₈ .node-at .ensures)) (c₂₂ .pre .0) in
-    let x₁ = writable-next x₀ (c₁₅ .write-three .ensures) in
-    let x₂ = writable-next x₁ (c₁₁ .write-after .ensures .writes) in
-    let x₃ = writable-next x₂ (c₇ .write-section .ensures) in
-    let x₄ = writable-next x₃ (c₃ .write-section2 .ensures) in
-    let y₃ = stands-next (writable-first x₂) (c₇ .write-section .ensures) (c₁₁ .write-after .ensures .stands) in
-    let y₄ = stands-next (writable-first x₃) (c₃ .write-section2 .ensures) y₃ in
-    (writable-first x₄, y₄)
+    output-fits (c₁₈ .node-at .ensures) (c₂₂ .pre .0) (c₂₂ .pre .1) (c₁₅ .write-three .ensures) (c₁₁ .write-after .ensures)
+        (c₇ .write-section .ensures) (c₃ .write-section2 .ensures)
 
 write-section-requires-3 : tie.Need-write-section-requires-3
 write-section-requires-3 c κs =
     let c₃ = c .before .before .before in let c₇ = c₃ .before .before .before .before in let c₁₁ = c₇ .before .before .before .before in
     let c₁₅ = c₁₁ .before .before .before .before in let c₁₉ = c₁₅ .before .before .before .before in let c₂₂ = c₁₉ .before .before .before in
     let c₂₆ = c₂₂ .before .before .before .before in
-    let x₀ = writable-as (node-parts (c₂₂ .node-at .ensures)) (c₂₆ .pre .0) in
-    let x₁ = writable-next x₀ (c₁₉ .write-three .ensures) in
-    let x₂ = writable-next x₁ (c₁₅ .write-after .ensures .writes) in
-    let x₃ = writable-next x₂ (c₁₁ .write-section .ensures) in
-    let x₄ = writable-next x₃ (c₇ .write-section2 .ensures) in
-    let x₅ = writable-next x₄ (c₃ .write-after2 .ensures .writes) in
-    x₅
+    result-fits (c₂₂ .node-at .ensures) (c₂₆ .pre .0) (c₂₆ .pre .1) (c₁₉ .write-three .ensures) (c₁₅ .write-after .ensures)
+        (c₁₁ .write-section .ensures) (c₇ .write-section2 .ensures) (c₃ .write-after2 .ensures)
 
 returns : tie.Need-returns
 returns c =
     let c₂ = c .before .before in let c₆ = c₂ .before .before .before .before in let c₁₀ = c₆ .before .before .before .before in
     let c₁₄ = c₁₀ .before .before .before .before in let c₁₈ = c₁₄ .before .before .before .before in let c₂₂ = c₁₈ .before .before .before .before in
     let c₂₅ = c₂₂ .before .before .before in let c₂₉ = c₂₅ .before .before .before .before in
-    let x₀ = writable-as (node-parts (c₂₅ .node-at .ensures)) (c₂₉ .pre .0) in
-    let x₁ = writable-next x₀ (c₂₂ .write-three .ensures) in
-    let x₂ = writable-next x₁ (c₁₈ .write-after .ensures .writes) in
-    let x₃ = writable-next x₂ (c₁₄ .write-section .ensures) in
-    let x₄ = writable-next x₃ (c₁₀ .write-section2 .ensures) in
-    let x₅ = writable-next x₄ (c₆ .write-after2 .ensures .writes) in
-    record {
-      writes = writes-as (node-parts (c₂₅ .node-at .ensures))
-          (writes-then (c₂₂ .write-three .ensures)
-          (writes-then (c₁₈ .write-after .ensures .writes)
-          (writes-then (c₁₄ .write-section .ensures) (writes-then (c₁₀ .write-section2 .ensures)
-              (writes-then (c₆ .write-after2 .ensures .writes) (c₂ .write-section3 .ensures))))));
-      span = c₆ .write-after2 .ensures .span ∙ output-read (c₂₅ .node-at .ensures);
-      output = stands-next x₅ (c₂ .write-section3 .ensures) (c₆ .write-after2 .ensures .stands);
-    }
+    node-written (c₂₅ .node-at .ensures) (c₂₉ .pre .0) (c₂₉ .pre .1) (c₂₂ .write-three .ensures) (c₁₈ .write-after .ensures)
+        (c₁₄ .write-section .ensures) (c₁₀ .write-section2 .ensures) (c₆ .write-after2 .ensures) (c₂ .write-section3 .ensures)
 
 same-length : tie.Need-same-length
 same-length c =
