@@ -98,7 +98,7 @@ after (starts {s = s}) k = second s (deeper k)
 
 module _ {P : Pairing} {A : Type 0} {W : A → A → Type 0} (Is : List Label → Type 0) (R : ℕ → Reader A) (begins : (s : List Label) → Is s → Starts s)
     (step : (d d′ : ℕ) → ((s : List Label) → Is s → Deep d d′ s → Reads P W (R d) (R d′) s)
-        → (s : List Label) → Is s → Deep (suc d) (suc d′) s → Reads P W (R (suc d)) (R (suc d′)) s) where
+    → (s : List Label) → Is s → Deep (suc d) (suc d′) s → Reads P W (R (suc d)) (R (suc d′)) s) where
   deepR : (d d′ : ℕ) (s : List Label) → Is s → Deep d d′ s → Reads P W (R d) (R d′) s
   deepR zero d′ s t k = noDepth (begins s t) k
   deepR (suc d) zero s t k = noDepth′ (begins s t) k

@@ -39,7 +39,7 @@ returns c =
     let c₂ = c .before .before in let c₆ = c₂ .before .before .before .before in let c₁₀ = c₆ .before .before .before .before in
     let c₁₄ = c₁₀ .before .before .before .before in let c₁₆ = c₁₄ .before .before in let c₁₉ = c₁₆ .before .before .before in
     parted (c₁₉ .pre .0 .below) (c₁₆ .find .ensures) (c₁₄ .splice .ensures) (c₁₀ .put-entry .ensures) (c₆ .put-entry2 .ensures)
-        (c₂ .put-entry3 .ensures)
+    (c₂ .put-entry3 .ensures)
 
 pub split-spec : {M : Type 1} → statement M
 split-spec =

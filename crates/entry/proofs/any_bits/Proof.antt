@@ -31,8 +31,7 @@ loop-less c = omega arith
 
 loop-again : tie.Need-loop-again Inv-loop μ-loop
 loop-again c =
-    let c₂ = c .before .before in let c₃ = c₂ .before in
-    (
+    let c₂ = c .before .before in let c₃ = c₂ .before in (
       omega arith,
       λ e.
           let z = no-bits (c₂ .loop .bits) _ e in
@@ -47,7 +46,7 @@ returns c =
       all = λ e.
           let f : c₁ .loop .i ≡ length (c₂ .args .block .now) = omega (arith, c₂ .pre) in
           zero-all (c₂ .args .block .now) (c₂ .args .block .now) (c₁ .loop .inv .1 e ∙ ap (λ (k : ℕ). replicate k 0 ++ drop k (c₂ .args .block .now))
-              f);
+          f);
       only = c₁ .loop .inv .2;
     }
 

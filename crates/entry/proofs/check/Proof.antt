@@ -42,7 +42,7 @@ unfolding workWords
 returns-4 c =
     let c₁ = c .before in let c₂ = c₁ .before in let c₃ = c₂ .before in let c₄ = c₃ .before in
     rw (c .refusal4 .ensures) (refused _ _ _ _ 3 0 (no-words _ _ _ _ (c₄ .if1 .left) (c₃ .if2 .left) (c₂ .if3 .left) (c₁ .if4 .taken)) (omega arith)
-        (omega arith))
+    (omega arith))
 
 refusal-requires-5 : tie.Need-refusal-requires-5
 refusal-requires-5 c κs = search needs
@@ -52,7 +52,7 @@ unfolding workWords
 returns-5 c =
     let c₁ = c .before in let c₃ = c₁ .before .before in let c₄ = c₃ .before in let c₅ = c₄ .before in
     rw (c .refusal5 .ensures) (refused _ _ _ _ 3 0 (too-long _ _ _ _ (c₅ .if1 .left) (c₄ .if2 .left) (c₃ .if3 .left) (c₁ .if5 .taken)) (omega arith)
-        (omega arith))
+    (omega arith))
 
 read-question-requires : tie.Need-read-question-requires
 read-question-requires c κs = search needs
@@ -79,8 +79,14 @@ unfolding workWords
 run-cleared-requires c κs =
     let c₃ = c .before .before .before in let c₅ = c₃ .before .before in let c₆ = c₅ .before in let c₈ = c₆ .before .before in let c₉ = c₈ .before in
     let c₁₀ = c₉ .before in
-    record { enough = c₈ .if3 .left; low = c₁₀ .if1 .left; high = c₉ .if2 .left; few = c₆ .if5 .left; read = rw (c₃ .a .given .1) at
-        (c₅ .read-question .ensures) }
+    record {
+      enough = c₈ .if3 .left;
+      low = c₁₀ .if1 .left;
+      high = c₉ .if2 .left;
+      few = c₆ .if5 .left;
+      read = rw (c₃ .a .given .1) at
+          (c₅ .read-question .ensures);
+    }
 
 returns-6 : tie.Need-returns-6
 unfolding workWords
@@ -90,7 +96,7 @@ returns-6 c =
     let f = (rw (c₂ .code .given .1) at (c₄ .read-question .ensures)) .within in
     rw (c .refusal6 .ensures)
     (refused _ _ _ _ _ _ (faulted _ _ _ _ (c₉ .if1 .left) (c₈ .if2 .left) (c₇ .if3 .left) (c₆ .if4 .left) (c₅ .if5 .left) _ _
-        ((rw (c₂ .code .given .1) at (c₄ .read-question .ensures)) .is)) (omega (arith, f .least)) (f .most))
+    ((rw (c₂ .code .given .1) at (c₄ .read-question .ensures)) .is)) (omega (arith, f .least)) (f .most))
 
 same-length : tie.Need-same-length
 same-length c = search needs
@@ -104,7 +110,7 @@ returns-7 c =
     let c₄ = c .before .before .before .before in let c₈ = c₄ .before .before .before .before in let c₁₀ = c₈ .before .before in
     let c₁₁ = c₁₀ .before in let c₁₂ = c₁₁ .before in let c₁₃ = c₁₂ .before in let c₁₄ = c₁₃ .before in let c₁₅ = c₁₄ .before in
     replied ((rw (c₈ .a .given .1) at (c₁₀ .read-question .ensures))) (read _ _ _ _ (c₁₅ .if1 .left) (c₁₄ .if2 .left) (c₁₃ .if3 .left)
-        (c₁₂ .if4 .left) (c₁₁ .if5 .left)) (c₄ .run-cleared .ensures)
+    (c₁₂ .if4 .left) (c₁₁ .if5 .left)) (c₄ .run-cleared .ensures)
 
 pub check-spec : {M : Type 1} → statement M
 check-spec =

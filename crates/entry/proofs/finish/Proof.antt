@@ -36,9 +36,11 @@ report-error-requires c κs =
 
 told-requires-2 : tie.Need-told-requires-2
 told-requires-2 c κs =
-    let c₂ = c .before .before in let c₆ = c₂ .before .before .before .before in let c₁₁ = c₆ .before .before .before .before .before in
-    (error-code (c₁₁ .pre) (c₆ .z2 .given .1), omega (arith, c₁₁ .pre .budget), error-length (c₁₁ .pre) (c₆ .z2 .given .1)
-        (c₂ .report-error .ensures))
+    let c₂ = c .before .before in let c₆ = c₂ .before .before .before .before in let c₁₁ = c₆ .before .before .before .before .before in (
+      error-code (c₁₁ .pre) (c₆ .z2 .given .1),
+      omega (arith, c₁₁ .pre .budget),
+      error-length (c₁₁ .pre) (c₆ .z2 .given .1) (c₂ .report-error .ensures),
+    )
 
 enum-told : tie.Need-enum-told
 enum-told c = search needs

@@ -82,7 +82,7 @@ returns-4 : tie.Need-returns-4
 returns-4 c =
     let c₂ = c .before .before in let c₄ = c₂ .before .before in let c₅ = c₄ .before in let c₈ = c₅ .before .before .before in
     kind-answers (c₈ .pre) 4 (c₄ .match .keys4) (asks-4 (c₈ .pre .run)) (c₅ .mode-of .ensures) (c₂ .subtype .ensures .in-mode (c₅ .mode-of .result))
-        refl
+    refl
 
 same-length-5 : tie.Need-same-length-5
 same-length-5 c = search needs
@@ -91,7 +91,7 @@ returns-5 : tie.Need-returns-5
 returns-5 c =
     let c₂ = c .before .before in let c₄ = c₂ .before .before in let c₅ = c₄ .before in let c₈ = c₅ .before .before .before in
     kind-answers (c₈ .pre) 5 (c₄ .match .keys5) (asks-5 (c₈ .pre .run)) (c₅ .mode-of .ensures) (c₂ .inst-l .ensures .in-mode (c₅ .mode-of .result))
-        refl
+    refl
 
 same-length-6 : tie.Need-same-length-6
 same-length-6 c = search needs
@@ -100,7 +100,7 @@ returns-6 : tie.Need-returns-6
 returns-6 c =
     let c₂ = c .before .before in let c₄ = c₂ .before .before in let c₅ = c₄ .before in let c₈ = c₅ .before .before .before in
     kind-answers (c₈ .pre) 6 (c₄ .match .keys6) (asks-6 (c₈ .pre .run)) (c₅ .mode-of .ensures) (c₂ .inst-r .ensures .in-mode (c₅ .mode-of .result))
-        refl
+    refl
 
 same-length-7 : tie.Need-same-length-7
 same-length-7 c = search needs
@@ -110,7 +110,7 @@ returns-7 c =
     let c₂ = c .before .before in let c₆ = c₂ .before .before .before .before in let c₈ = c₆ .before .before in let c₉ = c₈ .before in
     let c₁₂ = c₉ .before .before .before in
     kind7-answers (c₁₂ .pre) 7 (kind-seven (c₁₂ .pre) (c₈ .match .rest)) (asks-7 (c₁₂ .pre .run)) (c₉ .mode-of .ensures) (c₆ .infer2 .ensures) refl
-        (sym (c₂ .resolve .kept .1 .0)) (c₂ .resolve .ensures)
+    (sym (c₂ .resolve .kept .1 .0)) (c₂ .resolve .ensures)
 
 pub judge-spec : {M : Type 1} → statement M
 judge-spec =

@@ -32,9 +32,13 @@ loop-less c = omega arith
 
 loop-again : tie.Need-loop-again Inv-loop μ-loop
 loop-again c =
-    let c₁ = c .before in let c₂ = c₁ .before in
-    (omega arith, c₁ .loop .inv .1, simp length-set (c₁ .loop .inv .2), rw (c₁ .loop .inv .3)
-        (fill-more (c₁ .loop .i) 0 (c₂ .args .words .now) (omega arith)))
+    let c₁ = c .before in let c₂ = c₁ .before in (
+      omega arith,
+      c₁ .loop .inv .1,
+      simp length-set (c₁ .loop .inv .2),
+      rw (c₁ .loop .inv .3)
+          (fill-more (c₁ .loop .i) 0 (c₂ .args .words .now) (omega arith)),
+    )
 
 same-length : tie.Need-same-length Inv-loop μ-loop
 same-length c = c .before .loop .inv .2

@@ -38,7 +38,7 @@ returns-2 c =
     let c₂ = c .before .before in let c₄ = c₂ .before .before in let c₅ = c₄ .before in let c₆ = c₅ .before in let c₈ = c₆ .before .before in
     let c₁₂ = c₈ .before .before .before .before in
     solve-done (c₁₂ .pre) (c₈ .name-of .ensures) (c₆ .occurs-check .ensures) (c₅ .if1 .left) (first-is (c₁₂ .args .s) (c₄ .first .ensures))
-        (c₂ .solved .ensures)
+    (c₂ .solved .ensures)
 
 pub solve-spec : {M : Type 1} → statement M
 solve-spec =

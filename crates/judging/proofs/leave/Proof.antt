@@ -32,7 +32,7 @@ returns-2 c =
     let c₂ = c .before .before in let c₆ = c₂ .before .before .before .before in let c₁₀ = c₆ .before .before .before .before in
     let c₁₂ = c₁₀ .before .before in
     wrote (c₁₂ .if1 .left) (node-keep (c₁₀ .put4 .ensures) (c₆ .put42 .ensures) (c₂ .put43 .ensures))
-        (node-words (c₁₀ .put4 .ensures) (c₆ .put42 .ensures) (c₂ .put43 .ensures))
+    (node-words (c₁₀ .put4 .ensures) (c₆ .put42 .ensures) (c₂ .put43 .ensures))
 
 pub leave-spec : {M : Type 1} → statement M
 leave-spec =

@@ -44,9 +44,11 @@ loop-less c = omega arith
 
 loop-again : tie.Need-loop-again Inv-loop μ-loop
 loop-again c =
-    let c₂ = c .before .before in let c₃ = c₂ .before in
-    (omega arith, keep-trans (c₂ .loop .inv .1) (keep-set _ _ _ _ _ (omega arith) (omega arith)), copy-more (c₃ .args .from) (c₃ .args .n)
-        (c₂ .loop .i) (c₃ .pre .0) (c₃ .pre .1) (omega arith) (c₂ .loop .inv .1) (c₂ .loop .inv .2))
+    let c₂ = c .before .before in let c₃ = c₂ .before in (
+      omega arith,
+      keep-trans (c₂ .loop .inv .1) (keep-set _ _ _ _ _ (omega arith) (omega arith)),
+      copy-more (c₃ .args .from) (c₃ .args .n) (c₂ .loop .i) (c₃ .pre .0) (c₃ .pre .1) (omega arith) (c₂ .loop .inv .1) (c₂ .loop .inv .2),
+    )
 
 same-length : tie.Need-same-length Inv-loop μ-loop
 same-length c = sym (c .before .loop .inv .1 .long)

@@ -53,8 +53,7 @@ loop-less c = search needs
 
 loop-again : tie.Need-loop-again Inv-loop μ-loop
 loop-again c =
-    let c₂ = c .before .before in let c₆ = c₂ .before .before .before .before in let c₁₀ = c₆ .before .before .before .before in
-    (
+    let c₂ = c .before .before in let c₆ = c₂ .before .before .before .before in let c₁₀ = c₆ .before .before .before .before in (
       omega arith,
       omega arith,
       omega arith,

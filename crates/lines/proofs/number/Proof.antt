@@ -23,9 +23,10 @@ same-length c = search needs
 
 returns : tie.Need-returns
 returns c =
-    let c₂ = c .before .before in let c₅ = c₂ .before .before .before in
-    (wrote-byte _ _ (c₂ .digits .ensures) (omega (arith, decimal-length 9 (c₅ .args .x) (omega (arith, c₅ .good)))), omega
-        (arith, decimal-length 9 (c₅ .args .x) (omega (arith, c₅ .good))))
+    let c₂ = c .before .before in let c₅ = c₂ .before .before .before in (
+      wrote-byte _ _ (c₂ .digits .ensures) (omega (arith, decimal-length 9 (c₅ .args .x) (omega (arith, c₅ .good)))),
+      omega (arith, decimal-length 9 (c₅ .args .x) (omega (arith, c₅ .good))),
+    )
 
 pub number-spec : {M : Type 1} → statement M
 number-spec = tie.close (tie.spec digits-requires slice-write-out add-result same-length returns)

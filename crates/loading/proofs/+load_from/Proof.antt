@@ -138,9 +138,11 @@ load-from-load-from-requires : (t : ℕ) → load-from-lts.Need-load-from-requir
 ) (load-from-at t) load-from.Post
 load-from-load-from-requires t c κs =
     let c₃ = c .before .before .before in let c₅ = c₃ .before .before in let c₇ = c₅ .before .before in let c₈ = c₇ .before in let c₉ = c₈ .before in
-    let c₁₂ = c₉ .before .before .before in
-    (omega (arith, c₁₂ .pre .0, c₉ .if1 .left), next-reads (c₁₂ .pre .1) (c₉ .if1 .left) (rw (c₈ .word .ensures .0) at (c₅ .rest-of .ensures))
-        (rw (c₈ .word .ensures .0, c₇ .word2 .ensures .0) at (c₃ .put4 .ensures)))
+    let c₁₂ = c₉ .before .before .before in (
+      omega (arith, c₁₂ .pre .0, c₉ .if1 .left),
+      next-reads (c₁₂ .pre .1) (c₉ .if1 .left) (rw (c₈ .word .ensures .0) at (c₅ .rest-of .ensures))
+          (rw (c₈ .word .ensures .0, c₇ .word2 .ensures .0) at (c₃ .put4 .ensures)),
+    )
 
 load-from-same-length : (t : ℕ) → load-from-lts.Need-same-length (
   word-reads.Asked,
@@ -168,7 +170,7 @@ load-from-returns-2 t c =
     let c₂ = c .before .before in let c₆ = c₂ .before .before .before .before in let c₈ = c₆ .before .before in let c₁₀ = c₈ .before .before in
     let c₁₁ = c₁₀ .before in let c₁₂ = c₁₁ .before in let c₁₅ = c₁₂ .before .before .before in
     loaded-some (c₁₅ .pre .1) (c₁₂ .if1 .left) (rw (c₁₁ .word .ensures .0) at (c₈ .rest-of .ensures))
-        (rw (c₁₁ .word .ensures .0, c₁₀ .word2 .ensures .0) at (c₆ .put4 .ensures)) (c₂ .load-from .ensures)
+    (rw (c₁₁ .word .ensures .0, c₁₀ .word2 .ensures .0) at (c₆ .put4 .ensures)) (c₂ .load-from .ensures)
 
 pub +load-from-spec : {M : Type 1} → statement M
 +load-from-spec = close μ-load-from λ t. load-from-lts.spec (

@@ -64,8 +64,11 @@ read-context-add-more : (t : ℕ) → read-context-lts.Need-add-more (read-conte
 read-context-add-more t c =
     let c₁ = c .before in let c₃ = c₁ .before .before in let c₅ = c₃ .before .before in let c₇ = c₅ .before .before in let c₈ = c₇ .before in
     let c₁₀ = c₈ .before .before in
-    omega (arith, context-few (entry-past (c₁₀ .pre .1) (c₈ .if1 .left) (c₇ .read-entry .ensures) (c₅ .entry .given .1) .1)
-        (c₃ .read-context .ensures) (c₁ .rest .given .1))
+    omega (
+      arith,
+      context-few (entry-past (c₁₀ .pre .1) (c₈ .if1 .left) (c₇ .read-entry .ensures) (c₅ .entry .given .1) .1)
+          (c₃ .read-context .ensures) (c₁ .rest .given .1),
+    )
 
 read-context-enum-known-entry-2 : (t : ℕ) → read-context-lts.Need-enum-known-entry-2 (read-context-claims t) (read-context-at t) read-context.Post
 read-context-enum-known-entry-2 t c = search needs

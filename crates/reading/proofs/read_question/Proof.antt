@@ -26,7 +26,7 @@ returns-4 : tie.Need-returns-4
 returns-4 c =
     let c₁ = c .before in let c₂ = c₁ .before in let c₃ = c₂ .before in let c₄ = c₃ .before in let c₅ = c₄ .before in let c₇ = c₅ .before .before in
     mode-bad _ (c₇ .pre .0) (c₇ .pre .1) (c₅ .word .ensures .0) (c₄ .if1 .left) (c₃ .if2 .left) (c₂ .if3 .left)
-        (omega (arith, c₁ .word2 .ensures .0, c .if4 .taken))
+    (omega (arith, c₁ .word2 .ensures .0, c .if4 .taken))
 
 read-sections-requires : tie.Need-read-sections-requires
 read-sections-requires c κs = search needs
@@ -36,7 +36,7 @@ returns-5 c =
     let c₁ = c .before in let c₂ = c₁ .before in let c₃ = c₂ .before in let c₄ = c₃ .before in let c₅ = c₄ .before in let c₆ = c₅ .before in
     let c₈ = c₆ .before .before in
     question-read _ (c₈ .pre .0) (c₈ .pre .1) (c₆ .word .ensures .0) (c₅ .if1 .left) (c₄ .if2 .left) (c₃ .if3 .left) (c₂ .word2 .ensures .0)
-        (c₁ .if4 .left) (c .read-sections .ensures)
+    (c₁ .if4 .left) (c .read-sections .ensures)
 
 pub read-question-spec : {M : Type 1} → statement M
 read-question-spec =

@@ -77,25 +77,25 @@ returns-5 : tie.Need-returns-5
 returns-5 c =
     let c₁ = c .before in let c₄ = c₁ .before .before .before in let c₅ = c₄ .before in let c₇ = c₅ .before .before in
     rw (c₁ .enum-told2 .given .1) (section-entries (c₇ .pre) (c₅ .if1 .left) (ap (λ n. c₇ .args .p + 1 + n) (c₄ .word .ensures .0)) (omega arith)
-        (c .read-context .ensures))
+    (c .read-context .ensures))
 
 returns-6 : tie.Need-returns-6
 returns-6 c =
     let c₁ = c .before in let c₂ = c₁ .before in let c₅ = c₂ .before .before .before in let c₆ = c₅ .before in let c₈ = c₆ .before .before in
     rw (c₂ .enum-told3 .given .1) (section-expr (c₈ .pre) (c₆ .if1 .left) (ap (λ n. c₈ .args .p + 1 + n) (c₅ .word .ensures .0)) (omega arith)
-        (c₁ .read-expr .ensures) (c .whole .ensures))
+    (c₁ .read-expr .ensures) (c .whole .ensures))
 
 returns-7 : tie.Need-returns-7
 returns-7 c =
     let c₁ = c .before in let c₂ = c₁ .before in let c₅ = c₂ .before .before .before in let c₆ = c₅ .before in let c₈ = c₆ .before .before in
     rw (c₂ .enum-told4 .given .1) (section-type (c₈ .pre) (c₆ .if1 .left) (ap (λ n. c₈ .args .p + 1 + n) (c₅ .word .ensures .0)) (omega arith)
-        (c₁ .read-type .ensures) (c .whole2 .ensures))
+    (c₁ .read-type .ensures) (c .whole2 .ensures))
 
 returns-8 : tie.Need-returns-8
 returns-8 c =
     let c₁ = c .before in let c₂ = c₁ .before in let c₅ = c₂ .before .before .before in let c₆ = c₅ .before in let c₈ = c₆ .before .before in
     rw (c₂ .enum-told5 .given .1) (section-unknown (c₈ .pre) (c₆ .if1 .left) (ap (λ n. c₈ .args .p + 1 + n) (c₅ .word .ensures .0)) (omega arith)
-        (c₁ .read-unknown .ensures) (c .whole3 .ensures))
+    (c₁ .read-unknown .ensures) (c .whole3 .ensures))
 
 pub read-section-spec : {M : Type 1} → statement M
 read-section-spec =

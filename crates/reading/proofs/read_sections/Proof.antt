@@ -29,7 +29,7 @@ returns c =
     let c₂ = c .before .before in let c₄ = c₂ .before .before in let c₅ = c₄ .before in let c₆ = c₅ .before in let c₇ = c₆ .before in
     let c₈ = c₇ .before in let c₁₀ = c₈ .before .before in
     sections-more (c₁₀ .args .mode) (four (c₈ .plan-of .ensures) (c₇ .read-section .ensures) (c₆ .then-section .ensures) (c₅ .then-section2 .ensures)
-        (c₄ .then-section3 .ensures)) (c₂ .right .given .1) (c .if1 .taken)
+    (c₄ .then-section3 .ensures)) (c₂ .right .given .1) (c .if1 .taken)
 
 value-of-requires : tie.Need-value-of-requires
 value-of-requires c κs = search needs
@@ -48,15 +48,15 @@ returns-2 c =
     let c₁ = c .before in let c₂ = c₁ .before in let c₃ = c₂ .before in let c₅ = c₃ .before .before in let c₇ = c₅ .before .before in
     let c₈ = c₇ .before in let c₉ = c₈ .before in let c₁₀ = c₉ .before in let c₁₁ = c₁₀ .before in let c₁₃ = c₁₁ .before .before in
     sections-asked (c₁₃ .args .mode) (four (c₁₁ .plan-of .ensures) (c₁₀ .read-section .ensures) (c₉ .then-section .ensures)
-        (c₈ .then-section2 .ensures) (c₇ .then-section3 .ensures)) _ (c₅ .right .given .1) (c₃ .if1 .left) refl refl refl (c₂ .value-of .ensures)
-        (c₁ .value-of2 .ensures) (c .value-of3 .ensures) refl
+    (c₈ .then-section2 .ensures) (c₇ .then-section3 .ensures)) _ (c₅ .right .given .1) (c₃ .if1 .left) refl refl refl (c₂ .value-of .ensures)
+    (c₁ .value-of2 .ensures) (c .value-of3 .ensures) refl
 
 returns-3 : tie.Need-returns-3
 returns-3 c =
     let c₁ = c .before in let c₃ = c₁ .before .before in let c₄ = c₃ .before in let c₅ = c₄ .before in let c₆ = c₅ .before in let c₇ = c₆ .before in
     let c₉ = c₇ .before .before in
     sections-refused (c₉ .args .mode) (four (c₇ .plan-of .ensures) (c₆ .read-section .ensures) (c₅ .then-section .ensures)
-        (c₄ .then-section2 .ensures) (c₃ .then-section3 .ensures)) (c₁ .right2 .given .1)
+    (c₄ .then-section2 .ensures) (c₃ .then-section3 .ensures)) (c₁ .right2 .given .1)
 
 pub read-sections-spec : {M : Type 1} → statement M
 read-sections-spec =

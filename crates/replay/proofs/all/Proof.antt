@@ -8,7 +8,7 @@ use Rattle.replay.proofs.all.Tie as tie
 abbrev Inv-loop : tie.InvT-loop
 Inv-loop bytes₀ words₀ work₀ report₀ out₀ turns₀ bytes words work report out turns =
     (length bytes ≡ length bytes₀) × (length words ≡ length words₀) × (length work ≡ length work₀) × (length report ≡ length report₀) ×
-        (length out ≡ length out₀)
+    (length out ≡ length out₀)
 
 abbrev μ-loop : tie.MeasureT-loop
 μ-loop bytes₀ words₀ work₀ report₀ out₀ turns₀ bytes words work report out turns = turns

@@ -53,7 +53,7 @@ returns c =
     let c₄ = c .before .before .before .before in let c₁₁ = c₄ .before .before .before .before .before .before .before in
     let c₁₇ = c₁₁ .before .before .before .before .before .before in
     asked (c₁₇ .args .f) _ _ _ (rw sub-zero (length-take-le _ _ (c₁₇ .pre .work))) (rw sub-zero (length-take-le _ _ (c₁₇ .pre .report)))
-        (c₁₁ .read-words .ensures) (c₄ .check .ensures)
+    (c₁₁ .read-words .ensures) (c₄ .check .ensures)
 
 pub ask-spec : {M : Type 1} → statement M
 ask-spec =

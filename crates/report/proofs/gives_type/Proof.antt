@@ -20,8 +20,11 @@ returns-4 : tie.Need-returns-4
 unfolding givesType
 returns-4 c =
     let c₁ = c .before in
-    rw (ne-eqb (c₁ .args .kind) 1 (c .match .rest .0 .0 .1), ne-eqb (c₁ .args .kind) 3 (c .match .rest .0 .1), ne-eqb (c₁ .args .kind) 7
-        (c .match .rest .1))
+    rw (
+      ne-eqb (c₁ .args .kind) 1 (c .match .rest .0 .0 .1),
+      ne-eqb (c₁ .args .kind) 3 (c .match .rest .0 .1),
+      ne-eqb (c₁ .args .kind) 7 (c .match .rest .1),
+    )
 
 pub gives-type-spec : {M : Type 1} → statement M
 gives-type-spec = tie.close (tie.spec returns returns-2 returns-3 returns-4)

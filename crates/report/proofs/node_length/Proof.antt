@@ -28,9 +28,10 @@ section-length-requires-2 c κs =
 
 length-after-requires-2 : tie.Need-length-after-requires-2
 length-after-requires-2 c κs =
-    let c₂ = c .before .before in let c₄ = c₂ .before .before in let c₇ = c₄ .before .before .before in
-    (spelled-first (spelled-second (spelled-second (spelled-second (spelled-second (spelled-as (node-parts (c₄ .node-at .ensures)) (c₇ .pre .0)))))),
-        measures-own (c₂ .length-after .ensures))
+    let c₂ = c .before .before in let c₄ = c₂ .before .before in let c₇ = c₄ .before .before .before in (
+      spelled-first (spelled-second (spelled-second (spelled-second (spelled-second (spelled-as (node-parts (c₄ .node-at .ensures)) (c₇ .pre .0)))))),
+      measures-own (c₂ .length-after .ensures),
+    )
 
 section-length-requires-3 : tie.Need-section-length-requires-3
 section-length-requires-3 c κs =
@@ -63,7 +64,7 @@ returns c =
           (long-then (c₈ .section-length .ensures)
           (long-then (c₇ .section-length2 .ensures)
           (long-then (c₆ .length-after2 .ensures .long) (c₅ .section-length3 .ensures) (c₄ .sum .ensures)) (c₃ .sum2 .ensures)) (c₂ .sum3 .ensures))
-              (c₁ .sum4 .ensures)) (c .sum5 .ensures));
+          (c₁ .sum4 .ensures)) (c .sum5 .ensures));
       output = rw (output-read (c₁₁ .node-at .ensures)) at (c₆ .length-after2 .ensures);
     }
 

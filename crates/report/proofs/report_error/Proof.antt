@@ -29,7 +29,7 @@ write-error-requires : tie.Need-write-error-requires
 write-error-requires c κs =
     let c₁ = c .before in let c₃ = c₁ .before .before in let c₄ = c₃ .before in let c₅ = c₄ .before in let c₉ = c₅ .before .before .before .before in
     writable (c₄ .error-length .ensures) (spelled-as (error-parts (c₅ .names-two .ensures)) (c₉ .pre)) (c₃ .outcome .ensures)
-        (c₁ .enum-told .given .1)
+    (c₁ .enum-told .given .1)
 
 same-length : tie.Need-same-length
 same-length c = search needs
@@ -38,7 +38,7 @@ returns-2 : tie.Need-returns-2
 returns-2 c =
     let c₂ = c .before .before in let c₄ = c₂ .before .before in let c₆ = c₄ .before .before in let c₇ = c₆ .before in let c₈ = c₇ .before in
     reports-as (error-parts (c₈ .names-two .ensures)) (written (c₇ .error-length .ensures) (c₆ .outcome .ensures) (c₄ .enum-told .given .1)
-        (c₂ .write-error .ensures))
+    (c₂ .write-error .ensures))
 
 pub report-error-spec : {M : Type 1} → statement M
 report-error-spec =

@@ -33,9 +33,10 @@ loop-less c = omega (arith, nodes-room (c .before .before .before .loop-test .ta
 
 loop-again : tie.Need-loop-again Inv-loop μ-loop
 loop-again c =
-    let c₁ = c .before in let c₂ = c₁ .before in let c₃ = c₂ .before in let c₄ = c₃ .before in
-    (sum-next (nodes-first (c₃ .loop-test .taken)) (c₄ .loop .inv .0) (c₂ .node-length .ensures .long) (c₁ .sum .ensures), measures-own
-        (c₂ .node-length .ensures .output))
+    let c₁ = c .before in let c₂ = c₁ .before in let c₃ = c₂ .before in let c₄ = c₃ .before in (
+      sum-next (nodes-first (c₃ .loop-test .taken)) (c₄ .loop .inv .0) (c₂ .node-length .ensures .long) (c₁ .sum .ensures),
+      measures-own (c₂ .node-length .ensures .output),
+    )
 
 sum-requires-2 : tie.Need-sum-requires-2 Inv-loop μ-loop
 sum-requires-2 c κs = tt

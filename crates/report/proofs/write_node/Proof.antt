@@ -35,7 +35,7 @@ write-after-requires-2 c κs =
     let c₃ = c .before .before .before in let c₇ = c₃ .before .before .before .before in let c₁₁ = c₇ .before .before .before .before in
     let c₁₅ = c₁₁ .before .before .before .before in let c₁₈ = c₁₅ .before .before .before in let c₂₂ = c₁₈ .before .before .before .before in
     output-fits (c₁₈ .node-at .ensures) (c₂₂ .pre .0) (c₂₂ .pre .1) (c₁₅ .write-three .ensures) (c₁₁ .write-after .ensures)
-        (c₇ .write-section .ensures) (c₃ .write-section2 .ensures)
+    (c₇ .write-section .ensures) (c₃ .write-section2 .ensures)
 
 write-section-requires-3 : tie.Need-write-section-requires-3
 write-section-requires-3 c κs =
@@ -43,7 +43,7 @@ write-section-requires-3 c κs =
     let c₁₅ = c₁₁ .before .before .before .before in let c₁₉ = c₁₅ .before .before .before .before in let c₂₂ = c₁₉ .before .before .before in
     let c₂₆ = c₂₂ .before .before .before .before in
     result-fits (c₂₂ .node-at .ensures) (c₂₆ .pre .0) (c₂₆ .pre .1) (c₁₉ .write-three .ensures) (c₁₅ .write-after .ensures)
-        (c₁₁ .write-section .ensures) (c₇ .write-section2 .ensures) (c₃ .write-after2 .ensures)
+    (c₁₁ .write-section .ensures) (c₇ .write-section2 .ensures) (c₃ .write-after2 .ensures)
 
 returns : tie.Need-returns
 returns c =
@@ -51,7 +51,7 @@ returns c =
     let c₁₄ = c₁₀ .before .before .before .before in let c₁₈ = c₁₄ .before .before .before .before in let c₂₂ = c₁₈ .before .before .before .before in
     let c₂₅ = c₂₂ .before .before .before in let c₂₉ = c₂₅ .before .before .before .before in
     node-written (c₂₅ .node-at .ensures) (c₂₉ .pre .0) (c₂₉ .pre .1) (c₂₂ .write-three .ensures) (c₁₈ .write-after .ensures)
-        (c₁₄ .write-section .ensures) (c₁₀ .write-section2 .ensures) (c₆ .write-after2 .ensures) (c₂ .write-section3 .ensures)
+    (c₁₄ .write-section .ensures) (c₁₀ .write-section2 .ensures) (c₆ .write-after2 .ensures) (c₂ .write-section3 .ensures)
 
 same-length : tie.Need-same-length
 same-length c =

@@ -31,7 +31,7 @@ returns : tie.Need-returns
 returns c =
     let c₂ = c .before .before in let c₆ = c₂ .before .before .before .before in let c₁₀ = c₆ .before .before .before .before in
     writes-word (c₁₀ .put .ensures) refl (writes-word (c₆ .put2 .ensures) (omega arith)
-        (writes-word (c₂ .put3 .ensures) (omega arith) (writes-none _ _)))
+    (writes-word (c₂ .put3 .ensures) (omega arith) (writes-none _ _)))
 
 pub write-three-spec : {M : Type 1} → statement M
 write-three-spec =

@@ -12,7 +12,7 @@ returns-2 : tie.Need-returns-2
 returns-2 c =
     let c₁ = c .before in
     sub refl (λ e f. c .if1 .left e) (λ e f. omega (arith, c₁ .match .keys1)) (λ e f. omega (arith, c₁ .match .keys1))
-        (λ e. omega (arith, c₁ .match .keys1))
+    (λ e. omega (arith, c₁ .match .keys1))
 
 returns-3 : tie.Need-returns-3
 returns-3 c = lit-bool refl (c .if2 .taken) (c .before .match .keys2)
@@ -21,7 +21,7 @@ returns-4 : tie.Need-returns-4
 returns-4 c =
     let c₁ = c .before in
     sub refl (λ e f. omega (arith, c₁ .match .keys2)) (λ e f. c .if2 .left e) (λ e f. omega (arith, c₁ .match .keys2))
-        (λ e. omega (arith, c₁ .match .keys2))
+    (λ e. omega (arith, c₁ .match .keys2))
 
 returns-5 : tie.Need-returns-5
 returns-5 c = lam refl (c .if3 .taken) (c .before .match .keys3)
@@ -30,7 +30,7 @@ returns-6 : tie.Need-returns-6
 returns-6 c =
     let c₁ = c .before in
     sub refl (λ e f. omega (arith, c₁ .match .keys3)) (λ e f. omega (arith, c₁ .match .keys3)) (λ e f. c .if3 .left e)
-        (λ e. omega (arith, c₁ .match .keys3))
+    (λ e. omega (arith, c₁ .match .keys3))
 
 returns-7 : tie.Need-returns-7
 returns-7 c = all refl (c .match .keys4)

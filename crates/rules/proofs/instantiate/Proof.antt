@@ -37,7 +37,7 @@ returns c =
     let c₄ = c .before .before .before .before in let c₆ = c₄ .before .before in let c₈ = c₆ .before .before in let c₁₀ = c₈ .before .before in
     let c₁₁ = c₁₀ .before in let c₁₅ = c₁₁ .before .before .before .before in
     instance-spent (c₁₅ .pre) (c₁₁ .tag .ensures) (c₁₀ .if1 .taken) (c₈ .name-of .ensures) (c₆ .body-of .ensures) (c₄ .subst-type .ensures)
-        (c .enum-told .given .1)
+    (c .enum-told .given .1)
 
 same-length-2 : tie.Need-same-length-2
 same-length-2 c = search needs
@@ -47,7 +47,7 @@ returns-2 c =
     let c₁ = c .before in let c₅ = c₁ .before .before .before .before in let c₇ = c₅ .before .before in let c₉ = c₇ .before .before in
     let c₁₁ = c₉ .before .before in let c₁₂ = c₁₁ .before in let c₁₆ = c₁₂ .before .before .before .before in
     instance-done (c₁₆ .pre) (c₁₂ .tag .ensures) (c₁₁ .if1 .taken) (c₉ .name-of .ensures) (c₇ .body-of .ensures) (c₅ .subst-type .ensures)
-        (c₁ .st1 .given .1)
+    (c₁ .st1 .given .1)
 
 same-length-3 : tie.Need-same-length-3
 same-length-3 c = search needs

@@ -18,8 +18,10 @@ returns : tie.Need-returns
 unfolding kept
 returns c =
     let c₄ = c .before .before .before .before in let c₆ = c₄ .before .before in let c₁₀ = c₆ .before .before .before .before in
-    rw (c₆ .if1 .taken) (record { finished = λ q. both-kept (c₁₀ .args .r .st) (c₁₀ .args .r .st) 0 (keep-refl _ _ _) (omega arith) refl refl refl
-        (omega (arith, c₁₀ .pre .room)) (c₄ .solved-and-right .ensures) (λ A d. d) })
+    rw (c₆ .if1 .taken) (record {
+      finished = λ q. both-kept (c₁₀ .args .r .st) (c₁₀ .args .r .st) 0 (keep-refl _ _ _) (omega arith) refl refl refl
+          (omega (arith, c₁₀ .pre .room)) (c₄ .solved-and-right .ensures) (λ A d. d);
+    })
 
 right-of-requires : tie.Need-right-of-requires
 right-of-requires c κs =

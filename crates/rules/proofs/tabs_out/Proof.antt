@@ -21,9 +21,15 @@ same-length c = search needs
 returns : tie.Need-returns
 returns c =
     let c₄ = c .before .before .before .before in let c₈ = c₄ .before .before .before .before in let c₁₂ = c₈ .before .before .before .before in
-    record { finished = both-kept (c₁₂ .args .st) (record { top = c₁₂ .args .st .top + 4; low = c₁₂ .args .st .low; left = c₁₂ .args .st .left;
-        fresh = c₁₂ .args .st .fresh }) 4 (c₈ .put-forall .ensures .keep) refl refl refl refl (c₁₂ .pre .room) (c₄ .solved-and-right .ensures)
-        (c₈ .put-forall .ensures .den) }
+    record {
+      finished = both-kept (c₁₂ .args .st) (record {
+        top = c₁₂ .args .st .top + 4;
+        low = c₁₂ .args .st .low;
+        left = c₁₂ .args .st .left;
+        fresh = c₁₂ .args .st .fresh;
+      }) 4 (c₈ .put-forall .ensures .keep) refl refl refl refl (c₁₂ .pre .room) (c₄ .solved-and-right .ensures)
+          (c₈ .put-forall .ensures .den);
+    }
 
 pub tabs-out-spec : {M : Type 1} → statement M
 tabs-out-spec =

@@ -19,7 +19,7 @@ part-at-requires : tie.Need-part-at-requires Inv-loop μ-loop
 part-at-requires c κs =
     let c₂ = c .before .before in
     cut (c₂ .args .report .now) (c₂ .args .len) (c .if1 .n) (⊎-elim (λ u. inl (omega arith, omega arith)) (λ u. inr (omega arith, omega arith))
-        (c .if1 .came)) .0
+    (c .if1 .came)) .0
 
 loop-holds : tie.Need-loop-holds Inv-loop μ-loop
 loop-holds c = (omega arith, first-of _ (c .part-at .ensures .is), c .part-at .ensures .order, c .part-at .ensures .within)
@@ -28,7 +28,7 @@ part-at-requires-2 : tie.Need-part-at-requires-2 Inv-loop μ-loop
 part-at-requires-2 c κs =
     let c₃ = c .before .before .before in let c₅ = c₃ .before .before in
     cut (c₅ .args .report .now) (c₅ .args .len) (c₃ .if1 .n) (⊎-elim (λ u. inl (omega arith, omega arith)) (λ u. inr (omega arith, omega arith))
-        (c₃ .if1 .came)) .0
+    (c₃ .if1 .came)) .0
 
 add-i : tie.Need-add-i Inv-loop μ-loop
 add-i c = omega arith
@@ -46,8 +46,8 @@ returns c =
     let c₁ = c .before in let c₃ = c₁ .before .before in let c₅ = c₃ .before .before in
     let e : c₁ .loop .i ≡ c₅ .args .k = omega arith in
     part-of _ _ _ (c₃ .if1 .n) _ (cut (c₅ .args .report .now) (c₅ .args .len) (c₃ .if1 .n)
-        (⊎-elim (λ u. inl (omega arith, omega arith)) (λ u. inr (omega arith, omega arith)) (c₃ .if1 .came))) (rw (← e) (c₁ .loop .inv .1))
-        (c₁ .loop .inv .2) (c₁ .loop .inv .3)
+    (⊎-elim (λ u. inl (omega arith, omega arith)) (λ u. inr (omega arith, omega arith)) (c₃ .if1 .came))) (rw (← e) (c₁ .loop .inv .1))
+    (c₁ .loop .inv .2) (c₁ .loop .inv .3)
 
 pub part-of-spec : {M : Type 1} → statement M
 part-of-spec =

@@ -41,9 +41,11 @@ returns c =
 push2-requires : tie.Need-push2-requires
 push2-requires c κs =
     let c₂ = c .before .before in let c₆ = c₂ .before .before .before .before in let c₁₀ = c₆ .before .before .before .before in
-    let c₁₂ = c₁₀ .before .before in let c₁₄ = c₁₂ .before .before in let c₁₈ = c₁₄ .before .before .before .before in
-    (left-space (c₁₈ .pre) (c₁₄ .name-of .ensures) (c₁₂ .body-of .ensures) (c₁₀ .put-etvar .ensures) (c₆ .subst-type .ensures) (c₂ .paid .given .1),
-        omega arith, omega arith)
+    let c₁₂ = c₁₀ .before .before in let c₁₄ = c₁₂ .before .before in let c₁₈ = c₁₄ .before .before .before .before in (
+      left-space (c₁₈ .pre) (c₁₄ .name-of .ensures) (c₁₂ .body-of .ensures) (c₁₀ .put-etvar .ensures) (c₆ .subst-type .ensures) (c₂ .paid .given .1),
+      omega arith,
+      omega arith,
+    )
 
 same-length-2 : tie.Need-same-length-2
 same-length-2 c = search needs
@@ -54,7 +56,7 @@ returns-2 c =
     let c₁₅ = c₁₁ .before .before .before .before in let c₁₇ = c₁₅ .before .before in let c₁₉ = c₁₇ .before .before in
     let c₂₃ = c₁₉ .before .before .before .before in
     opens-left (c₂₃ .pre) (c₁₉ .name-of .ensures) (c₁₇ .body-of .ensures) (c₁₅ .put-etvar .ensures) (c₁₁ .subst-type .ensures) (c₇ .paid .given .1)
-        (c₄ .push2 .ensures)
+    (c₄ .push2 .ensures)
 
 pub open-left-spec : {M : Type 1} → statement M
 open-left-spec =

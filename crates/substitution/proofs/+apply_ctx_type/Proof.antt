@@ -80,7 +80,7 @@ name-of-requires : (t : ℕ) → lts.Need-name-of-requires (claims t) (asked t) 
 name-of-requires t c κs =
     let c₁ = c .before in let c₃ = c₁ .before .before in let c₅ = c₃ .before .before in let c₉ = c₅ .before .before .before .before in
     held-named (held (apply-asks (c₉ .pre .1))) (began (c₅ .begin .ensures) (c₃ .paid .given .1) .tag) (omega (arith, c₁ .match2 .keys1))
-        (λ e. omega (arith, c₁ .match2 .keys1, e))
+    (λ e. omega (arith, c₁ .match2 .keys1, e))
 
 find-requires : (t : ℕ) → lts.Need-find-requires (claims t) (asked t) own.Post
 find-requires t c κs = span-within (c .before .before .before .before .before .before .before .before .before .before .before .pre .1)
@@ -93,7 +93,7 @@ returns-2 t c =
     let c₁ = c .before in let c₃ = c₁ .before .before in let c₅ = c₃ .before .before in let c₇ = c₅ .before .before in let c₉ = c₇ .before .before in
     let b = began (c₉ .begin .ensures) (c₇ .paid .given .1) in
     applied (given-at-once b (λ Γ run. unsolved-applied (b .tag) (c₅ .match2 .keys1) (c₃ .name-of .ensures) (c₁ .find .ensures) Γ run
-        (c .if1 .taken)))
+    (c .if1 .taken)))
 
 type-at-requires : (t : ℕ) → lts.Need-type-at-requires (claims t) (asked t) own.Post
 type-at-requires t c κs =
@@ -108,7 +108,7 @@ apply-ctx-type-requires t c κs =
     let b = began (c₁₂ .begin .ensures) (c₁₀ .paid .given .1) in
     let h = apply-asks (c₁₆ .pre .1) in
     let v = solved-applied (b .tag) (c₈ .match2 .keys1) (c₆ .name-of .ensures) (c₄ .find .ensures) (h .x) (h .given)
-        (omega (arith, c₄ .find .ensures .within, c₃ .if1 .left)) (c₁ .type-at .ensures .0) (h .type) (h .den) in
+    (omega (arith, c₄ .find .ensures .within, c₃ .if1 .left)) (c₁ .type-at .ensures .0) (h .type) (h .den) in
     (omega (arith, c₁₆ .pre .0, fewer b), apply-pre (part-asks b h (v .den)))
 
 anew-requires : (t : ℕ) → lts.Need-anew-requires (claims t) (asked t) own.Post
@@ -160,9 +160,10 @@ apply-ctx-type-requires-3 t c κs =
     let c₂₀ = c₁₆ .before .before .before .before in
     let b = began (c₁₆ .begin .ensures) (c₁₄ .paid .given .1) in
     let parts = halves (b .tag) (c₁₂ .match2 .keys2) (c₁₀ .left-of .ensures) (c₈ .right-of .ensures) in
-    let h = apply-asks (c₂₀ .pre .1) in
-    (omega (arith, c₂₀ .pre .0, fewer b, left-fewer (apply-way _ _) b parts (apply-does (c₆ .apply-ctx-type2 .ensures)) (c₂ .st1 .given .1) h),
-        apply-pre (right-asks (apply-way _ _) b parts (apply-does (c₆ .apply-ctx-type2 .ensures)) (c₂ .st1 .given .1) h))
+    let h = apply-asks (c₂₀ .pre .1) in (
+      omega (arith, c₂₀ .pre .0, fewer b, left-fewer (apply-way _ _) b parts (apply-does (c₆ .apply-ctx-type2 .ensures)) (c₂ .st1 .given .1) h),
+      apply-pre (right-asks (apply-way _ _) b parts (apply-does (c₆ .apply-ctx-type2 .ensures)) (c₂ .st1 .given .1) h),
+    )
 
 enum-known-st2 : (t : ℕ) → lts.Need-enum-known-st2 (claims t) (asked t) own.Post
 enum-known-st2 t c = search needs
@@ -181,7 +182,7 @@ returns-4 t c =
     let b = began (c₂₁ .begin .ensures) (c₁₉ .paid .given .1) in
     let parts = halves (b .tag) (c₁₇ .match2 .keys2) (c₁₅ .left-of .ensures) (c₁₃ .right-of .ensures) in
     applied (right-spent (apply-way _ _) b parts (apply-does (c₁₁ .apply-ctx-type2 .ensures)) (c₇ .st1 .given .1)
-        (apply-does (c₄ .apply-ctx-type3 .ensures)) (c .enum-told3 .given .1))
+    (apply-does (c₄ .apply-ctx-type3 .ensures)) (c .enum-told3 .given .1))
 
 arrow-made-requires : (t : ℕ) → lts.Need-arrow-made-requires (claims t) (asked t) own.Post
 arrow-made-requires t c κs =
@@ -191,7 +192,7 @@ arrow-made-requires t c κs =
     let b = began (c₂₃ .begin .ensures) (c₂₁ .paid .given .1) in
     let parts = halves (b .tag) (c₁₉ .match2 .keys2) (c₁₇ .left-of .ensures) (c₁₅ .right-of .ensures) in
     arrow-asks (apply-way _ _) b parts (apply-does (c₁₃ .apply-ctx-type2 .ensures)) (c₉ .st1 .given .1) (apply-does (c₆ .apply-ctx-type3 .ensures))
-        (c₂ .st2 .given .1) (apply-asks (c₂₇ .pre .1))
+    (c₂ .st2 .given .1) (apply-asks (c₂₇ .pre .1))
 
 anew-requires-2 : (t : ℕ) → lts.Need-anew-requires-2 (claims t) (asked t) own.Post
 anew-requires-2 t c κs = tt
@@ -200,7 +201,7 @@ name-of-requires-2 : (t : ℕ) → lts.Need-name-of-requires-2 (claims t) (asked
 name-of-requires-2 t c κs =
     let c₁ = c .before in let c₃ = c₁ .before .before in let c₅ = c₃ .before .before in let c₉ = c₅ .before .before .before .before in
     held-named (held (apply-asks (c₉ .pre .1))) (began (c₅ .begin .ensures) (c₃ .paid .given .1) .tag) (omega (arith, c₁ .match2 .keys3))
-        (λ e. omega (arith, c₁ .match2 .keys3, e))
+    (λ e. omega (arith, c₁ .match2 .keys3, e))
 
 body-of-requires : (t : ℕ) → lts.Need-body-of-requires (claims t) (asked t) own.Post
 body-of-requires t c κs =
@@ -256,8 +257,8 @@ returns-6 t c =
     let c₁₀ = c₈ .before .before in let c₁₂ = c₁₀ .before .before in let c₁₄ = c₁₂ .before .before in let c₁₆ = c₁₄ .before .before in
     let b = began (c₁₆ .begin .ensures) (c₁₄ .paid .given .1) in
     rw (c .anew .ensures) (applied (followed b (apply-does (c₃ .apply-ctx-type .ensures))
-        (λ Γ run. solved-applied (b .tag) (c₁₂ .match2 .keys1) (c₁₀ .name-of .ensures) (c₈ .find .ensures) Γ run
-        (omega (arith, c₈ .find .ensures .within, c₇ .if1 .left)) (c₅ .type-at .ensures .0))))
+    (λ Γ run. solved-applied (b .tag) (c₁₂ .match2 .keys1) (c₁₀ .name-of .ensures) (c₈ .find .ensures) Γ run
+    (omega (arith, c₈ .find .ensures .within, c₇ .if1 .left)) (c₅ .type-at .ensures .0))))
 
 same-length-7 : (t : ℕ) → lts.Need-same-length-7 (claims t) (asked t) own.Post
 same-length-7 t c = search needs
@@ -271,7 +272,7 @@ returns-7 t c =
     let b = began (c₂₇ .begin .ensures) (c₂₅ .paid .given .1) in
     let parts = halves (b .tag) (c₂₃ .match2 .keys2) (c₂₁ .left-of .ensures) (c₁₉ .right-of .ensures) in
     rw (c .anew2 .ensures) (applied (arrow-does (apply-way _ _) b parts (apply-does (c₁₇ .apply-ctx-type2 .ensures)) (c₁₃ .st1 .given .1)
-        (apply-does (c₁₀ .apply-ctx-type3 .ensures)) (c₆ .st2 .given .1) (apply-asks (c₃₁ .pre .1)) (c₃ .arrow-made .ensures)))
+    (apply-does (c₁₀ .apply-ctx-type3 .ensures)) (c₆ .st2 .given .1) (apply-asks (c₃₁ .pre .1)) (c₃ .arrow-made .ensures)))
 
 same-length-8 : (t : ℕ) → lts.Need-same-length-8 (claims t) (asked t) own.Post
 same-length-8 t c = search needs
@@ -284,7 +285,7 @@ returns-8 t c =
     let b = began (c₂₀ .begin .ensures) (c₁₈ .paid .given .1) in
     let parts = body (b .tag) (c₁₆ .match2 .keys3) (c₁₄ .name-of2 .ensures) (c₁₂ .body-of .ensures) in
     rw (c .anew3 .ensures) (applied (forall-does (λ Γ. apply-forall Γ _) b parts (apply-does (c₁₀ .apply-ctx-type4 .ensures)) (c₆ .st12 .given .1)
-        (apply-asks (c₂₄ .pre .1)) (c₃ .forall-made .ensures)))
+    (apply-asks (c₂₄ .pre .1)) (c₃ .forall-made .ensures)))
 
 same-length-9 : (t : ℕ) → lts.Need-same-length-9 (claims t) (asked t) own.Post
 same-length-9 t c = search needs

@@ -117,9 +117,11 @@ subst-type-requires-2 t c κs =
     let b = began (c₁₆ .begin .ensures) (c₁₄ .paid .given .1) in
     let parts = halves (b .tag) (c₁₂ .match2 .keys1) (c₁₀ .left-of .ensures) (c₈ .right-of .ensures) in
     let h = subst-asks (c₂₀ .pre .1) in
-    let fell = left-fewer (subst-way _ (c₂₀ .args .a) _) b parts (subst-does (c₆ .subst-type .ensures)) (c₂ .st1 .given .1) h in
-    (omega (arith, c₂₀ .pre .0, fewer b), subst-pre (right-asks (subst-way _ (c₂₀ .args .a) _) b parts (subst-does (c₆ .subst-type .ensures))
-        (c₂ .st1 .given .1) h))
+    let fell = left-fewer (subst-way _ (c₂₀ .args .a) _) b parts (subst-does (c₆ .subst-type .ensures)) (c₂ .st1 .given .1) h in (
+      omega (arith, c₂₀ .pre .0, fewer b),
+      subst-pre (right-asks (subst-way _ (c₂₀ .args .a) _) b parts (subst-does (c₆ .subst-type .ensures))
+          (c₂ .st1 .given .1) h),
+    )
 
 enum-known-st2 : (t : ℕ) → lts.Need-enum-known-st2 (claims t) (asked t) own.Post
 enum-known-st2 t c = search needs
@@ -138,7 +140,7 @@ returns-3 t c =
     let b = began (c₂₁ .begin .ensures) (c₁₉ .paid .given .1) in
     let parts = halves (b .tag) (c₁₇ .match2 .keys1) (c₁₅ .left-of .ensures) (c₁₃ .right-of .ensures) in
     substed (right-spent (subst-way _ (c₂₅ .args .a) _) b parts (subst-does (c₁₁ .subst-type .ensures)) (c₇ .st1 .given .1)
-        (subst-does (c₄ .subst-type2 .ensures)) (c .enum-told3 .given .1))
+    (subst-does (c₄ .subst-type2 .ensures)) (c .enum-told3 .given .1))
 
 arrow-made-requires : (t : ℕ) → lts.Need-arrow-made-requires (claims t) (asked t) own.Post
 arrow-made-requires t c κs =
@@ -148,7 +150,7 @@ arrow-made-requires t c κs =
     let b = began (c₂₃ .begin .ensures) (c₂₁ .paid .given .1) in
     let parts = halves (b .tag) (c₁₉ .match2 .keys1) (c₁₇ .left-of .ensures) (c₁₅ .right-of .ensures) in
     arrow-asks (subst-way _ (c₂₇ .args .a) _) b parts (subst-does (c₁₃ .subst-type .ensures)) (c₉ .st1 .given .1)
-        (subst-does (c₆ .subst-type2 .ensures)) (c₂ .st2 .given .1) (subst-asks (c₂₇ .pre .1))
+    (subst-does (c₆ .subst-type2 .ensures)) (c₂ .st2 .given .1) (subst-asks (c₂₇ .pre .1))
 
 anew-requires : (t : ℕ) → lts.Need-anew-requires (claims t) (asked t) own.Post
 anew-requires t c κs = tt
@@ -157,7 +159,7 @@ name-of-requires : (t : ℕ) → lts.Need-name-of-requires (claims t) (asked t) 
 name-of-requires t c κs =
     let c₁ = c .before in let c₃ = c₁ .before .before in let c₅ = c₃ .before .before in let c₉ = c₅ .before .before .before .before in
     held-named (held (subst-asks (c₉ .pre .1))) (began (c₅ .begin .ensures) (c₃ .paid .given .1) .tag) (omega (arith, c₁ .match2 .keys2))
-        (λ e. omega (arith, c₁ .match2 .keys2, e))
+    (λ e. omega (arith, c₁ .match2 .keys2, e))
 
 same-length-4 : (t : ℕ) → lts.Need-same-length-4 (claims t) (asked t) own.Post
 same-length-4 t c = search needs
@@ -227,7 +229,7 @@ chosen-requires t c κs =
     let c₁ = c .before in let c₂ = c₁ .before in let c₄ = c₂ .before .before in let c₆ = c₄ .before .before in
     let c₁₀ = c₆ .before .before .before .before in
     held-named (held (subst-asks (c₁₀ .pre .1))) (began (c₆ .begin .ensures) (c₄ .paid .given .1) .tag) (omega (arith, c₁ .if2 .left))
-        (c₂ .match2 .rest .0 .1)
+    (c₂ .match2 .rest .0 .1)
 
 same-length-7 : (t : ℕ) → lts.Need-same-length-7 (claims t) (asked t) own.Post
 same-length-7 t c = search needs
@@ -241,7 +243,7 @@ returns-7 t c =
     let b = began (c₂₇ .begin .ensures) (c₂₅ .paid .given .1) in
     let parts = halves (b .tag) (c₂₃ .match2 .keys1) (c₂₁ .left-of .ensures) (c₁₉ .right-of .ensures) in
     rw (c .anew .ensures) (substed (arrow-does (subst-way _ (c₃₁ .args .a) _) b parts (subst-does (c₁₇ .subst-type .ensures)) (c₁₃ .st1 .given .1)
-        (subst-does (c₁₀ .subst-type2 .ensures)) (c₆ .st2 .given .1) (subst-asks (c₃₁ .pre .1)) (c₃ .arrow-made .ensures)))
+    (subst-does (c₁₀ .subst-type2 .ensures)) (c₆ .st2 .given .1) (subst-asks (c₃₁ .pre .1)) (c₃ .arrow-made .ensures)))
 
 same-length-8 : (t : ℕ) → lts.Need-same-length-8 (claims t) (asked t) own.Post
 same-length-8 t c = search needs
@@ -254,7 +256,7 @@ returns-8 t c =
     let b = began (c₂₃ .begin .ensures) (c₂₁ .paid .given .1) in
     let parts = body (b .tag) (c₁₉ .match2 .keys2) (c₁₇ .name-of .ensures) (c₁₂ .body-of .ensures) in
     rw (c .anew2 .ensures) (substed (forall-does (forall-substed (c₁₄ .if1 .left)) b parts (subst-does (c₁₀ .subst-type3 .ensures))
-        (c₆ .st12 .given .1) (subst-asks (c₂₇ .pre .1)) (c₃ .forall-made .ensures)))
+    (c₆ .st12 .given .1) (subst-asks (c₂₇ .pre .1)) (c₃ .forall-made .ensures)))
 
 same-length-9 : (t : ℕ) → lts.Need-same-length-9 (claims t) (asked t) own.Post
 same-length-9 t c = search needs

@@ -40,13 +40,13 @@ returns-4 : tie.Need-returns-4
 returns-4 c =
     let c₃ = c .before .before .before in let c₄ = c₃ .before in let c₇ = c₄ .before .before .before in let c₈ = c₇ .before in let c₉ = c₈ .before in
     alike-named (c₉ .tag .ensures) (c₈ .tag2 .ensures) (c₇ .if1 .left) (omega arith) (omega arith) (c₄ .name-of .ensures) (c₃ .name-of2 .ensures)
-        (c .if4 .taken)
+    (c .if4 .taken)
 
 returns-5 : tie.Need-returns-5
 returns-5 c =
     let c₃ = c .before .before .before in let c₄ = c₃ .before in let c₇ = c₄ .before .before .before in let c₈ = c₇ .before in let c₉ = c₈ .before in
     alike-other (c₉ .tag .ensures) (c₈ .tag2 .ensures) (c₇ .if1 .left) (omega arith) (omega arith) (c₄ .name-of .ensures) (c₃ .name-of2 .ensures)
-        (c .if4 .left)
+    (c .if4 .left)
 
 pub alike-spec : {M : Type 1} → statement M
 alike-spec =

@@ -31,7 +31,7 @@ returns-2 : tie.Need-returns-2
 returns-2 c =
     let c₁ = c .before in let c₂ = c₁ .before in let c₃ = c₂ .before in let c₄ = c₃ .before in let c₇ = c₄ .before .before .before in
     chosen-arr (c₄ .alike .ensures) (c₃ .if1 .left) (c₂ .tag .ensures) (c₁ .tag2 .ensures)
-        (codes-small (c₇ .pre) (c₂ .tag .ensures) (c₁ .tag2 .ensures)) (c .if2 .taken)
+    (codes-small (c₇ .pre) (c₂ .tag .ensures) (c₁ .tag2 .ensures)) (c .if2 .taken)
 
 returns-3 : tie.Need-returns-3
 returns-3 c =
@@ -60,14 +60,14 @@ returns-6 c =
     let c₁ = c .before in let c₂ = c₁ .before in let c₃ = c₂ .before in let c₄ = c₃ .before in let c₅ = c₄ .before in let c₇ = c₅ .before .before in
     let c₈ = c₇ .before in let c₉ = c₈ .before in let c₁₀ = c₉ .before in
     chosen-inst-r (c₁₀ .alike .ensures) (c₉ .if1 .left) (c₈ .tag .ensures) (c₇ .tag2 .ensures) (c₅ .if3 .left) (c₄ .if4 .left) (c₃ .absent .ensures)
-        (c₂ .if5 .left) (c₁ .absent2 .ensures) (c .if6 .taken)
+    (c₂ .if5 .left) (c₁ .absent2 .ensures) (c .if6 .taken)
 
 returns-7 : tie.Need-returns-7
 returns-7 c =
     let c₁ = c .before in let c₂ = c₁ .before in let c₃ = c₂ .before in let c₄ = c₃ .before in let c₅ = c₄ .before in let c₆ = c₅ .before in
     let c₇ = c₆ .before in let c₈ = c₇ .before in let c₉ = c₈ .before in let c₁₀ = c₉ .before in
     chosen-neither (c₁₀ .alike .ensures) (c₉ .if1 .left) (c₈ .tag .ensures) (c₇ .tag2 .ensures) (c₅ .if3 .left) (c₄ .if4 .left) (c₃ .absent .ensures)
-        (c₂ .if5 .left) (c₁ .absent2 .ensures) (c₆ .if2 .left) (c .if6 .left)
+    (c₂ .if5 .left) (c₁ .absent2 .ensures) (c₆ .if2 .left) (c .if6 .left)
 
 pub choose-spec : {M : Type 1} → statement M
 choose-spec =

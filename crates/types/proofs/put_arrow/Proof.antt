@@ -32,8 +32,12 @@ same-length c = search needs
 returns : tie.Need-returns
 returns c =
     let c₂ = c .before .before in let c₄ = c₂ .before .before in let c₅ = c₄ .before in let c₆ = c₅ .before in let c₈ = c₆ .before .before in
-    record { keep = c₂ .put4 .ensures .keep; ref = refl; den = λ A B d e. arrow-put (c₂ .put4 .ensures)
-        (omega (arith, c₄ .sat-add2 .ensures, c₅ .sat-add .ensures, c₈ .type-length .ensures .is A d, c₆ .type-length2 .ensures .is B e)) d e }
+    record {
+      keep = c₂ .put4 .ensures .keep;
+      ref = refl;
+      den = λ A B d e. arrow-put (c₂ .put4 .ensures)
+          (omega (arith, c₄ .sat-add2 .ensures, c₅ .sat-add .ensures, c₈ .type-length .ensures .is A d, c₆ .type-length2 .ensures .is B e)) d e;
+    }
 
 pub put-arrow-spec : {M : Type 1} → statement M
 put-arrow-spec =

@@ -30,8 +30,12 @@ same-length c = search needs
 returns : tie.Need-returns
 returns c =
     let c₂ = c .before .before in let c₄ = c₂ .before .before in let c₅ = c₄ .before in let c₁₀ = c₅ .before .before .before .before .before in
-    record { keep = c₂ .put4 .ensures .keep; ref = refl; den = λ A d. forall-put (ty (c₁₀ .args .a)) refl (c₂ .put4 .ensures)
-        (omega (arith, c₄ .sat-add .ensures, c₅ .type-length .ensures .is A d)) d }
+    record {
+      keep = c₂ .put4 .ensures .keep;
+      ref = refl;
+      den = λ A d. forall-put (ty (c₁₀ .args .a)) refl (c₂ .put4 .ensures)
+          (omega (arith, c₄ .sat-add .ensures, c₅ .type-length .ensures .is A d)) d;
+    }
 
 pub put-forall-spec : {M : Type 1} → statement M
 put-forall-spec =

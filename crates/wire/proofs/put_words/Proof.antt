@@ -39,8 +39,7 @@ loop-less c = search needs
 
 loop-again : tie.Need-loop-again Inv-loop μ-loop
 loop-again c =
-    let c₂ = c .before .before in let c₅ = c₂ .before .before .before in let c₆ = c₅ .before in let c₉ = c₆ .before .before .before in
-    (
+    let c₂ = c .before .before in let c₅ = c₂ .before .before .before in let c₆ = c₅ .before in let c₉ = c₆ .before .before .before in (
       omega arith,
       omega arith,
       c₂ .put-word .kept .0 ∙ c₆ .loop .inv .2,

@@ -31,7 +31,7 @@ returns : tie.Need-returns
 returns c =
     let c₁ = c .before in let c₂ = c₁ .before in let c₃ = c₂ .before in let c₄ = c₃ .before in
     long-as (entry-parts (c₄ .word .ensures .0) refl (c₃ .word2 .ensures .0) (c₂ .holds-type .ensures))
-        (long-after _ (c₁ .part-length .ensures) (omega arith) (c .sum .ensures))
+    (long-after _ (c₁ .part-length .ensures) (omega arith) (c .sum .ensures))
 
 pub entry-length-spec : {M : Type 1} → statement M
 entry-length-spec =

@@ -37,7 +37,7 @@ loop-holds c =
     let c₂ = c .before .before in let c₄ = c₂ .before .before in let c₈ = c₄ .before .before .before .before in
     writing-first (c₄ .type-length .ensures)
     (rw (c₂ .put .ensures) (getD-set-same (c₈ .args .report .now) (c₈ .args .at + c₄ .type-length .result - 1) (c₈ .args .r) 0
-        (far-end (c₄ .type-length .ensures) (c₈ .pre .spelled .says) (c₈ .pre .room) .3)))
+    (far-end (c₄ .type-length .ensures) (c₈ .pre .spelled .says) (c₈ .pre .room) .3)))
 
 write-head-requires : tie.Need-write-head-requires Inv-loop μ-loop
 write-head-requires c κs =
@@ -45,7 +45,7 @@ write-head-requires c κs =
     let c₁₁ = c₇ .before .before .before .before in
     going-waiting (c₁₁ .pre .spelled .ground)
     (writing-now (c₇ .type-length .ensures) (c₁₁ .args .report .now) (c₅ .put .ensures) (c₂ .loop .inv) (c₁₁ .pre .spelled .says) (c₁₁ .pre .room))
-        (c₁ .loop-test .taken)
+    (c₁ .loop-test .taken)
 
 loop-less : tie.Need-loop-less Inv-loop μ-loop
 loop-less c =
@@ -53,7 +53,7 @@ loop-less c =
     let c₁₀ = c₈ .before .before in let c₁₄ = c₁₀ .before .before .before .before in
     going-less
     (writing-now (c₁₀ .type-length .ensures) (c₁₄ .args .report .now) (c₈ .put .ensures) (c₅ .loop .inv) (c₁₄ .pre .spelled .says) (c₁₄ .pre .room))
-        (c₄ .loop-test .taken) (c₂ .write-head .ensures)
+    (c₄ .loop-test .taken) (c₂ .write-head .ensures)
 
 loop-again : tie.Need-loop-again Inv-loop μ-loop
 loop-again c =

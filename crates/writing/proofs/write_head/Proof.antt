@@ -58,9 +58,10 @@ put-requires-2 c κs =
     let c₁ = c .before in let c₂ = c₁ .before in let c₃ = c₂ .before in let c₇ = c₃ .before .before .before .before in let c₉ = c₇ .before .before in
     let c₁₄ = c₉ .before .before .before .before .before in
     let h = held-as (waiting-held (c₁₄ .pre)) (c₉ .tag .ensures) 5 (c₃ .if2 .taken) in
-    let k = parts-small h (c₂ .left-of .ensures) (c₁ .right-of .ensures) in
-    (omega (arith, c₁₄ .pre .within, ap length (c₇ .put .ensures), length-set (c₁₄ .args .report .now) (c₁₄ .args .at) (c₉ .tag .result)), omega
-        (arith, k))
+    let k = parts-small h (c₂ .left-of .ensures) (c₁ .right-of .ensures) in (
+      omega (arith, c₁₄ .pre .within, ap length (c₇ .put .ensures), length-set (c₁₄ .args .report .now) (c₁₄ .args .at) (c₉ .tag .result)),
+      omega (arith, k),
+    )
 
 put-requires-3 : tie.Need-put-requires-3
 put-requires-3 c κs =
@@ -82,7 +83,7 @@ returns-2 c =
     let c₁₀ = c₉ .before in let c₁₄ = c₁₀ .before .before .before .before in let c₁₆ = c₁₄ .before .before in
     let c₂₁ = c₁₆ .before .before .before .before .before in
     step-arrow (c₂₁ .pre .within) (c₁₆ .tag .ensures) (c₉ .left-of .ensures) (c₈ .right-of .ensures) (c₁₀ .if2 .taken) (c₁₄ .put .ensures)
-        (c₆ .put2 .ensures) (c₂ .put3 .ensures)
+    (c₆ .put2 .ensures) (c₂ .put3 .ensures)
 
 name-of-requires : tie.Need-name-of-requires
 name-of-requires c κs =
@@ -145,7 +146,7 @@ returns-4 c =
     let c₁₁ = c₈ .before .before .before in let c₁₂ = c₁₁ .before in let c₁₆ = c₁₂ .before .before .before .before in let c₁₈ = c₁₆ .before .before in
     let c₂₃ = c₁₈ .before .before .before .before .before in
     step-forall (c₂₃ .pre .within) (c₁₈ .tag .ensures) (c₁₁ .name-of .ensures) (c₄ .body-of .ensures)
-        (seen (c₂₃ .pre) (c₁₈ .tag .ensures) .six (c₅ .if3 .left) (c₁₂ .if2 .left)) (c₁₆ .put .ensures) (c₈ .put4 .ensures) (c₂ .put5 .ensures)
+    (seen (c₂₃ .pre) (c₁₈ .tag .ensures) .six (c₅ .if3 .left) (c₁₂ .if2 .left)) (c₁₆ .put .ensures) (c₈ .put4 .ensures) (c₂ .put5 .ensures)
 
 pub write-head-spec : {M : Type 1} → statement M
 write-head-spec =

@@ -41,5 +41,4 @@ app-arr-returns-2 t c =
     let c₄ = c .before .before .before .before in let c₈ = c₄ .before .before .before .before in let c₁₀ = c₈ .before .before in
     let c₁₂ = c₁₀ .before .before in let c₁₆ = c₁₂ .before .before .before .before in
     arr-done (c₁₆ .args .m) (c₁₆ .pre .1) (c₁₂ .left-of .ensures) (c₁₀ .right-of .ensures) (c₈ .check .ensures) (c₄ .z .given .1)
-        (c .plain-out .ensures)
-    
+    (c .plain-out .ensures)

@@ -41,5 +41,4 @@ app-etvar-returns-2 t c =
     let c₄ = c .before .before .before .before in let c₈ = c₄ .before .before .before .before in
     let c₁₄ = c₈ .before .before .before .before .before .before in let c₁₆ = c₁₄ .before .before in let c₂₀ = c₁₆ .before .before .before .before in
     etvar-done (c₂₀ .args .m) (c₂₀ .pre .1) (c₁₆ .name-of .ensures) (c₁₄ .part .ensures) (c₈ .check .ensures) (c₄ .z .given .1)
-        (c .plain-out .ensures)
-    
+    (c .plain-out .ensures)

@@ -22,9 +22,10 @@ check-returns t c = whole-spent (c .before .before .enter .ensures) (c .enum-tol
 
 pub check-chk-rule-requires : (t : ℕ) → check-lts.Need-chk-rule-requires (check-claims t) (check-at t) check.Post
 check-chk-rule-requires t c κs =
-    let c₂ = c .before .before in let c₄ = c₂ .before .before in let c₇ = c₄ .before .before .before in
-    (omega (arith, c₇ .pre .0, whole-less (c₇ .pre .1) (c₄ .enter .ensures) (c₂ .inner .given .1)), whole-rule (c₇ .pre .1) (c₄ .enter .ensures)
-        (c₂ .inner .given .1))
+    let c₂ = c .before .before in let c₄ = c₂ .before .before in let c₇ = c₄ .before .before .before in (
+      omega (arith, c₇ .pre .0, whole-less (c₇ .pre .1) (c₄ .enter .ensures) (c₂ .inner .given .1)),
+      whole-rule (c₇ .pre .1) (c₄ .enter .ensures) (c₂ .inner .given .1),
+    )
 
 pub check-enum-known-z : (t : ℕ) → check-lts.Need-enum-known-z (check-claims t) (check-at t) check.Post
 check-enum-known-z t c = search needs
@@ -52,4 +53,3 @@ check-returns-3 t c =
     let c₂ = c .before .before in let c₅ = c₂ .before .before .before in let c₉ = c₅ .before .before .before .before in
     let c₁₂ = c₉ .before .before .before in let c₁₄ = c₁₂ .before .before in let c₁₇ = c₁₄ .before .before .before in
     whole-done (c₁₇ .pre .1) (c₁₄ .enter .ensures) (c₁₂ .inner .given .1) (c₉ .chk-rule .ensures) (c₅ .z .given .1) (c₂ .leave .ensures)
-    

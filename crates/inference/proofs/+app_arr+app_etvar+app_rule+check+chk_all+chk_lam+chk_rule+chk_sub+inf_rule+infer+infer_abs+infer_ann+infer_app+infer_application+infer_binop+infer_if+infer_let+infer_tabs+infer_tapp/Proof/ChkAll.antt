@@ -41,4 +41,3 @@ chk-all-returns-2 t c =
     let c₂ = c .before .before in let c₅ = c₂ .before .before .before in let c₉ = c₅ .before .before .before .before in
     let c₁₆ = c₉ .before .before .before .before .before .before .before in let c₂₀ = c₁₆ .before .before .before .before in
     all-done (c₂₀ .args .m) (c₂₀ .pre .1) (c₁₆ .open-right .ensures) (c₉ .check .ensures) (c₅ .z .given .1) (c₂ .keep-out .ensures)
-    

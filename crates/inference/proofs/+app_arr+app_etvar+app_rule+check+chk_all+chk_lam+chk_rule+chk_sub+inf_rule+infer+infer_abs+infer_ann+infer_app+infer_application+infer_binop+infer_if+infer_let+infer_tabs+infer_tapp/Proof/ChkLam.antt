@@ -58,7 +58,7 @@ chk-lam-check-requires t c κs =
     let c₁₄ = c₁₂ .before .before in let c₁₆ = c₁₄ .before .before in let c₁₈ = c₁₆ .before .before in
     let c₂₃ = c₁₈ .before .before .before .before .before in
     may-ask (lam-asks (c₂₃ .args .m) (c₂₃ .pre .1) (c₁₆ .left-of .ensures) (c₁₄ .right-of .ensures) (c₁₂ .parameter .ensures) (c₈ .mid .given .1) refl
-        (c₁₈ .word .ensures .0) (c₅ .push .ensures)) (c₂₃ .pre .0)
+    (c₁₈ .word .ensures .0) (c₅ .push .ensures)) (c₂₃ .pre .0)
 
 pub chk-lam-enum-known-z : (t : ℕ) → chk-lam-lts.Need-enum-known-z (chk-lam-claims t) (chk-lam-at t) chk-lam.Post
 chk-lam-enum-known-z t c = search needs
@@ -72,7 +72,7 @@ chk-lam-returns t c =
     let c₁₆ = c₁₂ .before .before .before .before in let c₁₈ = c₁₆ .before .before in let c₂₀ = c₁₈ .before .before in
     let c₂₂ = c₂₀ .before .before in let c₂₇ = c₂₂ .before .before .before .before .before in
     unless (lam-asks (c₂₇ .args .m) (c₂₇ .pre .1) (c₂₀ .left-of .ensures) (c₁₈ .right-of .ensures) (c₁₆ .parameter .ensures) (c₁₂ .mid .given .1) refl
-        (c₂₂ .word .ensures .0) (c₉ .push .ensures)) (c₃ .check .ensures) (c .match2 .keys2)
+    (c₂₂ .word .ensures .0) (c₉ .push .ensures)) (c₃ .check .ensures) (c .match2 .keys2)
 
 pub chk-lam-keep-out-requires : (t : ℕ) → chk-lam-lts.Need-keep-out-requires (chk-lam-claims t) (chk-lam-at t) chk-lam.Post
 chk-lam-keep-out-requires t c κs =
@@ -80,7 +80,7 @@ chk-lam-keep-out-requires t c κs =
     let c₁₅ = c₁₂ .before .before .before in let c₁₉ = c₁₅ .before .before .before .before in let c₂₁ = c₁₉ .before .before in
     let c₂₃ = c₂₁ .before .before in let c₂₅ = c₂₃ .before .before in let c₃₀ = c₂₅ .before .before .before .before .before in
     space-back (lam-asks (c₃₀ .args .m) (c₃₀ .pre .1) (c₂₃ .left-of .ensures) (c₂₁ .right-of .ensures) (c₁₉ .parameter .ensures) (c₁₅ .mid .given .1)
-        refl (c₂₅ .word .ensures .0) (c₁₂ .push .ensures)) (c₆ .check .ensures) (c₂ .z .given .1)
+    refl (c₂₅ .word .ensures .0) (c₁₂ .push .ensures)) (c₆ .check .ensures) (c₂ .z .given .1)
 
 pub chk-lam-enum-known-mid-2 : (t : ℕ) → chk-lam-lts.Need-enum-known-mid-2 (chk-lam-claims t) (chk-lam-at t) chk-lam.Post
 chk-lam-enum-known-mid-2 t c = search needs
@@ -98,7 +98,7 @@ chk-lam-returns-2 t c =
     let c₂₂ = c₁₈ .before .before .before .before in let c₂₄ = c₂₂ .before .before in let c₂₆ = c₂₄ .before .before in
     let c₂₈ = c₂₆ .before .before in let c₃₃ = c₂₈ .before .before .before .before .before in
     lam-done (c₃₃ .args .m) (c₃₃ .pre .1) (c₂₆ .left-of .ensures) (c₂₄ .right-of .ensures) (c₂₂ .parameter .ensures) (c₁₈ .mid .given .1) refl
-        (c₂₈ .word .ensures .0) (c₁₅ .push .ensures) (c₉ .check .ensures) (c₅ .z .given .1) (c₂ .keep-out .ensures)
+    (c₂₈ .word .ensures .0) (c₁₅ .push .ensures) (c₉ .check .ensures) (c₅ .z .given .1) (c₂ .keep-out .ensures)
 
 pub chk-lam-same-length-3 : (t : ℕ) → chk-lam-lts.Need-same-length-3 (chk-lam-claims t) (chk-lam-at t) chk-lam.Post
 chk-lam-same-length-3 t c = search needs
@@ -108,4 +108,3 @@ chk-lam-returns-3 t c =
     let c₁ = c .before in let c₅ = c₁ .before .before .before .before in let c₇ = c₅ .before .before in let c₉ = c₇ .before .before in
     let c₁₆ = c₉ .before .before .before .before .before .before .before in
     lam-end (c₁₆ .args .m) (c₁₆ .pre .1) (c₉ .left-of .ensures) (c₇ .right-of .ensures) (c₅ .parameter .ensures) (c₁ .mid2 .given .1)
-    

@@ -37,10 +37,12 @@ chk-rule-check-lit-requires t c κs =
 pub chk-rule-chk-sub-requires : (t : ℕ) → chk-rule-lts.Need-chk-sub-requires (chk-rule-claims t) (chk-rule-at t) chk-rule.Post
 chk-rule-chk-sub-requires t c κs =
     let c₁ = c .before in let c₂ = c₁ .before in let c₃ = c₂ .before in let c₄ = c₃ .before in let c₆ = c₄ .before .before in
-    let c₉ = c₆ .before .before .before in
-    (omega (arith, c₉ .pre .0), check-arm (c₉ .pre .1) (c₆ .word .ensures .0) (c₄ .tag .ensures) (c₃ .check-choice .ensures) 21
-        (⊎-elim (λ w. omega (arith, w .taken, choices (c₃ .check-choice .ensures)))
-        (λ w. omega (arith, w .1 .left, c₂ .match .rest, choices (c₃ .check-choice .ensures))) (c₁ .if1 .came)))
+    let c₉ = c₆ .before .before .before in (
+      omega (arith, c₉ .pre .0),
+      check-arm (c₉ .pre .1) (c₆ .word .ensures .0) (c₄ .tag .ensures) (c₃ .check-choice .ensures) 21
+          (⊎-elim (λ w. omega (arith, w .taken, choices (c₃ .check-choice .ensures)))
+          (λ w. omega (arith, w .1 .left, c₂ .match .rest, choices (c₃ .check-choice .ensures))) (c₁ .if1 .came)),
+    )
 
 pub chk-rule-same-length : (t : ℕ) → chk-rule-lts.Need-same-length (chk-rule-claims t) (chk-rule-at t) chk-rule.Post
 chk-rule-same-length t c = search needs

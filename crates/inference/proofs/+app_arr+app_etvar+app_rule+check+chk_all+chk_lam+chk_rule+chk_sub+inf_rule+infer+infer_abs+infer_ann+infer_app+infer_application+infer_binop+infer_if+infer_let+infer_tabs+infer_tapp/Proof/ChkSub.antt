@@ -52,5 +52,4 @@ chk-sub-returns-3 t c =
     let c₁₃ = c₈ .before .before .before .before .before in let c₁₇ = c₁₃ .before .before .before .before in
     let c₂₁ = c₁₇ .before .before .before .before in
     sub-done (c₂₁ .args .m) (c₂₁ .pre .1) (c₁₇ .infer .ensures) (c₁₃ .z .given .1) (c₈ .subtype-applied .ensures) (c₄ .y .given .1)
-        (c .plain-out .ensures)
-    
+    (c .plain-out .ensures)

@@ -22,9 +22,10 @@ infer-returns t c = whole-spent (c .before .before .enter .ensures) (c .enum-tol
 
 pub infer-inf-rule-requires : (t : ℕ) → infer-lts.Need-inf-rule-requires (infer-claims t) (infer-at t) infer.Post
 infer-inf-rule-requires t c κs =
-    let c₂ = c .before .before in let c₄ = c₂ .before .before in let c₇ = c₄ .before .before .before in
-    (omega (arith, c₇ .pre .0, whole-less (c₇ .pre .1) (c₄ .enter .ensures) (c₂ .inner .given .1)), whole-rule (c₇ .pre .1) (c₄ .enter .ensures)
-        (c₂ .inner .given .1))
+    let c₂ = c .before .before in let c₄ = c₂ .before .before in let c₇ = c₄ .before .before .before in (
+      omega (arith, c₇ .pre .0, whole-less (c₇ .pre .1) (c₄ .enter .ensures) (c₂ .inner .given .1)),
+      whole-rule (c₇ .pre .1) (c₄ .enter .ensures) (c₂ .inner .given .1),
+    )
 
 pub infer-enum-known-z : (t : ℕ) → infer-lts.Need-enum-known-z (infer-claims t) (infer-at t) infer.Post
 infer-enum-known-z t c = search needs
@@ -52,4 +53,3 @@ infer-returns-3 t c =
     let c₂ = c .before .before in let c₅ = c₂ .before .before .before in let c₉ = c₅ .before .before .before .before in
     let c₁₂ = c₉ .before .before .before in let c₁₄ = c₁₂ .before .before in let c₁₇ = c₁₄ .before .before .before in
     whole-done (c₁₇ .pre .1) (c₁₄ .enter .ensures) (c₁₂ .inner .given .1) (c₉ .inf-rule .ensures) (c₅ .z .given .1) (c₂ .leave .ensures)
-    

@@ -65,5 +65,4 @@ infer-abs-returns-2 t c =
     let c₁₅ = c₉ .before .before .before .before .before .before in let c₁₇ = c₁₅ .before .before in
     let c₂₂ = c₁₇ .before .before .before .before .before in
     abs-done (c₂₂ .args .m) (c₂₂ .pre .1) refl (c₁₇ .word .ensures .0) (c₁₅ .lam-in .ensures) (c₉ .check .ensures) (c₅ .z .given .1)
-        (c₂ .keep-out .ensures)
-    
+    (c₂ .keep-out .ensures)

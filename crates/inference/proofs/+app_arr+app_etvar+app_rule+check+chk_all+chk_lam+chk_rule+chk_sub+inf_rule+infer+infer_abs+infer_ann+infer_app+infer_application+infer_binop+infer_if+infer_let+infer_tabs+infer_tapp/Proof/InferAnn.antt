@@ -45,4 +45,3 @@ infer-ann-returns-2 t c =
     let c₄ = c .before .before .before .before in let c₈ = c₄ .before .before .before .before in let c₁₀ = c₈ .before .before in
     let c₁₄ = c₁₀ .before .before .before .before in
     ann-done (c₁₄ .args .m) (c₁₄ .pre .1) (c₁₀ .word .ensures .0) (c₈ .check .ensures) (c₄ .z .given .1) (c .plain-out .ensures)
-    

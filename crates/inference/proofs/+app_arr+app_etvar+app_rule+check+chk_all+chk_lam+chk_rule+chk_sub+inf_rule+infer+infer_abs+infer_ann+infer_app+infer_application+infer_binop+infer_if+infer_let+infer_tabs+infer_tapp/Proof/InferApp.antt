@@ -22,9 +22,10 @@ infer-app-returns t c = whole-spent (c .before .before .enter .ensures) (c .enum
 
 pub infer-app-app-rule-requires : (t : ℕ) → infer-app-lts.Need-app-rule-requires (infer-app-claims t) (infer-app-at t) infer-app.Post
 infer-app-app-rule-requires t c κs =
-    let c₂ = c .before .before in let c₄ = c₂ .before .before in let c₇ = c₄ .before .before .before in
-    (omega (arith, c₇ .pre .0, whole-less (c₇ .pre .1) (c₄ .enter .ensures) (c₂ .inner .given .1)), whole-rule (c₇ .pre .1) (c₄ .enter .ensures)
-        (c₂ .inner .given .1))
+    let c₂ = c .before .before in let c₄ = c₂ .before .before in let c₇ = c₄ .before .before .before in (
+      omega (arith, c₇ .pre .0, whole-less (c₇ .pre .1) (c₄ .enter .ensures) (c₂ .inner .given .1)),
+      whole-rule (c₇ .pre .1) (c₄ .enter .ensures) (c₂ .inner .given .1),
+    )
 
 pub infer-app-enum-known-z : (t : ℕ) → infer-app-lts.Need-enum-known-z (infer-app-claims t) (infer-app-at t) infer-app.Post
 infer-app-enum-known-z t c = search needs
@@ -52,4 +53,3 @@ infer-app-returns-3 t c =
     let c₂ = c .before .before in let c₅ = c₂ .before .before .before in let c₉ = c₅ .before .before .before .before in
     let c₁₂ = c₉ .before .before .before in let c₁₄ = c₁₂ .before .before in let c₁₇ = c₁₄ .before .before .before in
     whole-done (c₁₇ .pre .1) (c₁₄ .enter .ensures) (c₁₂ .inner .given .1) (c₉ .app-rule .ensures) (c₅ .z .given .1) (c₂ .leave .ensures)
-    

@@ -62,7 +62,7 @@ infer-application-infer-app-requires t c κs =
     let c₂ = c .before .before in let c₆ = c₂ .before .before .before .before in let c₁₁ = c₆ .before .before .before .before .before in
     let c₁₅ = c₁₁ .before .before .before .before in let c₁₇ = c₁₅ .before .before in let c₂₁ = c₁₇ .before .before .before .before in
     may-ask (app-asks₂ (c₂₁ .args .m) (c₂₁ .pre .1) (c₁₅ .infer .ensures) (c₁₁ .z .given .1) (c₆ .apply-ctx-type .ensures) (c₁₇ .word .ensures .0)
-        (c₂ .st2 .given .1)) (c₂₁ .pre .0)
+    (c₂ .st2 .given .1)) (c₂₁ .pre .0)
 
 pub infer-application-enum-known-y : (t : ℕ) → infer-application-lts.Need-enum-known-y (infer-application-claims t) (infer-application-at t) infer-application.Post
 infer-application-enum-known-y t c = search needs
@@ -76,7 +76,7 @@ infer-application-returns-3 t c =
     let c₁₅ = c₁₀ .before .before .before .before .before in let c₁₉ = c₁₅ .before .before .before .before in let c₂₁ = c₁₉ .before .before in
     let c₂₅ = c₂₁ .before .before .before .before in
     unless (app-asks₂ (c₂₅ .args .m) (c₂₅ .pre .1) (c₁₉ .infer .ensures) (c₁₅ .z .given .1) (c₁₀ .apply-ctx-type .ensures) (c₂₁ .word .ensures .0)
-        (c₆ .st2 .given .1)) (c₃ .infer-app .ensures) (c .match3 .keys2)
+    (c₆ .st2 .given .1)) (c₃ .infer-app .ensures) (c .match3 .keys2)
 
 pub infer-application-plain-out-requires : (t : ℕ) → infer-application-lts.Need-plain-out-requires (infer-application-claims t) (infer-application-at t) infer-application.Post
 infer-application-plain-out-requires t c κs = tt
@@ -94,5 +94,4 @@ infer-application-returns-4 t c =
     let c₁₅ = c₁₁ .before .before .before .before in let c₂₀ = c₁₅ .before .before .before .before .before in
     let c₂₄ = c₂₀ .before .before .before .before in let c₂₆ = c₂₄ .before .before in let c₃₀ = c₂₆ .before .before .before .before in
     app-done (c₃₀ .args .m) (c₃₀ .pre .1) (c₂₄ .infer .ensures) (c₂₀ .z .given .1) (c₁₅ .apply-ctx-type .ensures) (c₂₆ .word .ensures .0)
-        (c₁₁ .st2 .given .1) (c₈ .infer-app .ensures) (c₄ .y .given .1) (c .plain-out .ensures)
-    
+    (c₁₁ .st2 .given .1) (c₈ .infer-app .ensures) (c₄ .y .given .1) (c .plain-out .ensures)

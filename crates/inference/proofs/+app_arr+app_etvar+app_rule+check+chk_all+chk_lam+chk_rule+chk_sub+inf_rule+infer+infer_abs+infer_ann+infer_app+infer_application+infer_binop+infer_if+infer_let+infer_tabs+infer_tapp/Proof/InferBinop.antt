@@ -75,7 +75,7 @@ infer-binop-check-requires-2 t c κs =
     let c₁ = c .before in let c₅ = c₁ .before .before .before .before in let c₇ = c₅ .before .before in let c₈ = c₇ .before in let c₉ = c₈ .before in
     let c₁₁ = c₉ .before .before in let c₁₄ = c₁₁ .before .before .before in
     may-ask (op-asks₂ (c₁₄ .args .m) (c₁₄ .pre .1) (c₁₁ .word .ensures .0) (c₈ .operator .ensures) (left t (c₇)) (c₅ .z .given .1)
-        (c₉ .word2 .ensures .0) (right t (c₁))) (c₁₄ .pre .0)
+    (c₉ .word2 .ensures .0) (right t (c₁))) (c₁₄ .pre .0)
 
 pub infer-binop-enum-known-y : (t : ℕ) → infer-binop-lts.Need-enum-known-y (infer-binop-claims t) (infer-binop-at t) infer-binop.Post
 infer-binop-enum-known-y t c = search needs
@@ -91,7 +91,7 @@ infer-binop-returns-2 t c =
     let c₁₁ = c₉ .before .before in let c₁₂ = c₁₁ .before in let c₁₃ = c₁₂ .before in let c₁₅ = c₁₃ .before .before in
     let c₁₈ = c₁₅ .before .before .before in
     unless (op-asks₂ (c₁₈ .args .m) (c₁₈ .pre .1) (c₁₅ .word .ensures .0) (c₁₂ .operator .ensures) (left t (c₁₁)) (c₉ .z .given .1)
-        (c₁₃ .word2 .ensures .0) (right t (c₅))) (c₃ .check2 .ensures) (c .match2 .keys2)
+    (c₁₃ .word2 .ensures .0) (right t (c₅))) (c₃ .check2 .ensures) (c .match2 .keys2)
 
 pub infer-binop-plain-out-requires : (t : ℕ) → infer-binop-lts.Need-plain-out-requires (infer-binop-claims t) (infer-binop-at t) infer-binop.Post
 infer-binop-plain-out-requires t c κs = tt
@@ -108,5 +108,4 @@ infer-binop-returns-3 t c =
     let c₁₄ = c₁₀ .before .before .before .before in let c₁₆ = c₁₄ .before .before in let c₁₇ = c₁₆ .before in let c₁₈ = c₁₇ .before in
     let c₂₀ = c₁₈ .before .before in let c₂₃ = c₂₀ .before .before .before in
     op-done (c₂₃ .args .m) (c₂₃ .pre .1) (c₂₀ .word .ensures .0) (c₁₇ .operator .ensures) (left t (c₁₆)) (c₁₄ .z .given .1) (c₁₈ .word2 .ensures .0)
-        (right t (c₁₀)) (c₈ .check2 .ensures) (c₄ .y .given .1) (c .plain-out .ensures)
-    
+    (right t (c₁₀)) (c₈ .check2 .ensures) (c₄ .y .given .1) (c .plain-out .ensures)

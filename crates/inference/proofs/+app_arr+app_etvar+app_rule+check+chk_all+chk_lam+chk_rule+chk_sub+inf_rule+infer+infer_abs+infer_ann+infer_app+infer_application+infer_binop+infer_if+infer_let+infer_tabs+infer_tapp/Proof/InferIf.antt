@@ -50,7 +50,7 @@ infer-if-infer-requires t c κs =
     let c₄ = c .before .before .before .before in let c₈ = c₄ .before .before .before .before in let c₁₀ = c₈ .before .before in
     let c₁₂ = c₁₀ .before .before in let c₁₆ = c₁₂ .before .before .before .before in
     may-ask (if-asks₂ (c₁₆ .args .m) (c₁₆ .pre .1) (c₁₂ .word .ensures .0) (c₁₀ .word2 .ensures .0) (c₈ .check .ensures) (c₄ .z .given .1))
-        (c₁₆ .pre .0)
+    (c₁₆ .pre .0)
 
 pub infer-if-enum-known-y : (t : ℕ) → infer-if-lts.Need-enum-known-y (infer-if-claims t) (infer-if-at t) infer-if.Post
 infer-if-enum-known-y t c = search needs
@@ -63,7 +63,7 @@ infer-if-returns-2 t c =
     let c₃ = c .before .before .before in let c₈ = c₃ .before .before .before .before .before in let c₁₂ = c₈ .before .before .before .before in
     let c₁₄ = c₁₂ .before .before in let c₁₆ = c₁₄ .before .before in let c₂₀ = c₁₆ .before .before .before .before in
     unless (if-asks₂ (c₂₀ .args .m) (c₂₀ .pre .1) (c₁₆ .word .ensures .0) (c₁₄ .word2 .ensures .0) (c₁₂ .check .ensures) (c₈ .z .given .1))
-        (c₃ .infer .ensures) (c .match2 .keys2)
+    (c₃ .infer .ensures) (c .match2 .keys2)
 
 pub infer-if-infer-requires-2 : (t : ℕ) → infer-if-lts.Need-infer-requires-2 (infer-if-claims t) (infer-if-at t) infer-if.Post
 infer-if-infer-requires-2 t c κs =
@@ -71,7 +71,7 @@ infer-if-infer-requires-2 t c κs =
     let c₁₃ = c₈ .before .before .before .before .before in let c₁₇ = c₁₃ .before .before .before .before in let c₁₉ = c₁₇ .before .before in
     let c₂₁ = c₁₉ .before .before in let c₂₅ = c₂₁ .before .before .before .before in
     may-ask (if-asks₃ (c₂₅ .args .m) (c₂₅ .pre .1) (c₂₁ .word .ensures .0) (c₁₉ .word2 .ensures .0) (c₁₇ .check .ensures) (c₁₃ .z .given .1)
-        (c₈ .infer .ensures) (c₄ .y .given .1)) (c₂₅ .pre .0)
+    (c₈ .infer .ensures) (c₄ .y .given .1)) (c₂₅ .pre .0)
 
 pub infer-if-enum-known-x : (t : ℕ) → infer-if-lts.Need-enum-known-x (infer-if-claims t) (infer-if-at t) infer-if.Post
 infer-if-enum-known-x t c = search needs
@@ -85,7 +85,7 @@ infer-if-returns-3 t c =
     let c₁₇ = c₁₂ .before .before .before .before .before in let c₂₁ = c₁₇ .before .before .before .before in let c₂₃ = c₂₁ .before .before in
     let c₂₅ = c₂₃ .before .before in let c₂₉ = c₂₅ .before .before .before .before in
     unless (if-asks₃ (c₂₉ .args .m) (c₂₉ .pre .1) (c₂₅ .word .ensures .0) (c₂₃ .word2 .ensures .0) (c₂₁ .check .ensures) (c₁₇ .z .given .1)
-        (c₁₂ .infer .ensures) (c₈ .y .given .1)) (c₃ .infer2 .ensures) (c .match3 .keys2)
+    (c₁₂ .infer .ensures) (c₈ .y .given .1)) (c₃ .infer2 .ensures) (c .match3 .keys2)
 
 pub infer-if-subtype-applied-requires : (t : ℕ) → infer-if-lts.Need-subtype-applied-requires (infer-if-claims t) (infer-if-at t) infer-if.Post
 infer-if-subtype-applied-requires t c κs =
@@ -94,7 +94,7 @@ infer-if-subtype-applied-requires t c κs =
     let c₂₂ = c₁₇ .before .before .before .before .before in let c₂₆ = c₂₂ .before .before .before .before in let c₂₈ = c₂₆ .before .before in
     let c₃₀ = c₂₈ .before .before in let c₃₄ = c₃₀ .before .before .before .before in
     if-two (c₃₄ .args .m) (c₃₄ .pre .1) (c₃₀ .word .ensures .0) (c₂₈ .word2 .ensures .0) (c₂₆ .check .ensures) (c₂₂ .z .given .1)
-        (c₁₇ .infer .ensures) (c₁₃ .y .given .1) (c₈ .infer2 .ensures) (c₄ .x .given .1)
+    (c₁₇ .infer .ensures) (c₁₃ .y .given .1) (c₈ .infer2 .ensures) (c₄ .x .given .1)
 
 pub infer-if-enum-known-t : (t : ℕ) → infer-if-lts.Need-enum-known-t (infer-if-claims t) (infer-if-at t) infer-if.Post
 infer-if-enum-known-t t c = search needs
@@ -113,7 +113,7 @@ infer-if-returns-4 t c =
     let c₂₆ = c₂₁ .before .before .before .before .before in let c₃₀ = c₂₆ .before .before .before .before in let c₃₂ = c₃₀ .before .before in
     let c₃₄ = c₃₂ .before .before in let c₃₈ = c₃₄ .before .before .before .before in
     if-else₄ (c₃₈ .args .m) (c₃₈ .pre .1) (c₃₄ .word .ensures .0) (c₃₂ .word2 .ensures .0) (c₃₀ .check .ensures) (c₂₆ .z .given .1)
-        (c₂₁ .infer .ensures) (c₁₇ .y .given .1) (c₁₂ .infer2 .ensures) (c₈ .x .given .1) (c₃ .subtype-applied .ensures) (c .match4 .keys2)
+    (c₂₁ .infer .ensures) (c₁₇ .y .given .1) (c₁₂ .infer2 .ensures) (c₈ .x .given .1) (c₃ .subtype-applied .ensures) (c .match4 .keys2)
 
 pub infer-if-plain-out-requires : (t : ℕ) → infer-if-lts.Need-plain-out-requires (infer-if-claims t) (infer-if-at t) infer-if.Post
 infer-if-plain-out-requires t c κs = tt
@@ -134,6 +134,5 @@ infer-if-returns-5 t c =
     let c₃₁ = c₂₆ .before .before .before .before .before in let c₃₅ = c₃₁ .before .before .before .before in let c₃₇ = c₃₅ .before .before in
     let c₃₉ = c₃₇ .before .before in let c₄₃ = c₃₉ .before .before .before .before in
     if-done (c₄₃ .args .m) (c₄₃ .pre .1) (c₃₉ .word .ensures .0) (c₃₇ .word2 .ensures .0) (c₃₅ .check .ensures) (c₃₁ .z .given .1)
-        (c₂₆ .infer .ensures) (c₂₂ .y .given .1) (c₁₇ .infer2 .ensures) (c₁₃ .x .given .1) (c₈ .subtype-applied .ensures) (c₄ .t .given .1)
-        (c .plain-out .ensures)
-    
+    (c₂₆ .infer .ensures) (c₂₂ .y .given .1) (c₁₇ .infer2 .ensures) (c₁₃ .x .given .1) (c₈ .subtype-applied .ensures) (c₄ .t .given .1)
+    (c .plain-out .ensures)

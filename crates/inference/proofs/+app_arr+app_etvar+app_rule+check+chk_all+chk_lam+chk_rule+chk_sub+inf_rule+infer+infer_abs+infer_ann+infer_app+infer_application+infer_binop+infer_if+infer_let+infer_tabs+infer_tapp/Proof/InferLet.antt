@@ -55,7 +55,7 @@ infer-let-infer-requires-2 t c κs =
     let c₅ = c .before .before .before .before .before in let c₁₀ = c₅ .before .before .before .before .before in
     let c₁₄ = c₁₀ .before .before .before .before in let c₁₆ = c₁₄ .before .before in let c₂₁ = c₁₆ .before .before .before .before .before in
     may-ask (let-asks₂ (c₂₁ .args .m) (c₂₁ .pre .1) (c₁₄ .infer .ensures) (c₁₀ .z .given .1) refl (c₁₆ .word .ensures .0) (c₅ .push .ensures))
-        (c₂₁ .pre .0)
+    (c₂₁ .pre .0)
 
 pub infer-let-enum-known-y : (t : ℕ) → infer-let-lts.Need-enum-known-y (infer-let-claims t) (infer-let-at t) infer-let.Post
 infer-let-enum-known-y t c = search needs
@@ -69,7 +69,7 @@ infer-let-returns-2 t c =
     let c₁₄ = c₉ .before .before .before .before .before in let c₁₈ = c₁₄ .before .before .before .before in let c₂₀ = c₁₈ .before .before in
     let c₂₅ = c₂₀ .before .before .before .before .before in
     unless (let-asks₂ (c₂₅ .args .m) (c₂₅ .pre .1) (c₁₈ .infer .ensures) (c₁₄ .z .given .1) refl (c₂₀ .word .ensures .0) (c₉ .push .ensures))
-        (c₃ .infer2 .ensures) (c .match2 .keys2)
+    (c₃ .infer2 .ensures) (c .match2 .keys2)
 
 pub infer-let-keep-out-requires : (t : ℕ) → infer-let-lts.Need-keep-out-requires (infer-let-claims t) (infer-let-at t) infer-let.Post
 infer-let-keep-out-requires t c κs =
@@ -77,7 +77,7 @@ infer-let-keep-out-requires t c κs =
     let c₁₇ = c₁₂ .before .before .before .before .before in let c₂₁ = c₁₇ .before .before .before .before in let c₂₃ = c₂₁ .before .before in
     let c₂₈ = c₂₃ .before .before .before .before .before in
     space-back (let-asks₂ (c₂₈ .args .m) (c₂₈ .pre .1) (c₂₁ .infer .ensures) (c₁₇ .z .given .1) refl (c₂₃ .word .ensures .0) (c₁₂ .push .ensures))
-        (c₆ .infer2 .ensures) (c₂ .y .given .1)
+    (c₆ .infer2 .ensures) (c₂ .y .given .1)
 
 pub infer-let-same-length-3 : (t : ℕ) → infer-let-lts.Need-same-length-3 (infer-let-claims t) (infer-let-at t) infer-let.Post
 infer-let-same-length-3 t c =
@@ -92,5 +92,4 @@ infer-let-returns-3 t c =
     let c₁₅ = c₉ .before .before .before .before .before .before in let c₂₀ = c₁₅ .before .before .before .before .before in
     let c₂₄ = c₂₀ .before .before .before .before in let c₂₆ = c₂₄ .before .before in let c₃₁ = c₂₆ .before .before .before .before .before in
     let-done (c₃₁ .args .m) (c₃₁ .pre .1) (c₂₄ .infer .ensures) (c₂₀ .z .given .1) refl (c₂₆ .word .ensures .0) (c₁₅ .push .ensures)
-        (c₉ .infer2 .ensures) (c₅ .y .given .1) (c₂ .keep-out .ensures)
-    
+    (c₉ .infer2 .ensures) (c₅ .y .given .1) (c₂ .keep-out .ensures)

@@ -63,7 +63,7 @@ infer-tabs-returns-2 t c =
     let c₁₃ = c₉ .before .before .before .before in let c₁₉ = c₁₃ .before .before .before .before .before .before in
     let c₂₄ = c₁₉ .before .before .before .before .before in
     tabs-spent (c₂₄ .args .m) (c₂₄ .pre .1) refl (c₁₉ .push .ensures) (c₁₃ .infer .ensures) (c₉ .z .given .1) (c₄ .apply-ctx-type .ensures)
-        (c .enum-told .given .1)
+    (c .enum-told .given .1)
 
 pub infer-tabs-tabs-out-requires : (t : ℕ) → infer-tabs-lts.Need-tabs-out-requires (infer-tabs-claims t) (infer-tabs-at t) infer-tabs.Post
 infer-tabs-tabs-out-requires t c κs =
@@ -71,7 +71,7 @@ infer-tabs-tabs-out-requires t c κs =
     let c₁₅ = c₁₁ .before .before .before .before in let c₂₁ = c₁₅ .before .before .before .before .before .before in
     let c₂₆ = c₂₁ .before .before .before .before .before in
     tabs-pre (c₂₆ .args .m) (c₂₆ .pre .1) refl (c₂₁ .push .ensures) (c₁₅ .infer .ensures) (c₁₁ .z .given .1) (c₆ .apply-ctx-type .ensures)
-        (c₂ .st3 .given .1)
+    (c₂ .st3 .given .1)
 
 pub infer-tabs-same-length-3 : (t : ℕ) → infer-tabs-lts.Need-same-length-3 (infer-tabs-claims t) (infer-tabs-at t) infer-tabs.Post
 infer-tabs-same-length-3 t c =
@@ -86,5 +86,4 @@ infer-tabs-returns-3 t c =
     let c₁₄ = c₉ .before .before .before .before .before in let c₁₈ = c₁₄ .before .before .before .before in
     let c₂₄ = c₁₈ .before .before .before .before .before .before in let c₂₉ = c₂₄ .before .before .before .before .before in
     tabs-done (c₂₉ .args .m) (c₂₉ .pre .1) refl (c₂₄ .push .ensures) (c₁₈ .infer .ensures) (c₁₄ .z .given .1) (c₉ .apply-ctx-type .ensures)
-        (c₅ .st3 .given .1) (c₂ .tabs-out .ensures)
-    
+    (c₅ .st3 .given .1) (c₂ .tabs-out .ensures)

@@ -57,7 +57,7 @@ infer-tapp-returns-2 t c =
     let c₂ = c .before .before in let c₆ = c₂ .before .before .before .before in let c₁₁ = c₆ .before .before .before .before .before in
     let c₁₅ = c₁₁ .before .before .before .before in let c₁₇ = c₁₅ .before .before in let c₂₁ = c₁₇ .before .before .before .before in
     tapp-done (c₂₁ .args .m) (c₂₁ .pre .1) (c₁₅ .infer .ensures) (c₁₇ .word .ensures .0) (c₁₁ .z .given .1) (c₆ .instantiate .ensures)
-        (c₂ .mid .given .1) (c .plain-out .ensures)
+    (c₂ .mid .given .1) (c .plain-out .ensures)
 
 pub infer-tapp-same-length-3 : (t : ℕ) → infer-tapp-lts.Need-same-length-3 (infer-tapp-claims t) (infer-tapp-at t) infer-tapp.Post
 infer-tapp-same-length-3 t c = search needs
@@ -67,5 +67,4 @@ infer-tapp-returns-3 t c =
     let c₁ = c .before in let c₅ = c₁ .before .before .before .before in let c₁₀ = c₅ .before .before .before .before .before in
     let c₁₄ = c₁₀ .before .before .before .before in let c₁₆ = c₁₄ .before .before in let c₂₀ = c₁₆ .before .before .before .before in
     tapp-end (c₂₀ .args .m) (c₂₀ .pre .1) (c₁₄ .infer .ensures) (c₁₆ .word .ensures .0) (c₁₀ .z .given .1) (c₅ .instantiate .ensures)
-        (c₁ .mid2 .given .1)
-    
+    (c₁ .mid2 .given .1)

@@ -24,9 +24,10 @@ inst-returns t c = whole-spent (c .before .before .enter .ensures) (c .enum-told
 
 pub inst-inst-rule-requires : (t : ℕ) → inst-lts.Need-inst-rule-requires (inst-claims t) (inst-at t) inst.Post
 inst-inst-rule-requires t c κs =
-    let c₂ = c .before .before in let c₄ = c₂ .before .before in let c₇ = c₄ .before .before .before in
-    (omega (arith, c₇ .pre .0, whole-less (c₇ .pre .1) (c₄ .enter .ensures) (c₂ .inner .given .1)), whole-rule (c₇ .pre .1) (c₄ .enter .ensures)
-        (c₂ .inner .given .1))
+    let c₂ = c .before .before in let c₄ = c₂ .before .before in let c₇ = c₄ .before .before .before in (
+      omega (arith, c₇ .pre .0, whole-less (c₇ .pre .1) (c₄ .enter .ensures) (c₂ .inner .given .1)),
+      whole-rule (c₇ .pre .1) (c₄ .enter .ensures) (c₂ .inner .given .1),
+    )
 
 pub inst-enum-known-z : (t : ℕ) → inst-lts.Need-enum-known-z (inst-claims t) (inst-at t) inst.Post
 inst-enum-known-z t c = search needs
@@ -59,5 +60,4 @@ inst-returns-3 t c =
     let c₂ = c .before .before in let c₄ = c₂ .before .before in let c₆ = c₄ .before .before in let c₁₀ = c₆ .before .before .before .before in
     let c₁₃ = c₁₀ .before .before .before in let c₁₅ = c₁₃ .before .before in let c₁₈ = c₁₅ .before .before .before in
     whole-done (c₁₈ .pre .1) (c₁₅ .enter .ensures) (c₁₃ .inner .given .1) (c₁₀ .inst-rule .ensures) (c₆ .z .given .1)
-        (rw (c₄ .asked .ensures) at (c₂ .leave .ensures))
-    
+    (rw (c₄ .asked .ensures) at (c₂ .leave .ensures))

@@ -40,9 +40,10 @@ pub inst-all-on-side-requires : (t : ℕ) → inst-all-lts.Need-on-side-requires
 inst-all-on-side-requires t c κs =
     let c₅ = c .before .before .before .before .before in let c₉ = c₅ .before .before .before .before in let c₁₁ = c₉ .before .before in
     let c₁₅ = c₁₁ .before .before .before .before in
-    let u = under-on (c₁₅ .pre .1) (other-is (c₁₅ .args .s) (c₁₁ .other .ensures)) (c₉ .open-on .ensures) in
-        (omega (arith, c₁₅ .pre .0, under-falls u (c₁₅ .pre .1 .pre) (c₅ .o .given .1)), under-first u (c₁₅ .pre .1 .pre) (c₅ .o .given .1)
-        (all-small (c₁₅ .pre .1) (under-room u (c₁₅ .pre .1 .pre) (c₅ .o .given .1))))
+    let u = under-on (c₁₅ .pre .1) (other-is (c₁₅ .args .s) (c₁₁ .other .ensures)) (c₉ .open-on .ensures) in (
+      omega (arith, c₁₅ .pre .0, under-falls u (c₁₅ .pre .1 .pre) (c₅ .o .given .1)),
+      under-first u (c₁₅ .pre .1 .pre) (c₅ .o .given .1) (all-small (c₁₅ .pre .1) (under-room u (c₁₅ .pre .1 .pre) (c₅ .o .given .1))),
+    )
 
 pub inst-all-enum-known-z : (t : ℕ) → inst-all-lts.Need-enum-known-z (inst-all-claims t) (inst-all-at t) inst-all.Post
 inst-all-enum-known-z t c = search needs
@@ -57,7 +58,7 @@ inst-all-returns-2 t c =
     let c₃ = c .before .before .before in let c₉ = c₃ .before .before .before .before .before .before in
     let c₁₃ = c₉ .before .before .before .before in let c₁₅ = c₁₃ .before .before in let c₁₉ = c₁₅ .before .before .before .before in
     let u = under-on (c₁₉ .pre .1) (other-is (c₁₉ .args .s) (c₁₅ .other .ensures)) (c₁₃ .open-on .ensures) in under-else u (c₁₉ .pre .1 .pre)
-        (c₉ .o .given .1) (c₃ .on-side .ensures) (c .match2 .keys2)
+    (c₉ .o .given .1) (c₃ .on-side .ensures) (c .match2 .keys2)
 
 pub inst-all-pushed-requires : (t : ℕ) → inst-all-lts.Need-pushed-requires (inst-all-claims t) (inst-all-at t) inst-all.Post
 inst-all-pushed-requires t c κs = search needs
@@ -68,7 +69,7 @@ inst-all-right-alone-requires t c κs =
     let c₁₃ = c₇ .before .before .before .before .before .before in let c₁₇ = c₁₃ .before .before .before .before in let c₁₉ = c₁₇ .before .before in
     let c₂₃ = c₁₉ .before .before .before .before in
     let u = under-on (c₂₃ .pre .1) (other-is (c₂₃ .args .s) (c₁₉ .other .ensures)) (c₁₇ .open-on .ensures) in under-within u (c₂₃ .pre .1 .pre)
-        (c₁₃ .o .given .1) (c₇ .on-side .ensures) (c₃ .z .given .1)
+    (c₁₃ .o .given .1) (c₇ .on-side .ensures) (c₃ .z .given .1)
 
 pub inst-all-same-length-3 : (t : ℕ) → inst-all-lts.Need-same-length-3 (inst-all-claims t) (inst-all-at t) inst-all.Post
 inst-all-same-length-3 t c =
@@ -82,6 +83,5 @@ inst-all-returns-3 t c =
     let c₁₄ = c₈ .before .before .before .before .before .before in let c₁₈ = c₁₄ .before .before .before .before in let c₂₀ = c₁₈ .before .before in
     let c₂₁ = c₂₀ .before in let c₂₄ = c₂₁ .before .before .before in
     let u = under-on (c₂₄ .pre .1) (other-is (c₂₄ .args .s) (c₂₀ .other .ensures)) (c₁₈ .open-on .ensures) in under-done u (c₂₄ .pre .1 .pre)
-        (c₁₄ .o .given .1) (c₈ .on-side .ensures) (c₄ .z .given .1) (in-row _ (first-is (c₂₄ .args .s) (c₂₁ .first .ensures)) .all)
-        (rw (c₂ .pushed .ensures) at (c .right-alone .ensures))
-    
+    (c₁₄ .o .given .1) (c₈ .on-side .ensures) (c₄ .z .given .1) (in-row _ (first-is (c₂₄ .args .s) (c₂₁ .first .ensures)) .all)
+    (rw (c₂ .pushed .ensures) at (c .right-alone .ensures))

@@ -76,21 +76,21 @@ unfolding look table pick
 returns-5 c =
     let c₁ = c .before in let c₂ = c₁ .before in let c₆ = c₂ .before .before .before .before in
     end-two (c₆ .pre) 1 (omega arith) (c₁ .past2 .ensures) (c .past3 .ensures)
-        (each (λ w. look w table ≡ (1, 2)) (5 ∷ 17 ∷ 19 ∷ 21 ∷ []) (refl, (refl, (refl, (refl, tt)))) (c₂ .match .keys5))
+    (each (λ w. look w table ≡ (1, 2)) (5 ∷ 17 ∷ 19 ∷ 21 ∷ []) (refl, (refl, (refl, (refl, tt)))) (c₂ .match .keys5))
 
 returns-6 : tie.Need-returns-6
 unfolding look table pick
 returns-6 c =
     let c₁ = c .before in let c₂ = c₁ .before in let c₆ = c₂ .before .before .before .before in
     end-two (c₆ .pre) 2 (omega arith) (c₁ .past4 .ensures) (c .past5 .ensures)
-        (each (λ w. look w table ≡ (2, 2)) (18 ∷ 24 ∷ 26 ∷ []) (refl, (refl, (refl, tt))) (c₂ .match .keys6))
+    (each (λ w. look w table ≡ (2, 2)) (18 ∷ 24 ∷ 26 ∷ []) (refl, (refl, (refl, tt))) (c₂ .match .keys6))
 
 returns-7 : tie.Need-returns-7
 unfolding look table pick
 returns-7 c =
     let c₁ = c .before in let c₂ = c₁ .before in let c₃ = c₂ .before in let c₇ = c₃ .before .before .before .before in
     end-three (c₇ .pre) 1 (omega arith) (c₂ .past6 .ensures) (c₁ .past7 .ensures) (c .past8 .ensures)
-        (each (λ w. look w table ≡ (1, 3)) (25 ∷ []) (refl, tt) (c₃ .match .keys7))
+    (each (λ w. look w table ≡ (1, 3)) (25 ∷ []) (refl, tt) (c₃ .match .keys7))
 
 returns-8 : tie.Need-returns-8
 unfolding table

@@ -41,8 +41,11 @@ loop-less c = omega arith
 loop-again : tie.Need-loop-again Inv-loop μ-loop
 loop-again c =
     let c₂ = c .before .before in let c₄ = c₂ .before .before in let c₇ = c₄ .before .before .before in
-    rw (c₂ .put .ensures) (omega arith, keep-trans (c₇ .loop .inv .1) (keep-set _ _ _ _ _ (omega arith) (omega arith)), table-more (omega arith)
-        (c₄ .end-of .ensures) (table-at (omega arith) (c₇ .loop .inv .2)))
+    rw (c₂ .put .ensures) (
+      omega arith,
+      keep-trans (c₇ .loop .inv .1) (keep-set _ _ _ _ _ (omega arith) (omega arith)),
+      table-more (omega arith) (c₄ .end-of .ensures) (table-at (omega arith) (c₇ .loop .inv .2)),
+    )
 
 same-length : tie.Need-same-length Inv-loop μ-loop
 same-length c = omega arith

@@ -43,9 +43,11 @@ pub sub-all-subtype-requires : (t : ℕ) → sub-all-lts.Need-subtype-requires (
 sub-all-subtype-requires t c κs =
     let c₁ = c .before in let c₂ = c₁ .before in let c₇ = c₂ .before .before .before .before .before in
     let c₁₁ = c₇ .before .before .before .before in let c₁₃ = c₁₁ .before .before in let c₁₇ = c₁₃ .before .before .before .before in
-    let u = under-on (c₁₇ .pre .1) (c₁₃ .one2 .ensures) (c₁₁ .open-on .ensures) in
-        (omega (arith, c₁₇ .pre .0, under-falls u (c₁₇ .pre .1 .pre) (c₇ .o .given .1)), rw (c₂ .one3 .ensures, c₁ .one4 .ensures)
-        (under-first u (c₁₇ .pre .1 .pre) (c₇ .o .given .1) (all-small (c₁₇ .pre .1) (under-room u (c₁₇ .pre .1 .pre) (c₇ .o .given .1)))))
+    let u = under-on (c₁₇ .pre .1) (c₁₃ .one2 .ensures) (c₁₁ .open-on .ensures) in (
+      omega (arith, c₁₇ .pre .0, under-falls u (c₁₇ .pre .1 .pre) (c₇ .o .given .1)),
+      rw (c₂ .one3 .ensures, c₁ .one4 .ensures) (under-first u (c₁₇ .pre .1 .pre) (c₇ .o .given .1)
+          (all-small (c₁₇ .pre .1) (under-room u (c₁₇ .pre .1 .pre) (c₇ .o .given .1)))),
+    )
 
 pub sub-all-enum-known-z : (t : ℕ) → sub-all-lts.Need-enum-known-z (sub-all-claims t) (sub-all-at t) sub-all.Post
 sub-all-enum-known-z t c = search needs
@@ -62,7 +64,7 @@ sub-all-returns-2 t c =
     let c₁₁ = c₆ .before .before .before .before .before in let c₁₅ = c₁₁ .before .before .before .before in let c₁₇ = c₁₅ .before .before in
     let c₂₁ = c₁₇ .before .before .before .before in
     let u = under-on (c₂₁ .pre .1) (c₁₇ .one2 .ensures) (c₁₅ .open-on .ensures) in under-else u (c₂₁ .pre .1 .pre) (c₁₁ .o .given .1)
-        (rw (c₆ .one3 .ensures, c₅ .one4 .ensures) at (c₃ .subtype .ensures)) (c .match2 .keys2)
+    (rw (c₆ .one3 .ensures, c₅ .one4 .ensures) at (c₃ .subtype .ensures)) (c .match2 .keys2)
 
 pub sub-all-pushed-requires : (t : ℕ) → sub-all-lts.Need-pushed-requires (sub-all-claims t) (sub-all-at t) sub-all.Post
 sub-all-pushed-requires t c κs = search needs
@@ -73,7 +75,7 @@ sub-all-right-alone-requires t c κs =
     let c₁₅ = c₁₀ .before .before .before .before .before in let c₁₉ = c₁₅ .before .before .before .before in let c₂₁ = c₁₉ .before .before in
     let c₂₅ = c₂₁ .before .before .before .before in
     let u = under-on (c₂₅ .pre .1) (c₂₁ .one2 .ensures) (c₁₉ .open-on .ensures) in under-within u (c₂₅ .pre .1 .pre) (c₁₅ .o .given .1)
-        (rw (c₁₀ .one3 .ensures, c₉ .one4 .ensures) at (c₇ .subtype .ensures)) (c₃ .z .given .1)
+    (rw (c₁₀ .one3 .ensures, c₉ .one4 .ensures) at (c₇ .subtype .ensures)) (c₃ .z .given .1)
 
 pub sub-all-same-length-3 : (t : ℕ) → sub-all-lts.Need-same-length-3 (sub-all-claims t) (sub-all-at t) sub-all.Post
 sub-all-same-length-3 t c =
@@ -87,6 +89,5 @@ sub-all-returns-3 t c =
     let c₁₁ = c₁₀ .before in let c₁₆ = c₁₁ .before .before .before .before .before in let c₂₀ = c₁₆ .before .before .before .before in
     let c₂₂ = c₂₀ .before .before in let c₂₃ = c₂₂ .before in let c₂₆ = c₂₃ .before .before .before in
     let u = under-on (c₂₆ .pre .1) (c₂₂ .one2 .ensures) (c₂₀ .open-on .ensures) in under-done u (c₂₆ .pre .1 .pre) (c₁₆ .o .given .1)
-        (rw (c₁₁ .one3 .ensures, c₁₀ .one4 .ensures) at (c₈ .subtype .ensures)) (c₄ .z .given .1)
-        (c₂₃ .one .ensures ∙ all-number (side (c₂₆ .args .s))) (rw (c₂ .pushed .ensures) at (c .right-alone .ensures))
-    
+    (rw (c₁₁ .one3 .ensures, c₁₀ .one4 .ensures) at (c₈ .subtype .ensures)) (c₄ .z .given .1) (c₂₃ .one .ensures ∙ all-number (side (c₂₆ .args .s)))
+    (rw (c₂ .pushed .ensures) at (c .right-alone .ensures))

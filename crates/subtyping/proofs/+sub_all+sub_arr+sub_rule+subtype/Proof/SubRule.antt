@@ -73,4 +73,3 @@ pub sub-rule-returns-5 : (t : ℕ) → sub-rule-lts.Need-returns-5 (sub-rule-cla
 sub-rule-returns-5 t c =
     let c₂ = c .before .before in let c₆ = c₂ .before .before .before .before in
     none-fires (arm-pre (c₆ .pre .1) (c₂ .choose .ensures) (c .enum-told2 .given .1))
-    

@@ -24,9 +24,10 @@ subtype-returns t c = whole-spent (c .before .before .enter .ensures) (c .enum-t
 
 pub subtype-sub-rule-requires : (t : ℕ) → subtype-lts.Need-sub-rule-requires (subtype-claims t) (subtype-at t) subtype.Post
 subtype-sub-rule-requires t c κs =
-    let c₂ = c .before .before in let c₄ = c₂ .before .before in let c₇ = c₄ .before .before .before in
-    (omega (arith, c₇ .pre .0, whole-less (c₇ .pre .1) (c₄ .enter .ensures) (c₂ .inner .given .1)), whole-rule (c₇ .pre .1) (c₄ .enter .ensures)
-        (c₂ .inner .given .1))
+    let c₂ = c .before .before in let c₄ = c₂ .before .before in let c₇ = c₄ .before .before .before in (
+      omega (arith, c₇ .pre .0, whole-less (c₇ .pre .1) (c₄ .enter .ensures) (c₂ .inner .given .1)),
+      whole-rule (c₇ .pre .1) (c₄ .enter .ensures) (c₂ .inner .given .1),
+    )
 
 pub subtype-enum-known-z : (t : ℕ) → subtype-lts.Need-enum-known-z (subtype-claims t) (subtype-at t) subtype.Post
 subtype-enum-known-z t c = search needs
@@ -56,4 +57,3 @@ subtype-returns-3 t c =
     let c₂ = c .before .before in let c₅ = c₂ .before .before .before in let c₉ = c₅ .before .before .before .before in
     let c₁₂ = c₉ .before .before .before in let c₁₄ = c₁₂ .before .before in let c₁₇ = c₁₄ .before .before .before in
     whole-done (c₁₇ .pre .1) (c₁₄ .enter .ensures) (c₁₂ .inner .given .1) (c₉ .sub-rule .ensures) (c₅ .z .given .1) (c₂ .leave .ensures)
-    

@@ -31,7 +31,7 @@ pub is-mono-returns : (t : ℕ) → is-mono-lts.Need-returns (is-mono-claims t) 
 is-mono-returns t c =
     let c₁ = c .before in let c₂ = c₁ .before in let c₃ = c₂ .before in let c₄ = c₃ .before in let c₅ = c₄ .before in let c₆ = c₅ .before in
     mono-both (c₆ .tag .ensures) (c₅ .match .keys1) (c₄ .left-of .ensures) (c₃ .is-mono .ensures) (c₂ .if1 .taken) (c₁ .right-of .ensures)
-        (c .is-mono2 .ensures)
+    (c .is-mono2 .ensures)
 
 pub is-mono-returns-2 : (t : ℕ) → is-mono-lts.Need-returns-2 (is-mono-claims t) (is-mono-at t) is-mono.Post
 is-mono-returns-2 t c =

@@ -63,7 +63,7 @@ pub occurs-check-returns-3 : (t : ℕ) → occurs-check-lts.Need-returns-3 (occu
 occurs-check-returns-3 t c =
     let c₁ = c .before in let c₂ = c₁ .before in let c₃ = c₂ .before in let c₄ = c₃ .before in let c₅ = c₄ .before in let c₆ = c₅ .before in
     occurs-right (c₆ .tag .ensures) (c₅ .match .keys1) (c₄ .left-of .ensures) (c₃ .occurs-check .ensures) (c₂ .if1 .left) (c₁ .right-of .ensures)
-        (c .occurs-check2 .ensures)
+    (c .occurs-check2 .ensures)
 
 pub occurs-check-returns-4 : (t : ℕ) → occurs-check-lts.Need-returns-4 (occurs-check-claims t) (occurs-check-at t) occurs-check.Post
 occurs-check-returns-4 t c =
@@ -82,4 +82,3 @@ pub occurs-check-returns-7 : (t : ℕ) → occurs-check-lts.Need-returns-7 (occu
 occurs-check-returns-7 t c =
     let c₂ = c .before .before in let c₃ = c₂ .before in let c₆ = c₃ .before .before .before in
     absurd (no-other (c₆ .pre .1) (c₃ .tag .ensures) (c .if4 .left) (c₂ .match .rest .0 .1) (c₂ .match .rest .1))
-    
