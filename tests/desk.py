@@ -1,9 +1,11 @@
-"""The desk program as a function, after `rt check desk`: a question's words in, its two lines out; and recorded answers to hold it to."""
+"""The desk program as a function, after `rt check desk`: a question's words in, its two lines out; recorded answers to hold it to; and what
+the tests' scripts share: files as arguments, and the verdict."""
 import collections
 import pathlib
 import platform
 import struct
 import subprocess
+import sys
 
 PROGRAMS = pathlib.Path(__file__).resolve().parent.parent / "target/bin"
 # budget, work and room of the desk program
@@ -42,3 +44,24 @@ def same_at_the_desk(line):
     if code == 6:
         return int(line.sizes.split()[0]) == budget
     return (code == 0 or code >= 11) and units <= budget and length <= room
+
+
+def files(usage, least=1):
+    """The arguments as files that are there, else a usage line and status 2."""
+    found = [pathlib.Path(argument) for argument in sys.argv[1:]]
+    if len(found) < least or not all(file.is_file() for file in found):
+        print(f"usage: {usage}", file=sys.stderr)
+        sys.exit(2)
+    return found
+
+
+def answers(found):
+    """The recorded answers of files."""
+    return [line for file in found for line in recorded(file.read_text(encoding="utf-8").splitlines())]
+
+
+def verdict(passed, failed):
+    """The last line, by which the gate goes; nothing tested is a failure."""
+    failed += not passed and not failed
+    print(f"{passed} passed, {failed} failed", flush=True)
+    sys.exit(1 if failed else 0)

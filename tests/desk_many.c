@@ -1,6 +1,6 @@
-/* Asks the desk program many questions in one process: its `main`, renamed to desk_main, is called once for each line of the file that is
-   named, with the question's bytes on standard input, and what it writes is held to the line's reply. Lines are those of recorded answers:
-   sizes | question | four numbers | report. */
+/* Asks the desk program many questions in one process: desk_many COUNT. Its `main`, renamed to desk_main, is called once for each line of
+   standard input, with the question's bytes on a standard input of its own, and what it writes is held to the line's reply. Lines are those
+   of recorded answers: sizes | question | four numbers | report. There must be COUNT of them. */
 #include <stdint.h>
 #include <stdio.h>
 #include <stdlib.h>
@@ -71,15 +71,21 @@ static int holds(char *line) {
 }
 
 int main(int argc, char **argv) {
-    FILE *lines = argc == 2 ? fopen(argv[1], "r") : NULL;
-    char *line = NULL;
-    size_t room = 0, asked = 0, differ = 0;
-    must(lines != NULL, "desk_many FILE");
+    char *line = NULL, *end = NULL;
+    size_t room = 0, asked = 0, differ = 0, count = argc == 2 ? strtoul(argv[1], &end, 10) : 0;
+    if (count == 0 || *end != 0) {
+        fputs("usage: desk_many COUNT\n", stderr);
+        return 2;
+    }
+    FILE *lines = fdopen(dup(STDIN_FILENO), "r");
+    must(lines != NULL, "standard input");
     while (getline(&line, &room, lines) > 0) {
         if (*line == '#' || *line == '\n') continue;
         asked++;
         differ += !holds(line);
     }
-    fprintf(stderr, "desk: %zu questions asked, %zu differ\n", asked, differ);
-    return differ != 0 || asked == 0;
+    size_t failed = differ + (asked != count);
+    if (asked != count) fprintf(stderr, "desk: %zu questions came, of %zu\n", asked, count);
+    fprintf(stderr, "%zu passed, %zu failed\n", asked - differ, failed);
+    return failed != 0;
 }

@@ -21,14 +21,17 @@ static struct frame frame;
 static struct slice work, report, question, reply;
 static const uint8_t zeros[MOST_SLICE];
 static unsigned long frames, differences, checked[CODES], answered[CODES];
+static bool frame_differs;
 
 static void print_words(const char *before, const uint32_t *words, size_t count) {
     fputs(before, stdout);
     for (size_t i = 0; i < count; i++) printf(" %lu", (unsigned long)words[i]);
 }
 
-/* Counts a difference; the first is printed as a recorded line. */
+/* Counts a frame that differs, in whichever function; the first is printed as a recorded line. */
 static void differs(const char *function, const char *what, const uint32_t *got, size_t count) {
+    if (frame_differs) return;
+    frame_differs = true;
     if (differences++ > 0) return;
     printf("%s differs in %s, frame %lu:\n%lu %lu %lu |", function, what, frames, (unsigned long)frame.sizes.budget,
            (unsigned long)frame.sizes.work, (unsigned long)frame.sizes.room);
@@ -139,6 +142,7 @@ int main(void) {
     reply = new_slice();
     setvbuf(stdin, NULL, _IOFBF, 1 << 20);
     for (; read_frame(); frames++) {
+        frame_differs = false;
         hold_check();
         if (at_the_desk()) hold_answer();
         if ((frames + 1) % FRAMES_A_LINE == 0) {
@@ -148,6 +152,8 @@ int main(void) {
     }
     print_codes("sporeflask_check", checked);
     print_codes("sporeflask_answer", answered);
-    printf("%lu frames, %lu differences\n", frames, differences);
-    return differences == 0 && frames > 0 ? 0 : 1;
+    /* nothing asked is a failure */
+    unsigned long failed = frames == 0 ? 1 : differences;
+    printf("%lu passed, %lu failed\n", frames - differences, failed);
+    return failed == 0 ? 0 : 1;
 }

@@ -4,14 +4,19 @@
 usage: definition.py ANSWERS.. FOLDER
 
 Writes a scratch repository into FOLDER (the crate definition, and a crate `recorded` with one theorem by computation for each line of
-ANSWERS) and has `rt` check it. Its last line says how many replies were computed; it fails where one differs.
+ANSWERS) and has `rt` check it. FOLDER must be new, or made by this script. The last line says how many replies were computed.
 """
 import pathlib
 import shutil
 import subprocess
 import sys
 
+sys.path.insert(0, str(pathlib.Path(__file__).resolve().parent.parent))
+from desk import verdict  # noqa: E402
+
 PER_MODULE = 200
+# a folder without this file was not made here, and is left alone
+MADE_HERE = ".made-by-definition.py"
 
 HEAD = """-- Recorded answers {first} to {last}, computed from the definition. Made by tests/recorded/definition.py.
 use mathlib.Core.Path.{{_≡_, refl}}
@@ -54,19 +59,35 @@ def write_crate(folder, lines):
     (proofs / "Lib.antt").write_text("".join(f"pub mod {name}\n" for name in modules))
 
 
+def arguments():
+    *answers, folder = map(pathlib.Path, sys.argv[1:] or [""])
+    if not answers or not all(file.is_file() for file in answers):
+        sys.exit(usage("ANSWERS.. are files"))
+    if folder.exists() and not (folder / MADE_HERE).is_file():
+        sys.exit(usage(f"{folder} is there already, and was not made by this script"))
+    return answers, folder
+
+
+def usage(why):
+    print(f"usage: definition.py ANSWERS.. FOLDER ({why})", file=sys.stderr)
+    return 2
+
+
 def main():
-    *answers, folder = map(pathlib.Path, sys.argv[1:])
+    answers, folder = arguments()
     root = pathlib.Path(__file__).resolve().parents[2]
     lines = [line for file in answers for line in file.read_text().splitlines() if line and not line.startswith("#")]
     shutil.rmtree(folder, ignore_errors=True)
     (folder / "crates").mkdir(parents=True)
+    (folder / MADE_HERE).touch()
     shutil.copytree(root / "crates" / "definition", folder / "crates" / "definition")
     write_crate(folder, lines)
     run = subprocess.run(["rt", "check"], cwd=folder, capture_output=True, text=True)
     if run.returncode != 0 or "rt: ok" not in run.stdout + run.stderr:
         print((run.stdout + run.stderr)[-4000:])
-        sys.exit("the definition differs from a recorded answer, or could not be checked")
-    print(f"recorded answers: {len(lines)} replies computed from the definition, none differs")
+        print("the definition differs from a recorded answer, or could not be checked")
+        verdict(0, len(lines))
+    verdict(len(lines), 0)
 
 
 main()

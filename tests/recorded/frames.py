@@ -6,7 +6,7 @@ import struct
 import sys
 
 sys.path.insert(0, str(pathlib.Path(__file__).resolve().parent.parent))
-from desk import SIZES, recorded, same_at_the_desk  # noqa: E402
+from desk import SIZES, answers, files, same_at_the_desk  # noqa: E402
 
 # no budget needs more work; longer work changes no reply
 MOST_WORK = 266_240 + 300
@@ -20,11 +20,10 @@ def frame(sizes, line):
 
 
 def main():
-    for file in sys.argv[1:]:
-        for line in recorded(open(file, encoding="utf-8")):
-            sys.stdout.buffer.write(frame(line.sizes, line))
-            if line.sizes != SIZES and same_at_the_desk(line):
-                sys.stdout.buffer.write(frame(SIZES, line))
+    for line in answers(files("frames.py ANSWERS..")):
+        sys.stdout.buffer.write(frame(line.sizes, line))
+        if line.sizes != SIZES and same_at_the_desk(line):
+            sys.stdout.buffer.write(frame(SIZES, line))
 
 
 main()

@@ -6,7 +6,7 @@ import subprocess
 import sys
 
 sys.path.insert(0, str(pathlib.Path(__file__).resolve().parent.parent))
-from desk import program, recorded  # noqa: E402
+from desk import answers, files, program, verdict  # noqa: E402
 
 # what the program lends
 MOST_ROOM = 4_096
@@ -28,17 +28,19 @@ def reply(line):
 
 
 def main():
-    lines = [line for file in sys.argv[1:] for line in recorded(open(file, encoding="utf-8"))]
+    lines = answers(files("through_replay.py ANSWERS.."))
     asked = [line for line in lines if words(line.sizes)[2] <= MOST_ROOM]
     ran = subprocess.run(program("replay"), input=b"".join(map(frame, asked)), stdout=subprocess.PIPE, check=True)
     at = 0
     for number, line in enumerate(asked):
         wanted = reply(line)
         if ran.stdout[at:at + len(wanted)] != wanted:
-            sys.exit(f"replay: answer {number} differs: {line.sizes} | {line.question[:400]}")
+            print(f"replay: answer {number} differs: {line.sizes} | {line.question[:400]}")
+            verdict(number, len(asked) - number)
         at += len(wanted)
-    print(f"replay: {len(asked)} recorded answers asked, 0 differ, {len(lines) - len(asked)} left out (more room than is lent)")
-    sys.exit(0 if asked and at == len(ran.stdout) else "replay: more was written than asked for")
+    print(f"replay: {len(lines) - len(asked)} recorded answers left out (more room than is lent), "
+          f"{len(ran.stdout) - at} bytes more than was asked for")
+    verdict(len(asked), int(at != len(ran.stdout)))
 
 
 main()

@@ -38,7 +38,7 @@ const USAGE: &str = "usage: oracle compare --count N --seed S
        oracle answer < LINES
        oracle frames --count N --seed S
        oracle desk --count N --seed S
-       oracle replay FILE";
+       oracle replay FILE..";
 
 /// The value after a flag.
 fn flag<'a>(arguments: &'a [String], name: &str) -> Result<&'a str, String> {
@@ -48,7 +48,7 @@ fn flag<'a>(arguments: &'a [String], name: &str) -> Result<&'a str, String> {
 }
 
 fn number(arguments: &[String], name: &str) -> Result<u64, String> {
-    flag(arguments, name)?.parse().map_err(|_| format!("{name} wants a number"))
+    flag(arguments, name)?.parse().map_err(|_| format!("{name} wants a number\n{USAGE}"))
 }
 
 fn command(arguments: &[String]) -> Result<(), String> {
@@ -61,7 +61,7 @@ fn command(arguments: &[String]) -> Result<(), String> {
         Some("answer") => replay::answer(),
         Some("frames") => frames::frames(count()?, seed()?),
         Some("desk") => frames::desk(count()?, seed()?),
-        Some("replay") => replay::replay(arguments.get(1).ok_or(USAGE)?),
+        Some("replay") if arguments.len() > 1 => replay::replay(&arguments[1..]),
         _ => Err(USAGE.to_string()),
     }
 }
@@ -74,7 +74,7 @@ fn main() -> ExitCode {
         Ok(Ok(())) => ExitCode::SUCCESS,
         Ok(Err(reason)) => {
             eprintln!("{reason}");
-            ExitCode::FAILURE
+            ExitCode::from(if reason.ends_with(USAGE) { 2 } else { 1 })
         }
         Err(_) => ExitCode::FAILURE,
     }

@@ -39,21 +39,27 @@ pub fn answer() -> Result<(), String> {
     written(out.flush())
 }
 
-/// Holds each recorded line to the live answer, and that to the original where it can be asked.
-pub fn replay(file: &str) -> Result<(), String> {
-    let text = std::fs::read_to_string(file).map_err(|error| format!("{file}: {error}"))?;
+/// Holds each recorded line of the files to the live answer, and that to the original where it can be asked.
+pub fn replay(files: &[String]) -> Result<(), String> {
     let mut count = 0;
     let mut tally = Tally::default();
-    for line in text.lines().filter(|line| !line.starts_with('#')) {
-        let (asked, recorded) =
-            parse_recorded(line).ok_or_else(|| format!("not a recorded line: {line}"))?;
-        let live = reply(&asked);
-        if live != recorded {
-            return Err(format!("{asked}\n  recorded {recorded}\n  live     {live}"));
+    for file in files {
+        let text = std::fs::read_to_string(file).map_err(|error| format!("{file}: {error}"))?;
+        for line in text.lines().filter(|line| !line.starts_with('#')) {
+            let (asked, recorded) =
+                parse_recorded(line).ok_or_else(|| format!("not a recorded line: {line}"))?;
+            let live = reply(&asked);
+            if live != recorded {
+                return Err(format!("{asked}\n  recorded {recorded}\n  live     {live}"));
+            }
+            full_reply(&asked.words, &mut tally)?;
+            count += 1;
         }
-        full_reply(&asked.words, &mut tally)?;
-        count += 1;
     }
-    println!("{count} recorded answers hold, {} of their questions held to the original", tally.held);
+    if count == 0 {
+        return Err("no recorded answer".to_string());
+    }
+    println!("{} of the recorded questions held to the original", tally.held);
+    println!("{count} passed, 0 failed");
     Ok(())
 }
