@@ -1,6 +1,14 @@
-/* Sporeflask for C: both exported functions, their sizes, and names for codes, kinds, modes and rules.
-   Link with target/staticlib/libhost.a (`rt staticlib host`). Nothing is allocated and nothing is kept between calls;
-   slices of one call must not overlap. A length of 0 allows any non-null pointer. */
+/* Sporeflask for C: both exported functions, the layout of a question and of its reply, names for their words, sizes.
+   docs/FORMAT.md says the same at length, with examples.
+
+   Link with target/staticlib/libhost.a (`rt staticlib host`; x86-64).
+
+   Calls are independent of each other: nothing is allocated, nothing is kept from one call to the next, and there is no
+   state outside the slices and the stack. So threads may call at the same time, each with slices of its own (a question
+   may be shared, since it is only read). A reply depends on the question, the sizes and the budget alone.
+
+   Slices of one call must not overlap. Those of uint32_t are aligned as uint32_t is, to 4 bytes; bytes lie anywhere. A
+   length of 0 allows any non-null pointer. */
 #ifndef SPOREFLASK_H
 #define SPOREFLASK_H
 
@@ -11,7 +19,14 @@
 extern "C" {
 #endif
 
-/* Sizes, in words of 4 bytes unless their name says otherwise. */
+/* The version of this header and of the formats that it names. */
+#define SPOREFLASK_VERSION_MAJOR 1
+#define SPOREFLASK_VERSION_MINOR 0
+#define SPOREFLASK_VERSION_PATCH 0
+#define SPOREFLASK_VERSION "1.0.0"
+
+/* ---- Sizes, in words of 4 bytes unless their name says otherwise */
+
 enum {
     SPOREFLASK_MOST_WORDS = 2048,         /* of a question */
     SPOREFLASK_MOST_BUDGET = 8192,        /* in units */
@@ -26,25 +41,39 @@ enum {
 /* The words of work that a budget needs. */
 #define SPOREFLASK_WORK_WORDS(budget) (32 * (size_t)(budget) + 4096)
 
-/* The first of the four numbers: code, at, length, units. */
-enum sporeflask_code {
-    SPOREFLASK_OK = 0,
-    SPOREFLASK_BAD_BUDGET = 1,
-    SPOREFLASK_SHORT_WORK = 2,
-    SPOREFLASK_BAD_LENGTH = 3,
-    SPOREFLASK_BAD_SHAPE = 4,    /* at: the place in the question */
-    SPOREFLASK_RESERVED_NAME = 5, /* at: the place in the question */
-    SPOREFLASK_BUDGET = 6,
-    SPOREFLASK_NO_ROOM = 7,      /* length: what the report needs; no word of it was written */
-    SPOREFLASK_SHORT_REPLY = 8,  /* sporeflask_answer alone; nothing was written */
-    SPOREFLASK_UNBOUND_VARIABLE = 11, /* at: the name */
-    SPOREFLASK_APPLICATION_TYPE_ERROR = 12,
-    SPOREFLASK_TYPE_APPLICATION_ERROR = 13,
-    SPOREFLASK_OCCURS_CHECK = 14, /* at: the name */
-    SPOREFLASK_SUBTYPING_ERROR = 15,
-    SPOREFLASK_INSTANTIATION_ERROR = 16, /* at: the name */
-    SPOREFLASK_PARAMETER_MISMATCH = 17
-};
+/* The bytes of stack to give to a thread that calls with questions from outside: how deep a call goes depends on the
+   question. From the bound of docs/STACK.md, with at least 128 KB for the caller and a signal handler, in steps of
+   64 KB; the slices that sporeflask_check is lent are not in it. Let the stack have a guard page, as threads have
+   unless told otherwise: then too small a stack ends in SIGSEGV and overwrites nothing. The figures belong to the
+   archive that docs/STACK.md names. */
+#define SPOREFLASK_ANSWER_STACK_BYTES ((size_t)720896)
+#define SPOREFLASK_CHECK_STACK_BYTES(budget)                         \
+    ((((size_t)(budget) <= 529    ? (size_t)592576                   \
+       : (size_t)(budget) <= 1021 ? 864 * (size_t)(budget) + 135168  \
+                                  : 432 * (size_t)(budget) + 576240) \
+      + 65535) / 65536 * 65536)
+
+/* ---- The question
+
+   kind, mode, then four sections, each after its count of words: context, expression, left type, right type. Places
+   count from 0. At most SPOREFLASK_MOST_WORDS words.
+
+       kind             context  expression  left        right
+       INFER            any      one         -           -
+       CHECK            any      one         -           one
+       INFER_APP        any      one         one         -       left is the function's type
+       SUBTYPE          any      -           one         one
+       INST_L           any      -           one ETVAR   one
+       INST_R           any      -           one         one ETVAR
+       RUN_BIDIRECTIONAL -       one         -           -
+
+   "-" is count 0. A context is any number of entries, oldest first. Each item is its code and what stands behind it in
+   the tables below, parts in order: T a type, e an expression, x a variable's name, a a type's name. Names are below
+   SPOREFLASK_FIRST_FRESH_NAME; a variable's and a type's name of one number are two names.
+
+   The formula `1` without inputs, case (a), is 7 0 0 3 22 1 0 0 0:
+
+       SPOREFLASK_RUN_BIDIRECTIONAL, SPOREFLASK_PLAIN, 0, 3, SPOREFLASK_E_LIT_INT, 1, 0, 0, 0 */
 
 /* The first word of a question. */
 enum sporeflask_kind {
@@ -59,6 +88,90 @@ enum sporeflask_kind {
 
 /* The second word of a question. */
 enum sporeflask_mode { SPOREFLASK_PLAIN = 0, SPOREFLASK_STRICT = 1 };
+
+/* Types, in a question and in a report. */
+enum sporeflask_type {
+    SPOREFLASK_T_INT = 1,
+    SPOREFLASK_T_BOOL = 2,
+    SPOREFLASK_T_VAR = 3,   /* a */
+    SPOREFLASK_T_ETVAR = 4, /* a: an unknown */
+    SPOREFLASK_T_ARROW = 5, /* T T: from the first to the second */
+    SPOREFLASK_T_FORALL = 6 /* a T */
+};
+
+enum sporeflask_expression {
+    SPOREFLASK_E_VAR = 16,          /* x */
+    SPOREFLASK_E_APP = 17,          /* e e: function, argument */
+    SPOREFLASK_E_ABS = 18,          /* x T e: parameter, its type, body */
+    SPOREFLASK_E_TAPP = 19,         /* e T */
+    SPOREFLASK_E_TABS = 20,         /* a e */
+    SPOREFLASK_E_ANN = 21,          /* e T */
+    SPOREFLASK_E_LIT_INT = 22,      /* low high: the halves of an int64_t, low one first */
+    SPOREFLASK_E_LIT_BOOL = 23,     /* 0 or 1 */
+    SPOREFLASK_E_LET = 24,          /* x e e: name, value, body */
+    SPOREFLASK_E_IF_THEN_ELSE = 25, /* e e e */
+    SPOREFLASK_E_BIN_OP = 26        /* operator e e */
+};
+
+/* The word after SPOREFLASK_E_BIN_OP. */
+enum sporeflask_operator {
+    SPOREFLASK_OP_ADD = 1, /* 1 to 4: Int and Int to Int */
+    SPOREFLASK_OP_SUB = 2,
+    SPOREFLASK_OP_MUL = 3,
+    SPOREFLASK_OP_DIV = 4,
+    SPOREFLASK_OP_AND = 5, /* 5 and 6: Bool and Bool to Bool */
+    SPOREFLASK_OP_OR = 6,
+    SPOREFLASK_OP_EQ = 7, /* 7 and 8: two of one type to Bool */
+    SPOREFLASK_OP_NE = 8,
+    SPOREFLASK_OP_LT = 9, /* 9 to 12: Int and Int to Bool */
+    SPOREFLASK_OP_LE = 10,
+    SPOREFLASK_OP_GT = 11,
+    SPOREFLASK_OP_GE = 12
+};
+
+/* Entries of a context, in a question and in a report. */
+enum sporeflask_entry {
+    SPOREFLASK_C_VAR_BND = 32,    /* x T: a variable, as an input, and its type */
+    SPOREFLASK_C_TVAR_BND = 33,   /* a: a type variable */
+    SPOREFLASK_C_ETVAR_BND = 34,  /* a: an unknown */
+    SPOREFLASK_C_SETVAR_BND = 35, /* a T: an unknown and its solution */
+    SPOREFLASK_C_MARK = 36        /* a */
+};
+
+/* ---- The reply
+
+   Four numbers: code, at, length, units; and a report. length is the report's words; on NO_ROOM it is what the report
+   needs, and nothing is written. units is the work that was counted. The report has types and entries as above, where
+   SPOREFLASK_FIRST_FRESH_NAME + k is the k-th name that the run made, from 0.
+
+   On OK: three sections, each after its count: type (count 0 for CHECK, SUBTYPE, INST_L and INST_R), context, tree. The
+   tree is its nodes, parent first, then each child's nodes. A node:
+
+       rule, number of children, place of its expression in the question (0 if none),
+       then five sections, each after its count: input context, left type, right type, output context, result type
+
+   On UNBOUND_VARIABLE to PARAMETER_MISMATCH: two type sections, each after its count, empty where there is no type. The
+   code's line says which types they hold. Otherwise no report. */
+
+/* The first of the four numbers. `at` is 0 unless its line says otherwise. */
+enum sporeflask_code {
+    SPOREFLASK_OK = 0,
+    SPOREFLASK_BAD_BUDGET = 1,              /* 0, or above SPOREFLASK_MOST_BUDGET */
+    SPOREFLASK_SHORT_WORK = 2,              /* work is shorter than SPOREFLASK_WORK_WORDS(budget) */
+    SPOREFLASK_BAD_LENGTH = 3,              /* no words, more than SPOREFLASK_MOST_WORDS, or no whole words */
+    SPOREFLASK_BAD_SHAPE = 4,               /* at: the place in the question */
+    SPOREFLASK_RESERVED_NAME = 5,           /* at: the place in the question */
+    SPOREFLASK_BUDGET = 6,                  /* the counted work would pass the budget */
+    SPOREFLASK_NO_ROOM = 7,                 /* length: what the report needs; no word of it was written */
+    SPOREFLASK_SHORT_REPLY = 8,             /* sporeflask_answer alone; nothing was written */
+    SPOREFLASK_UNBOUND_VARIABLE = 11,       /* at: the name; no type */
+    SPOREFLASK_APPLICATION_TYPE_ERROR = 12, /* what was applied is no function: its type; none */
+    SPOREFLASK_TYPE_APPLICATION_ERROR = 13, /* what was given a type is no Forall: its type; none */
+    SPOREFLASK_OCCURS_CHECK = 14,           /* at: the name; the type that has it; none */
+    SPOREFLASK_SUBTYPING_ERROR = 15,        /* the left type, which is there; the right one, which is wanted */
+    SPOREFLASK_INSTANTIATION_ERROR = 16,    /* at: the name; the type; none. No question draws it */
+    SPOREFLASK_PARAMETER_MISMATCH = 17      /* strict mode: the parameter's type as written; the one wanted */
+};
 
 /* The first word of a node of the tree. */
 enum sporeflask_rule {
@@ -101,13 +214,21 @@ enum sporeflask_rule {
     SPOREFLASK_INST_R_ALL_L /* 37 */
 };
 
-/* The telephone host's function. question: little-endian words. reply: code, at, length and units in its first 16 bytes,
-   then the report, all little-endian; bytes past the report stay as they were. Returns the code. */
+/* ---- The functions */
+
+/* The telephone host's function, with the desk's sizes. question: little-endian words. reply: code, at, length and
+   units in its first 16 bytes, then the report, all little-endian; bytes past the report stay as they were. Returns the
+   code. With reply_bytes below 16 it returns SPOREFLASK_SHORT_REPLY before all else and writes nothing. */
 uint32_t sporeflask_answer(const uint8_t *question, size_t question_bytes, uint8_t *reply, size_t reply_bytes);
 
 /* The same checker with every size free. numbers takes code, at, length and units. Returns the code. Work needs
    SPOREFLASK_WORK_WORDS(budget) words, may hold anything, and ends as 0 there; on 1 to 5 it is not touched. The report
-   has `length` words on 0 and 11 to 17, and is not touched on 1 to 7. */
+   has `length` words on 0 and 11 to 17, and is not touched on 1 to 7.
+
+   Work may be uninitialised: what it holds changes nothing. But its words are read when it is cleared, and blocks that
+   are all 0 already are not written. So a memory checker reports the reads of a slice from malloc (valgrind:
+   "Conditional jump or move depends on uninitialised value(s)", in entry::check), and takes words of it for
+   uninitialised even after the call. A slice from calloc, or cleared once, draws no report. */
 uint32_t sporeflask_check(const uint32_t *question, size_t question_words, uint32_t budget, uint32_t *work,
                           size_t work_words, uint32_t *report, size_t report_words, uint32_t numbers[4]);
 

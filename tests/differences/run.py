@@ -2,7 +2,8 @@
 """The questions of docs/DIFFERENCES.md, through the desk program; and the page held to them.
 
 usage: run.py            asks the desk program every question of questions.txt that its sizes do not change, holds its reply to the
-                         recorded one, and holds the page's blocks to questions.txt and to the paper's rules (paper.py)
+                         recorded one, and holds the page's blocks to questions.txt and to the paper's rules (paper.py);
+                         the last line is 'N passed, M failed': blocks of the page and replies of the desk
        run.py --blocks   prints the blocks as the page must have them
 """
 import itertools
@@ -12,19 +13,38 @@ import sys
 
 HERE = pathlib.Path(__file__).resolve().parent
 sys.path.insert(0, str(HERE.parent))
-from desk import SIZES, ask, recorded, same_at_the_desk  # noqa: E402
-from notation import outcome, question as formula, reply as told  # noqa: E402
+from desk import SIZES, ask, program, recorded, same_at_the_desk, verdict  # noqa: E402
+from notation import Notation  # noqa: E402
 from paper import derived  # noqa: E402
 
+USAGE = "usage: run.py [--blocks]"
 QUESTIONS, PAGE = HERE / "questions.txt", HERE.parent.parent / "docs/DIFFERENCES.md"
 # words past which a question is not written as a formula
 MOST_WORDS = 100
+# words of a report past which part S leaves out its tree
+MOST_REPORT = 30
+
+
+def parts_of(text, heading):
+    """For each heading with an entry's id, the id and the text below it."""
+    parts = re.split(heading, text, flags=re.MULTILINE)
+    return list(zip(parts[1::2], parts[2::2]))
+
+
+def sections():
+    return parts_of(QUESTIONS.read_text(), r"^# ([RPS]\d+)$")
 
 
 def entries():
     """For each entry of the page its id and the recorded lines below it."""
-    parts = re.split(r"^# ([RP]\d+)$", QUESTIONS.read_text(), flags=re.MULTILINE)
-    return [(name, list(recorded(lines.splitlines()))) for name, lines in zip(parts[1::2], parts[2::2])]
+    return [(name, list(recorded(text.splitlines()))) for name, text in sections()]
+
+
+def notations():
+    """For each entry of the page how its names are spelt: '# variables 0 open ..' and '# types 0 Open ..', else document 01's names."""
+    for name, text in sections():
+        listed = {kind: line.split() for kind, line in re.findall(r"^# (variables|types) (.*)$", text, flags=re.MULTILINE)}
+        yield name, Notation(**{kind: dict(zip(map(int, words[::2]), words[1::2])) for kind, words in listed.items()})
 
 
 def short(words):
@@ -33,53 +53,76 @@ def short(words):
     return " ".join(f"{word}*{count}" if count >= 10 else " ".join([word] * count) for word, count in runs)
 
 
-def block(name, line):
+def without_tree(report):
+    """An accepted report's words up to its tree's count."""
+    words = report.split()
+    context = 1 + int(words[0])
+    tree = context + 1 + int(words[context])
+    return " ".join([*words[:tree + 1], ".."])
+
+
+def shown(name, line):
+    accepted = line.numbers.split()[0] == "0"
+    return without_tree(line.report) if name.startswith("S") and accepted and len(line.report.split()) > MOST_REPORT else line.report
+
+
+def block(name, line, notation):
     """A question's block on the page."""
     words = [int(word) for word in line.question.split()]
     numbers = [int(word) for word in line.numbers.split()]
     lines = [] if line.sizes == SIZES else [f"sizes    {line.sizes}"]
     lines.append(f"question {short(line.question)}".rstrip())
     if numbers[0] not in (3, 4, 5) and len(words) <= MOST_WORDS:
-        lines.append(f"         {formula(words)}")
+        lines.append(f"         {notation.question(words)}")
     lines.append(f"reply    {line.numbers}")
-    lines += [f"report   {line.report}"] * bool(line.report)
-    lines.append(f"         {told(numbers, map(int, line.report.split()))}")
-    lines += [f"paper    {outcome(derived(words))}"] if name.startswith("P") else []
+    lines += [f"report   {shown(name, line)}"] * bool(line.report)
+    lines.append(f"         {notation.reply(numbers, map(int, line.report.split()))}")
+    lines += [f"paper    {notation.outcome(derived(words))}"] if name.startswith("P") else []
     return "\n".join(lines)
 
 
 def page_blocks():
     """For each entry of the page its id and its blocks."""
-    parts = re.split(r"^### ([RP]\d+)\. ", PAGE.read_text(), flags=re.MULTILINE)
-    return {name: re.findall(r"^```\n(.*?)\n```$", text, flags=re.MULTILINE | re.DOTALL) for name, text in zip(parts[1::2], parts[2::2])}
+    found = parts_of(PAGE.read_text(), r"^### ([RPS]\d+)\. ")
+    return {name: re.findall(r"^```\n(.*?)\n```$", text, flags=re.MULTILINE | re.DOTALL) for name, text in found}
 
 
 def page_faults(wanted):
+    """For each question of an entry whether the page has its block in its place; one more for each block or entry too many."""
     found = page_blocks()
-    for name in wanted.keys() | found.keys():
-        if found.get(name) != wanted.get(name):
-            yield f"{name}: the page's blocks are not those of questions.txt (run.py --blocks prints these)"
+    yield from (f"{name}: not both on the page and in questions.txt" for name in sorted(found.keys() ^ wanted.keys()))
+    for name in [*wanted, *sorted(found.keys() - wanted.keys())]:
+        for has, must in itertools.zip_longest(found.get(name, []), wanted.get(name, [])):
+            yield has != must and f"{name}: the page's blocks are not those of questions.txt (run.py --blocks prints these)"
 
 
-def desk_faults(line):
-    if ask([int(word) for word in line.question.split()]) != f"{line.numbers}\n{line.report}\n":
-        yield f"differs at the desk: {line.question[:400]}"
+def desk_faults(lines):
+    """For each question whether the desk program replies otherwise."""
+    for line in lines:
+        said = ask([int(word) for word in line.question.split()])
+        yield said != f"{line.numbers}\n{line.report}\n" and f"differs at the desk: {line.question[:400]}"
 
 
 def main():
-    listed = entries()
-    wanted = {name: [block(name, line) for line in lines] for name, lines in listed}
-    if sys.argv[1:] == ["--blocks"]:
+    if sys.argv[1:] not in ([], ["--blocks"]):
+        print(USAGE, file=sys.stderr)
+        sys.exit(2)
+    listed, notation = entries(), dict(notations())
+    wanted = {name: [block(name, line, notation[name]) for line in lines] for name, lines in listed}
+    if sys.argv[1:]:
         for name, blocks in wanted.items():
             print(name, *(f"```\n{text}\n```" for text in blocks), sep="\n\n", end="\n\n")
         return
+    if not pathlib.Path(program("desk")[-1]).exists():
+        sys.exit("no desk program in target/bin: `rt check desk` makes it")
     lines = [line for _, all_lines in listed for line in all_lines]
     asked = [line for line in lines if same_at_the_desk(line)]
-    faults = [*page_faults(wanted), *(fault for line in asked for fault in desk_faults(line))]
-    print(*faults, sep="\n", end="\n" if faults else "")
+    held = [*page_faults(wanted), *desk_faults(asked)]
+    faults = [fault for fault in held if fault]
+    print(*dict.fromkeys(faults), sep="\n", end="\n" if faults else "")
     print(f"differences: {len(wanted)} entries, {len(lines)} questions, {len(asked)} asked at the desk, "
           f"{len(lines) - len(asked)} left out (other sizes decide their reply), {len(faults)} faults")
-    sys.exit(1 if faults or not asked else 0)
+    verdict(len(held) - len(faults), len(faults))
 
 
 if __name__ == "__main__":

@@ -5,14 +5,15 @@ usage: switches.py ANSWERS..    files of recorded answers, as tests/recorded/ans
 
 With all switches set the checker below must give the recorded outcome of every plain question that has the paper's expressions alone,
 with none set an outcome of paper.py (in 000's order of rules, P21). And each entry's own questions must show its switch: with all the
-others set, one of them comes out otherwise. P5, P10, P15 and P21 to P28 have no switch: they are no choice of a rule.
+others set, one of them comes out otherwise. P5, P10, P15 and P21 to P28 have no switch: they are no choice of a rule. The last line is
+'N passed, M failed': recorded outcomes that are as told, and entries that are shown.
 """
 import pathlib
 import sys
 
 sys.path.insert(0, str(pathlib.Path(__file__).resolve().parent.parent))
 import paper  # noqa: E402
-from desk import recorded  # noqa: E402
+from desk import answers, files, verdict  # noqa: E402
 from run import entries  # noqa: E402
 from paper import (  # noqa: E402
     ARROW, BOOL, E_ABS, E_ANN, E_APP, E_BOOL, E_INT, E_VAR, ETVAR, ETVARBND, FORALL, INT, MARK, SETVARBND, TVARBND, VAR,
@@ -238,20 +239,21 @@ def faults_of(line):
 
 
 def hidden(name, lines):
-    """An entry none of whose questions shows its switch."""
+    """Whether none of an entry's questions shows its switch."""
     words = [[int(word) for word in line.question.split()] for line in lines]
-    return name in SWITCHES and all(outcome(SWITCHES - {name}, question) == outcome(SWITCHES, question) for question in words)
+    return all(outcome(SWITCHES - {name}, question) == outcome(SWITCHES, question) for question in words)
 
 
 def main():
-    listed = entries()
-    lines = [line for file in sys.argv[1:] for line in recorded(open(file, encoding="utf-8"))]
-    lines = [line for line in [*lines, *(line for _, own in listed for line in own)] if told(line)]
-    faults = [fault for line in lines for fault in faults_of(line)]
-    faults += [f"{name}: no question shows it" for name, own in listed if hidden(name, own)]
+    lines, listed = answers(files("switches.py ANSWERS..")), dict(entries())
+    lines = [line for line in [*lines, *(line for own in listed.values() for line in own)] if told(line)]
+    found = [*(list(faults_of(line)) for line in lines),
+             *([f"{name}: no question shows it"] if hidden(name, listed.get(name, [])) else [] for name in sorted(SWITCHES))]
+    faults = [fault for each in found for fault in each]
     print(*faults, sep="\n", end="\n" if faults else "")
     print(f"switches: {len(SWITCHES)} entries, {len(lines)} recorded outcomes, {len(faults)} faults")
-    sys.exit(1 if faults or not lines else 0)
+    failed = sum(1 for each in found if each)
+    verdict(len(found) - failed, failed)
 
 
 if __name__ == "__main__":

@@ -1,4 +1,7 @@
-/* The exported functions at every edge of their sizes, held to document 01. Prints each failure, then 'N checks, M failed'. */
+/* The exported functions at every edge of their sizes, held to document 01, and what the header says of names, threads and the stack.
+   Prints each failure, then 'N checks, M failed'. */
+#include <pthread.h>
+
 #include "slices.h"
 #include "sporeflask.h"
 
@@ -269,6 +272,195 @@ static void question_words(void) {
     }
 }
 
+/* ---- Names: the numbers that the header's names stand for, and a formula in them */
+
+static void hold_numbers(const char *label, const int *names, size_t count, int first) {
+    for (size_t i = 0; i < count; i++) hold(names[i] == first + (int)i, label, "a name's number, of names", i);
+}
+
+static void numbers_of_names(void) {
+    static const int TYPES[] = {SPOREFLASK_T_INT,   SPOREFLASK_T_BOOL,  SPOREFLASK_T_VAR,
+                                SPOREFLASK_T_ETVAR, SPOREFLASK_T_ARROW, SPOREFLASK_T_FORALL};
+    static const int EXPRESSIONS[] = {SPOREFLASK_E_VAR,      SPOREFLASK_E_APP, SPOREFLASK_E_ABS,     SPOREFLASK_E_TAPP,
+                                      SPOREFLASK_E_TABS,     SPOREFLASK_E_ANN, SPOREFLASK_E_LIT_INT, SPOREFLASK_E_LIT_BOOL,
+                                      SPOREFLASK_E_LET,      SPOREFLASK_E_IF_THEN_ELSE,              SPOREFLASK_E_BIN_OP};
+    static const int ENTRIES[] = {SPOREFLASK_C_VAR_BND, SPOREFLASK_C_TVAR_BND, SPOREFLASK_C_ETVAR_BND, SPOREFLASK_C_SETVAR_BND,
+                                  SPOREFLASK_C_MARK};
+    static const int OPERATORS[] = {SPOREFLASK_OP_ADD, SPOREFLASK_OP_SUB, SPOREFLASK_OP_MUL, SPOREFLASK_OP_DIV,
+                                    SPOREFLASK_OP_AND, SPOREFLASK_OP_OR,  SPOREFLASK_OP_EQ,  SPOREFLASK_OP_NE,
+                                    SPOREFLASK_OP_LT,  SPOREFLASK_OP_LE,  SPOREFLASK_OP_GT,  SPOREFLASK_OP_GE};
+    char version[32];
+    hold_numbers("types", TYPES, COUNT(TYPES), 1);
+    hold_numbers("expressions", EXPRESSIONS, COUNT(EXPRESSIONS), 16);
+    hold_numbers("entries", ENTRIES, COUNT(ENTRIES), 32);
+    hold_numbers("operators", OPERATORS, COUNT(OPERATORS), 1);
+    hold(SPOREFLASK_INST_R_ALL_L == 37, "rules", "the last one's number", 37);
+    snprintf(version, sizeof version, "%d.%d.%d", SPOREFLASK_VERSION_MAJOR, SPOREFLASK_VERSION_MINOR, SPOREFLASK_VERSION_PATCH);
+    hold(strcmp(version, SPOREFLASK_VERSION) == 0, "version", "the text and its three numbers, of bytes", strlen(version));
+}
+
+/* README's formula: ahead * 4 / heads signed_in, refused; with open in the place of signed_in, accepted. */
+static void formula_in_names(void) {
+    enum { AHEAD = 1, OPEN, SIGNED_IN, HEADS }; /* variables */
+    enum { T_OPEN = 1, T_SIGNED_IN };           /* type names */
+    static const uint32_t NAMED[] = {
+        SPOREFLASK_INFER, SPOREFLASK_PLAIN,
+        17, SPOREFLASK_C_VAR_BND, AHEAD, SPOREFLASK_T_INT,
+            SPOREFLASK_C_VAR_BND, OPEN, SPOREFLASK_T_VAR, T_OPEN,
+            SPOREFLASK_C_VAR_BND, SIGNED_IN, SPOREFLASK_T_VAR, T_SIGNED_IN,
+            SPOREFLASK_C_VAR_BND, HEADS, SPOREFLASK_T_ARROW, SPOREFLASK_T_VAR, T_OPEN, SPOREFLASK_T_INT,
+        14, SPOREFLASK_E_BIN_OP, SPOREFLASK_OP_DIV,
+            SPOREFLASK_E_BIN_OP, SPOREFLASK_OP_MUL, SPOREFLASK_E_VAR, AHEAD, SPOREFLASK_E_LIT_INT, 4, 0,
+            SPOREFLASK_E_APP, SPOREFLASK_E_VAR, HEADS, SPOREFLASK_E_VAR, SIGNED_IN,
+        0, 0,
+    };
+    static const uint32_t WORDS[] = {1, 0, 17, 32, 1, 1, 32, 2, 3, 1, 32, 3, 3, 2, 32, 4, 5, 3, 1, 1, 14, 26, 4, 26, 3,
+                                     16, 1, 22, 4, 0, 17, 16, 4, 16, 3, 0, 0};
+    static const uint32_t REFUSED[4] = {SPOREFLASK_SUBTYPING_ERROR, 0, 6, 120}, ACCEPTED[4] = {SPOREFLASK_OK, 0, 724, 155};
+    static const uint32_t BOTH_TYPES[] = {2, SPOREFLASK_T_VAR, T_SIGNED_IN, 2, SPOREFLASK_T_VAR, T_OPEN};
+    uint32_t mended[COUNT(NAMED)];
+    hold(COUNT(NAMED) == COUNT(WORDS) && memcmp(NAMED, WORDS, sizeof WORDS) == 0, "a formula in names", "its words", COUNT(NAMED));
+    hold_check("a formula in names", NAMED, COUNT(NAMED), 384, 16384, 4096, REFUSED, BOTH_TYPES, COUNT(BOTH_TYPES));
+    hold_answer("a formula in names", NAMED, sizeof NAMED, 16400, REFUSED, BOTH_TYPES, COUNT(BOTH_TYPES));
+    memcpy(mended, NAMED, sizeof mended);
+    mended[COUNT(mended) - 3] = OPEN;
+    hold_check("the mended formula in names", mended, COUNT(mended), 384, 16384, 4096, ACCEPTED, whole_report(mended, COUNT(mended)), 724);
+}
+
+/* ---- Threads: each calls with slices of its own, and gets the replies that a single caller gets */
+
+enum { THREADS = 4, ROUNDS = 50, DESK_REPLY = SPOREFLASK_MOST_REPLY_BYTES };
+
+/* What one caller has for a call of either function. */
+struct slices {
+    uint32_t work[SPOREFLASK_DESK_WORK], report[SPOREFLASK_DESK_REPORT], numbers[4];
+    uint8_t reply[DESK_REPLY];
+};
+
+struct caller {
+    pthread_t thread;
+    size_t wrong; /* replies that are not those of a single caller */
+    struct slices own;
+};
+
+static struct slices alone[COUNT(ASKED)];
+
+static void ask_both(const struct asked *q, struct slices *s) {
+    memset(s, 0xA5, sizeof *s);
+    sporeflask_check(q->words, q->count, SPOREFLASK_DESK_BUDGET, s->work, SPOREFLASK_DESK_WORK, s->report, SPOREFLASK_DESK_REPORT,
+                     s->numbers);
+    sporeflask_answer((const uint8_t *)q->words, 4 * q->count, s->reply, sizeof s->reply);
+}
+
+static void *call_many(void *given) {
+    struct caller *caller = given;
+    for (size_t i = 0; i < ROUNDS * COUNT(ASKED); i++) {
+        ask_both(&ASKED[i % COUNT(ASKED)], &caller->own);
+        caller->wrong += memcmp(&caller->own, &alone[i % COUNT(ASKED)], sizeof caller->own) != 0;
+    }
+    return NULL;
+}
+
+static void threads(void) {
+    static struct caller callers[THREADS];
+    for (size_t i = 0; i < COUNT(ASKED); i++) ask_both(&ASKED[i], &alone[i]);
+    for (size_t i = 0; i < THREADS; i++) {
+        if (pthread_create(&callers[i].thread, NULL, call_many, &callers[i]) != 0) {
+            fputs("no thread\n", stderr);
+            exit(2);
+        }
+    }
+    for (size_t i = 0; i < THREADS; i++) {
+        pthread_join(callers[i].thread, NULL);
+        hold(callers[i].wrong == 0, "threads at the same time", "the replies, wrong ones", callers[i].wrong);
+    }
+}
+
+/* ---- The stack: a thread with exactly the header's bytes lives through the deepest questions known. tests/stack measures how deep
+   they go (docs/STACK.md); here a stack that is too small is a crash. */
+
+/* A question, and the reply to it in a thread; budget 0 stands for sporeflask_answer. */
+struct deep {
+    const char *label;
+    uint32_t words[SPOREFLASK_MOST_WORDS];
+    size_t count;
+    uint32_t budget, numbers[4];
+};
+
+/* `before` n times, the expression inside, and where there is an `after`, this n times: a question of kind 1 without inputs, with n as
+   large as its words allow. */
+static void nest(struct deep *d, const char *label, uint32_t before, const uint32_t *inside, size_t count, const uint32_t *after) {
+    size_t room = SPOREFLASK_MOST_WORDS - 6 - count, n = after == NULL ? room : room / 2, at = 4;
+    d->label = label;
+    d->words[0] = SPOREFLASK_INFER;
+    for (size_t i = 0; i < n; i++) d->words[at++] = before;
+    for (size_t i = 0; i < count; i++) d->words[at++] = inside[i];
+    for (size_t i = 0; after != NULL && i < n; i++) d->words[at++] = *after;
+    d->words[3] = (uint32_t)(at - 4);
+    d->count = at + 2;
+}
+
+static void *call_deep(void *given) {
+    static uint32_t work[MOST_WORK], report[WHOLE_ROOM];
+    static uint8_t reply[DESK_REPLY];
+    struct deep *d = given;
+    if (d->budget == 0) {
+        sporeflask_answer((const uint8_t *)d->words, 4 * d->count, reply, sizeof reply);
+        memcpy(d->numbers, reply, sizeof d->numbers);
+    } else {
+        sporeflask_check(d->words, d->count, d->budget, work, MOST_WORK, report, WHOLE_ROOM, d->numbers);
+    }
+    return NULL;
+}
+
+static bool in_thread(struct deep *d, size_t bytes) {
+    pthread_attr_t attributes;
+    pthread_t thread;
+    bool joined = pthread_attr_init(&attributes) == 0 && pthread_attr_setstacksize(&attributes, bytes) == 0 &&
+                  pthread_create(&thread, &attributes, call_deep, d) == 0 && pthread_join(thread, NULL) == 0;
+    pthread_attr_destroy(&attributes);
+    return joined;
+}
+
+/* A call in a thread with these bytes of stack; `code` and `units` as document 01 has them for the question. */
+static void hold_deep(struct deep *d, uint32_t budget, size_t bytes, uint32_t code, uint32_t units) {
+    d->budget = budget;
+    memset(d->numbers, 0xA5, sizeof d->numbers);
+    hold(in_thread(d, bytes), d->label, "a thread with bytes of stack", bytes);
+    hold(d->numbers[0] == code && d->numbers[3] == units, d->label, "the reply in a thread with bytes of stack", bytes);
+}
+
+static void deep_questions(void) {
+    /* Two unknowns whose solutions lead to each other; see LOOP in tests/stack/families.py. */
+    static const uint32_t LOOP[] = {18, 5, 5, 4, 2, 4, 2, 17, 21, 16, 5, 5, 4, 1, 4, 1, 23, 1}, ONE[] = {22, 1, 0}, INT = 1;
+    static struct deep reading, tapp, ann, loop;
+    nest(&reading, "App that never ends", SPOREFLASK_E_APP, NULL, 0, NULL);
+    nest(&tapp, "TApp nested", SPOREFLASK_E_TAPP, ONE, COUNT(ONE), &INT);
+    nest(&ann, "Ann nested", SPOREFLASK_E_ANN, ONE, COUNT(ONE), &INT);
+    nest(&loop, "Ann nested, then a loop of solutions", SPOREFLASK_E_ANN, LOOP, COUNT(LOOP), &INT);
+    hold_deep(&reading, 0, SPOREFLASK_ANSWER_STACK_BYTES, SPOREFLASK_BAD_SHAPE, 0);
+    hold_deep(&tapp, 0, SPOREFLASK_ANSWER_STACK_BYTES, SPOREFLASK_BUDGET, 384);
+    hold_deep(&reading, 1, SPOREFLASK_CHECK_STACK_BYTES(1), SPOREFLASK_BAD_SHAPE, 0);
+    hold_deep(&reading, 384, SPOREFLASK_CHECK_STACK_BYTES(384), SPOREFLASK_BAD_SHAPE, 0);
+    hold_deep(&tapp, 384, SPOREFLASK_CHECK_STACK_BYTES(384), SPOREFLASK_BUDGET, 384);
+    hold_deep(&tapp, 700, SPOREFLASK_CHECK_STACK_BYTES(700), SPOREFLASK_BUDGET, 700);
+    hold_deep(&tapp, 1024, SPOREFLASK_CHECK_STACK_BYTES(1024), SPOREFLASK_TYPE_APPLICATION_ERROR, 1020);
+    hold_deep(&ann, 2048, SPOREFLASK_CHECK_STACK_BYTES(2048), SPOREFLASK_BUDGET, 2048);
+    hold_deep(&loop, 4096, SPOREFLASK_CHECK_STACK_BYTES(4096), SPOREFLASK_BUDGET, 4096);
+    hold_deep(&loop, 8192, SPOREFLASK_CHECK_STACK_BYTES(8192), SPOREFLASK_BUDGET, 8192);
+}
+
+/* docs/STACK.md's last column. */
+static void stack_sizes(void) {
+    static const struct { uint32_t budget; size_t kilobytes; } TABLE[] = {{1, 640},     {16, 640},    {64, 640},    {384, 640},
+                                                                          {1024, 1024}, {2048, 1472}, {4096, 2304}, {8192, 4032}};
+    hold(SPOREFLASK_ANSWER_STACK_BYTES >= 704 << 10, "docs/STACK.md", "sporeflask_answer's bytes", SPOREFLASK_ANSWER_STACK_BYTES);
+    for (size_t i = 0; i < COUNT(TABLE); i++) {
+        size_t bytes = SPOREFLASK_CHECK_STACK_BYTES(TABLE[i].budget);
+        hold(bytes >= TABLE[i].kilobytes << 10, "docs/STACK.md", "sporeflask_check's bytes", bytes);
+    }
+}
+
 int main(void) {
     make_noise();
     work_slice = new_slice();
@@ -282,6 +474,11 @@ int main(void) {
     longest_reports();
     question_bytes();
     question_words();
+    numbers_of_names();
+    formula_in_names();
+    threads();
+    stack_sizes();
+    deep_questions();
     printf("%lu checks, %lu failed\n", checks, failed);
     return failed == 0 ? 0 : 1;
 }

@@ -1,16 +1,32 @@
 #!/usr/bin/env python3
-"""compile.py FORMULAS: the words of each formula, one line each: name | accepted or refused | budget work room | words.
+"""The words of theatres' formulas, one line each: name | verdict | budget work room | words.
 
-Names are numbered from 1 by first appearance in each formula, variables and type names apart.
+usage: compile.py FORMULAS          the verdict is what the file claims: 'claimed accepted' or 'claimed refused'
+       compile.py --ask FORMULAS    the verdict is the checker's: 'accepted', or 'refused' and the code, by the desk program
+                                    (after `rt check desk`); exit status 1 where one is not as claimed
+
+Names are numbered from 1 by first appearance in each formula, variables and type names apart. A number is at most
+9,223,372,036,854,775,807, the greatest i64; a greater one is a mistake in the file (exit status 1, as every other).
 """
+import pathlib
 import re
 import sys
+
+sys.path.insert(0, str(pathlib.Path(__file__).resolve().parent.parent.parent))
+from desk import ask, program  # noqa: E402
+
+USAGE = "usage: compile.py [--ask] FORMULAS"
 
 DESK = "384 16384 4096"
 TOKEN = re.compile(r"\s*(/\\|->|==|!=|<=|>=|&&|\|\||[A-Za-z_]\w*|\d+|[\\.:=()\[\]<>+*/-])")
 OPERATORS = {op: number + 1 for number, op in enumerate("+ - * / && || == != < <= > >=".split())}
 LEVELS = [["||"], ["&&"], ["==", "!=", "<", "<=", ">", ">="], ["+", "-"], ["*", "/"]]
 KEYWORDS = {"let", "in", "if", "then", "else", "true", "false", "forall"}
+MOST_NUMBER = 2**63 - 1
+
+
+class Mistake(Exception):
+    """What is wrong in a line of the file."""
 
 
 class Words:
@@ -23,12 +39,12 @@ class Words:
     def open(self, text):
         found = TOKEN.findall(text)
         if "".join(found) != "".join(text.split()):
-            sys.exit(f"not a formula: {text}")
+            raise Mistake(f"not a formula: {text.strip()}")
         self.tokens = found[::-1]
 
     def done(self):
         if self.tokens:
-            sys.exit(f"words too many, from: {self.tokens[-1]}")
+            raise Mistake(f"words too many, from: {self.tokens[-1]}")
 
     def peek(self):
         return self.tokens[-1] if self.tokens else ""
@@ -36,7 +52,7 @@ class Words:
     def take(self, wanted=None):
         token = self.tokens.pop() if self.tokens else ""
         if wanted is not None and token != wanted:
-            sys.exit(f"wanted {wanted}, found {token or 'the end'}")
+            raise Mistake(f"wanted {wanted}, found {token or 'the end'}")
         return token
 
     @staticmethod
@@ -46,7 +62,7 @@ class Words:
     def name(self, names):
         token = self.take()
         if not re.match(r"[A-Za-z_]", token) or token in KEYWORDS:
-            sys.exit(f"wanted a name, found {token or 'the end'}")
+            raise Mistake(f"wanted a name, found {token or 'the end'}")
         return self.number(names, token)
 
     def type(self):
@@ -136,11 +152,17 @@ class Words:
         if token == "(":
             return self.parenthesis()
         if token.isdigit():
-            value = int(self.take())
-            return [22, value & 0xFFFFFFFF, value >> 32]
+            return self.literal()
         if token in ("true", "false"):
             return [23, int(self.take() == "true")]
         return [16, self.name(self.variables)]
+
+    def literal(self):
+        digits = self.take().lstrip("0") or "0"
+        # by its length first: int() takes no more than some thousand digits
+        if len(digits) > len(str(MOST_NUMBER)) or int(digits) > MOST_NUMBER:
+            raise Mistake(f"a number past {MOST_NUMBER}, the greatest i64: {digits}")
+        return [22, int(digits) & 0xFFFFFFFF, int(digits) >> 32]
 
     def parenthesis(self):
         self.take("(")
@@ -175,23 +197,60 @@ def question(inputs, wanted, text):
     return out
 
 
-def main():
-    house, inputs = "", []
-    for line in open(sys.argv[1], encoding="utf-8"):
-        head, _, rest = line.strip().partition(" ")
+class House:
+    """The lines of a file so far: the house that is open, and its inputs."""
+
+    def __init__(self):
+        self.name, self.inputs = "", []
+
+    def line(self, text):
+        """A formula's name, whether it is claimed to be accepted, and its words; nothing for other lines."""
+        head, _, rest = text.strip().partition(" ")
         if head == "house":
-            house, inputs = rest, []
+            self.name, self.inputs = rest, []
         elif head == "input":
             name, _, held = rest.partition(":")
-            inputs.append((name.strip(), held))
+            self.inputs.append((name.strip(), held))
         elif head in ("formula", "refused"):
             name, _, text = rest.partition(" = ")
             name, _, wanted = name.partition(":")
-            words = question(inputs, wanted, text)
-            fate = "accepted" if head == "formula" else "refused"
-            print(f"{house}.{name.strip()} | {fate} | {DESK} | {' '.join(map(str, words))}")
+            yield f"{self.name}.{name.strip()}", head == "formula", question(self.inputs, wanted, text)
         elif head and not head.startswith("#"):
-            sys.exit(f"not a line: {line}")
+            raise Mistake(f"not a line: {text.strip()}")
+
+
+def formulas(file):
+    house = House()
+    for number, line in enumerate(pathlib.Path(file).read_text(encoding="utf-8").splitlines(), 1):
+        try:
+            yield from house.line(line)
+        except Mistake as mistake:
+            sys.exit(f"{file}:{number}: {mistake}")
+
+
+def asked(accepted, words):
+    """The checker's verdict, and whether it is the one claimed: a refusal must be a type error, not a question that cannot be run."""
+    code = int(ask(words).split()[0])
+    return ("accepted" if code == 0 else f"refused {code}"), (code == 0 if accepted else 11 <= code <= 17)
+
+
+def main():
+    asks = sys.argv[1:2] == ["--ask"]
+    files = sys.argv[2:] if asks else sys.argv[1:]
+    if len(files) != 1 or files[0].startswith("-") or not pathlib.Path(files[0]).is_file():
+        print(USAGE, file=sys.stderr)
+        sys.exit(2)
+    if asks and not pathlib.Path(program("desk")[-1]).exists():
+        sys.exit("no desk program in target/bin: `rt check desk` makes it")
+    faults = 0
+    for name, accepted, words in formulas(files[0]):
+        claimed = "accepted" if accepted else "refused"
+        verdict, held = asked(accepted, words) if asks else (f"claimed {claimed}", True)
+        print(f"{name} | {verdict} | {DESK} | {' '.join(map(str, words))}")
+        if not held:
+            faults += 1
+            print(f"{name}: claimed {claimed}, but the checker's verdict is: {verdict}", file=sys.stderr)
+    sys.exit(1 if faults else 0)
 
 
 main()

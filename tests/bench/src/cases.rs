@@ -45,7 +45,7 @@ impl Class {
         Class { name, cases }
     }
 
-    /// The formulas that compile.py turned into words; each must be accepted or refused as its text says.
+    /// The formulas that compile.py turned into words; each must be accepted or refused as its text claims.
     pub fn formulas(file: &str) -> Result<Class, String> {
         let text = std::fs::read_to_string(file).map_err(|error| format!("{file}: {error}"))?;
         let cases = text.lines().map(formula).collect::<Result<Vec<Case>, String>>()?;
@@ -53,18 +53,19 @@ impl Class {
     }
 }
 
-/// A line: name | accepted or refused | budget work room | words.
+/// A line: name | claimed accepted or claimed refused | budget work room | words.
 fn formula(line: &str) -> Result<Case, String> {
     let parts: Vec<&str> = line.split('|').map(str::trim).collect();
-    let [name, fate, _, words] = parts[..] else { return Err(format!("not a formula: {line}")) };
+    let [name, claim, _, words] = parts[..] else { return Err(format!("not a formula: {line}")) };
     let words: Result<Vec<u32>, _> = words.split_whitespace().map(str::parse).collect();
     let case = Case::new(words.map_err(|_| line.to_string())?, DESK_BUDGET, DESK_ROOM);
     let mut work = vec![0; needed_work(DESK_BUDGET)];
     let mut report = vec![0; DESK_ROOM];
     let reply = plain::check(&case.words, DESK_BUDGET, &mut work, &mut report);
-    let as_told = match fate {
-        "accepted" => reply.code == 0,
-        _ => (11..=17).contains(&reply.code),
+    let as_claimed = match claim {
+        "claimed accepted" => reply.code == 0,
+        "claimed refused" => (11..=17).contains(&reply.code),
+        _ => return Err(format!("no claim: {line}")),
     };
-    as_told.then_some(case).ok_or_else(|| format!("{name} is not {fate}: {reply:?}"))
+    as_claimed.then_some(case).ok_or_else(|| format!("{name} is not as claimed ({claim}): {reply:?}"))
 }
