@@ -1,5 +1,5 @@
-"""The desk program as a function, after `rt check desk`: a question's words in, its two lines out; recorded answers to hold it to; and what
-the tests' scripts share: files as arguments, and the verdict."""
+"""The desk program as a function, after `rt check desk`: a question's words in, its two lines out, or the parts program's six; recorded
+answers to hold them to; and what the tests' scripts share: files as arguments, and the verdict."""
 import collections
 import pathlib
 import platform
@@ -24,9 +24,10 @@ def program(name):
     return (EMULATOR if platform.machine() == "aarch64" else []) + [str(PROGRAMS / name)]
 
 
-def ask(words):
+def ask(words, name="desk"):
+    """What the desk program says to a question, or the parts program."""
     packed = struct.pack(f"<{len(words)}I", *words)
-    return subprocess.run(program("desk"), input=packed, stdout=subprocess.PIPE, check=True).stdout.decode()
+    return subprocess.run(program(name), input=packed, stdout=subprocess.PIPE, check=True).stdout.decode()
 
 
 def recorded(lines):

@@ -1,5 +1,6 @@
 -- Where sections stand, and what the sections of a report are.
 use mathlib.Core.Path.{_≡_, sym, ap, _∙_}
+use mathlib.Core.Bool.{Bool, true, false}
 use mathlib.Core.List.{List}
 use mathlib.Core.Logic.{_⊎_, ⊎-elim}
 use Prim.Native.Nat.{ℕ, suc, _+_, _-_, _≤_, _<_}
@@ -8,8 +9,11 @@ use lib.ListN.{length, getD, take, drop}
 use lib.Seq.{length-take-le, getD-take, take-take, take-add, take-all, drop-at}
 use borrow.Author.Tests.{le-ltb, lt-ltb, le-leb, lt-leb}
 use Rattle.definition.specs.Syntax.{pick}
+use Rattle.laws.proofs.Steps.{pick-true, pick-false}
+use Rattle.entry.specs.declared.Reply.{Reply}
 use Rattle.sections.specs.declared.Bounds.{Bounds}
-use Rattle.sections.specs.Sections.{boundsAt, boundsOf, sectionOf, PartOf}
+use Rattle.sections.specs.declared.Section.{Section}
+use Rattle.sections.specs.Sections.{boundsAt, boundsOf, sectionOf, has, placeOf, partOf, Part, PartOf}
 
 -- ## One section
 
@@ -58,3 +62,14 @@ next-of k ws e h = let i : k + 1 ≡ suc k = omega arith in rw (i, e, h)
 pub first-of : (ws : List ℕ) {c : ℕ × ℕ} → boundsAt ws 0 ≡ c → boundsOf 0 ws ≡ c
 unfolding boundsOf
 first-of ws h = h
+
+-- ## By the reply's code
+
+module _ {ws : List ℕ} {r : Reply} {s : Section} {t : Bool} (is : t ≡ has s (r .code)) where
+  pub some-part : {k : ℕ} {b : Bounds} → t ≡ true → k ≡ placeOf s → PartOf ws (r .len) k b → Part ws r s b
+  unfolding partOf
+  some-part h e p = record { is = rw e at (p .is) ∙ sym (pick-true _ _ (sym is ∙ h)); order = p .order; within = p .within }
+
+  pub no-part : t ≡ false → Part ws r s (record { from = 0; to = 0 })
+  unfolding partOf
+  no-part h = record { is = sym (pick-false _ _ (sym is ∙ h)); order = omega arith; within = omega arith }

@@ -1,2 +1,3 @@
--- The sections of a report.
+-- The sections of a report: where they stand, and what they hold.
 pub mod Sections
+pub mod Outcomes

@@ -1,12 +1,17 @@
--- Sections one after the other, each after its count: "the part of the caller's report slice it fills, count excluded, empty where there is
--- none".
+-- The sections of a report: "the part of the caller's report slice it fills, count excluded, empty where there is none".
 use mathlib.Core.Path.{_≡_}
-use mathlib.Core.List.{List}
+use mathlib.Core.Bool.{Bool, _&&_}
+use mathlib.Core.List.{List, []}
 use Prim.Native.Nat.{ℕ, zero, suc, _+_, _-_, _≤_}
 use lib.ListN.{length, getD, take, drop}
-use lib.Dec.{ltb, leb}
+use lib.Dec.{eqb, ltb, leb}
 use Rattle.definition.specs.Syntax.{pick}
+use Rattle.entry.specs.declared.Reply.{Reply}
 use Rattle.sections.specs.declared.Bounds.{Bounds}
+use Rattle.sections.specs.declared.Section.{Section}
+use Rattle.sections.specs.declared.Section.the-variants.{Ty, Context, Tree, First, Second}
+
+-- ## Sections one after the other, each after its count
 
 -- from and to of the words of the section whose count stands at a place; both the end where there is none
 unfoldable pub boundsAt : List ℕ → ℕ → ℕ × ℕ
@@ -22,7 +27,45 @@ boundsOf (suc k) ws = boundsAt ws (boundsOf k ws .1)
 unfoldable pub sectionOf : ℕ → List ℕ → List ℕ
 sectionOf k ws = take (boundsOf k ws .1 - boundsOf k ws .0) (drop (boundsOf k ws .0) ws)
 
--- within the first n words of a slice
+-- ## A report's sections, by its reply's code
+
+-- the codes of type errors, "11 UnboundVariable" to "17 ParameterMismatch"
+abbrev pub isError : ℕ → Bool
+isError code = leb 11 code && leb code 17
+
+-- "On 0 the report has three sections", "A type error's report is two type sections"; a reply with another code has none
+abbrev pub has : Section → ℕ → Bool
+has Ty code = eqb code 0
+has Context code = eqb code 0
+has Tree code = eqb code 0
+has First code = isError code
+has Second code = isError code
+
+-- "type (count 0 for kinds 2, 4, 5, 6), context, tree"; "actual or ty in the first, or left and right"
+abbrev pub placeOf : Section → ℕ
+placeOf Ty = 0
+placeOf Context = 1
+placeOf Tree = 2
+placeOf First = 0
+placeOf Second = 1
+
+-- "empty where there is none"
+unfoldable pub partOf : Section → ℕ → List ℕ → List ℕ
+partOf s code ws = pick (has s code) (sectionOf (placeOf s) ws) []
+
+-- `unfolding sections-compute` opens every definition above
+unfoldable pub sections-compute : Unit {0}
+unfolding pick boundsAt boundsOf sectionOf partOf
+sections-compute = tt
+
+-- the bounds of a section in the report slice ws of a reply
+pub record Part (ws : List ℕ) (r : Reply) (s : Section) (b : Bounds) : Type 0 where
+  pub is : take (b .to - b .from) (drop (b .from) ws) ≡ partOf s (r .code) (take (r .len) ws)
+  pub order : b .from ≤ b .to
+  pub within : b .to ≤ length ws
+
+-- ## Inside: within the first n words of a slice
+
 pub record PartAt (ws : List ℕ) (n at : ℕ) (b : Bounds) : Type 0 where
   pub is : boundsAt (take n ws) at ≡ (b .from, b .to)
   pub order : b .from ≤ b .to

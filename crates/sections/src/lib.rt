@@ -1,8 +1,18 @@
-// A report's type, context and tree section, each as the part of the report slice that it fills, count excluded; empty where there is none.
+// A report's sections, each as the part of the report slice that it fills, count excluded; empty where there is none.
 ghost use mathlib.Core.Path.{_≡_};
 ghost use Prim.Native.Nat.{_≤_};
 ghost use lib.ListN.{length, take};
-ghost use Rattle.sections.specs.Sections.{sectionOf, PartAt, PartOf};
+ghost use Rattle.sections.specs.Sections.{isError, has, placeOf, partOf, Part, PartAt, PartOf};
+use entry::Reply;
+
+// What is asked for: on 0 a report has a type, a context and a tree; on 11 to 17 a first and a second type, those of the error.
+pub enum Section {
+    Ty,
+    Context,
+    Tree,
+    First,
+    Second,
+}
 
 // A part of a slice.
 pub struct Bounds {
@@ -28,7 +38,7 @@ fn part_at(report: &[u32], n: usize, at: usize) -> Bounds
     Bounds { from: n, to: n }
 }
 
-// The words of section k (0 type, 1 context, 2 tree) of a report of the given length.
+// The words of section k of a report of the given length.
 fn part_of(report: &[u32], len: usize, k: usize) -> Bounds
     ensures { λ b. ⌜ PartOf (now (report .entry)) len k b ⌝ }
 {
@@ -46,57 +56,59 @@ fn part_of(report: &[u32], len: usize, k: usize) -> Bounds
     b
 }
 
-pub fn type_section(report: &[u32], len: usize) -> &[u32]
-    ensures { λ r. ⌜ now r ≡ sectionOf 0 (take len (now (report .entry))) ⌝ }
+// Whether a code is a type error's.
+fn is_error(code: u32) -> bool
+    ensures { λ b. ⌜ b ≡ isError code ⌝ }
 {
-    let b = part_of(report, len, 0);
+    11 <= code && code <= 17
+}
+
+// Whether the report of a reply with this code has the section.
+fn has_section(s: Section, code: u32) -> bool
+    ensures { λ b. ⌜ b ≡ has s code ⌝ }
+{
+    let error = is_error(code);
+    match s {
+        Section::Ty => code == 0,
+        Section::Context => code == 0,
+        Section::Tree => code == 0,
+        Section::First => error,
+        Section::Second => error,
+    }
+}
+
+// How many sections stand before it.
+fn place_of(s: Section) -> usize
+    ensures { λ k. ⌜ k ≡ placeOf s ⌝ }
+{
+    match s {
+        Section::Ty => 0,
+        Section::Context => 1,
+        Section::Tree => 2,
+        Section::First => 0,
+        Section::Second => 1,
+    }
+}
+
+// Where the section of a reply's report stands: a caller whose report is lent as `&mut` takes `&mut report[from..to]`.
+pub fn bounds_of(report: &[u32], r: Reply, s: Section) -> Bounds
+    ensures { λ b. ⌜ Part (now (report .entry)) r s b ⌝ }
+{
+    let code = r.code;
+    if has_section(s, code) {
+        let len = r.len as usize;
+        let k = place_of(s);
+        return part_of(report, len, k);
+    }
+    Bounds { from: 0, to: 0 }
+}
+
+// The section of a reply's report.
+pub fn section_of(report: &[u32], r: Reply, s: Section) -> &[u32]
+    ensures { λ p. ⌜ now p ≡ partOf s (r .code) (take (r .len) (now (report .entry))) ⌝ }
+{
+    let b = bounds_of(report, r, s);
     let from = b.from;
     let to = b.to;
     &report[from..to]
-}
-
-pub fn context_section(report: &[u32], len: usize) -> &[u32]
-    ensures { λ r. ⌜ now r ≡ sectionOf 1 (take len (now (report .entry))) ⌝ }
-{
-    let b = part_of(report, len, 1);
-    let from = b.from;
-    let to = b.to;
-    &report[from..to]
-}
-
-pub fn tree_section(report: &[u32], len: usize) -> &[u32]
-    ensures { λ r. ⌜ now r ≡ sectionOf 2 (take len (now (report .entry))) ⌝ }
-{
-    let b = part_of(report, len, 2);
-    let from = b.from;
-    let to = b.to;
-    &report[from..to]
-}
-
-// The same parts of a report that is lent as `&mut`.
-pub fn type_section_mut(report: &mut [u32], len: usize) -> &mut [u32]
-    ensures { λ r. ⌜ now r ≡ sectionOf 0 (take len (now (report .entry))) ⌝ }
-{
-    let b = part_of(report, len, 0);
-    let from = b.from;
-    let to = b.to;
-    &mut report[from..to]
-}
-
-pub fn context_section_mut(report: &mut [u32], len: usize) -> &mut [u32]
-    ensures { λ r. ⌜ now r ≡ sectionOf 1 (take len (now (report .entry))) ⌝ }
-{
-    let b = part_of(report, len, 1);
-    let from = b.from;
-    let to = b.to;
-    &mut report[from..to]
-}
-
-pub fn tree_section_mut(report: &mut [u32], len: usize) -> &mut [u32]
-    ensures { λ r. ⌜ now r ≡ sectionOf 2 (take len (now (report .entry))) ⌝ }
-{
-    let b = part_of(report, len, 2);
-    let from = b.from;
-    let to = b.to;
-    &mut report[from..to]
 }

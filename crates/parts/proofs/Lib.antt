@@ -1,0 +1,2 @@
+-- Laws of what the parts program says.
+pub mod Showing

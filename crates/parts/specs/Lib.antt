@@ -1,0 +1,2 @@
+-- What the parts program says.
+pub mod Shown

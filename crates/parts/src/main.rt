@@ -1,0 +1,67 @@
+// The parts program: a question's words from standard input, and six lines, the reply's four numbers and the words of each section.
+ghost use mathlib.Core.Path.{_≡_};
+ghost use Prim.Native.Nat.{_+_, _≤_};
+ghost use lib.ListN.{length};
+ghost use Rattle.parts.specs.Shown.{Shown, Lines, PartLine};
+ghost use Rattle.sized.specs.Sized.{Lent};
+use entry::Reply;
+use libc::STDIN_FILENO;
+use libc::STDOUT_FILENO;
+use sections::Section;
+
+// The line of one section, at a place of out; the place past it.
+fn part(out: &mut [u8], at: usize, r: Reply, report: &[u32], s: Section) -> usize
+    requires { ⌜ (at + 45057 ≤ length (now out)) × (length (now report) ≡ 4096) ⌝ }
+    ensures { λ z. ⌜ PartLine r s (now (report .entry)) (now (out .entry)) (now (out .exit)) at z ⌝ }
+{
+    let words = sections::section_of(report, r, s);
+    lines::line(out, at, words)
+}
+
+// The six lines, at the start of out; how many bytes they have.
+fn say(out: &mut [u8], r: Reply, report: &[u32]) -> usize
+    requires { ⌜ (length (now out) ≡ 225330) × (length (now report) ≡ 4096) ⌝ }
+    ensures { λ z. ⌜ Lines r (now (report .entry)) (now (out .exit)) z ⌝ }
+{
+    let four = [r.code, r.at, r.len, r.units];
+    let a = lines::line(out, 0, &four);
+    let b = part(out, a, r, report, Section::Ty);
+    let c = part(out, b, r, report, Section::Context);
+    let d = part(out, c, r, report, Section::Tree);
+    let e = part(out, d, r, report, Section::First);
+    part(out, e, r, report, Section::Second)
+}
+
+// What is said to the input, at the start of out; how many bytes it has.
+fn answer(
+    input: &[u8],
+    words: &mut [u32],
+    work: &mut [u32],
+    report: &mut [u32],
+    out: &mut [u8],
+) -> usize
+    requires { ⌜ (Lent (now words) (now work) (now report)) × (length (now out) ≡ 225330) ⌝ }
+    ensures { λ z. ⌜ Shown (now (input .entry)) (now (out .exit)) z ⌝ }
+{
+    let r = sized::answer(input, words, work, report, 4096);
+    say(out, r, report)
+}
+
+// Reads, answers and prints, in what main lends: bytes for one word more than a question may have, so that a longer one is seen.
+fn parts(bytes: &mut [u8], words: &mut [u32], work: &mut [u32], report: &mut [u32], out: &mut [u8])
+    requires { ⌜ (8196 ≤ length (now bytes)) × (Lent (now words) (now work) (now report)) × (length (now out) ≡ 225330) ⌝ }
+{
+    let n = io::read_full(STDIN_FILENO, bytes);
+    let z = answer(&bytes[0..n], words, work, report, out);
+    io::write_all(STDOUT_FILENO, &out[0..z]);
+}
+
+fn main() {
+    let mut bytes = [0u8; 8196];
+    let mut words = [0u32; 2048];
+    let mut work = [0u32; 16384];
+    let mut report = [0u32; 4096];
+    // 11 bytes for each number, were each of the five sections as long as a report, and 6
+    let mut out = [0u8; 225330];
+    parts(&mut bytes, &mut words, &mut work, &mut report, &mut out);
+}

@@ -1,0 +1,42 @@
+#!/usr/bin/env python3
+"""through_parts.py ANSWERS..: the recorded answers that the desk's sizes do not change, section by section through the parts program (after
+`rt check parts`)."""
+import pathlib
+import sys
+
+sys.path.insert(0, str(pathlib.Path(__file__).resolve().parent.parent))
+from desk import SIZES, answers, ask, files, same_at_the_desk, verdict  # noqa: E402
+
+
+def no_room_at_the_desk(line):
+    """Whether a recorded NoRoom is the desk's reply too: there is no room for the needed length there either."""
+    code, _, length, units = map(int, line.numbers.split())
+    budget, _, room = map(int, SIZES.split())
+    return code == 7 and units <= budget and length > room
+
+
+def six_lines(line):
+    """What is to be printed, by the counts in the recorded report: the numbers, type, context, tree, and a type error's two types."""
+    code = int(line.numbers.split()[0])
+    places = [0, 1, 2] if code == 0 else [3, 4] if 11 <= code <= 17 else []
+    sections = [[] for _ in range(5)]
+    words = line.report.split()
+    for place in places:
+        count = int(words[0])
+        sections[place] = words[1:1 + count]
+        words = words[1 + count:]
+    assert not words, f"words past the sections of a recorded report: {line.question[:400]}"
+    return "".join(" ".join(part) + "\n" for part in [line.numbers.split()] + sections)
+
+
+def main():
+    lines = answers(files("through_parts.py ANSWERS.."))
+    asked = [line for line in lines if same_at_the_desk(line) or no_room_at_the_desk(line)]
+    differ = [line for line in asked if ask([int(word) for word in line.question.split()], "parts") != six_lines(line)]
+    for line in differ:
+        print(f"differs: {line.question[:400]}")
+    print(f"parts: {len(lines) - len(asked)} recorded answers left out (other sizes decide their reply)")
+    verdict(len(asked) - len(differ), len(differ))
+
+
+main()
