@@ -57,8 +57,8 @@ def files(usage, least=1):
 
 
 def answers(found):
-    """The recorded answers of files."""
-    return [line for file in found for line in recorded(file.read_text(encoding="utf-8").splitlines())]
+    """The recorded answers of files, each once."""
+    return list(dict.fromkeys(line for file in found for line in recorded(file.read_text(encoding="utf-8").splitlines())))
 
 
 def verdict(passed, failed):

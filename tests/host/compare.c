@@ -21,17 +21,14 @@ static struct frame frame;
 static struct slice work, report, question, reply;
 static const uint8_t zeros[MOST_SLICE];
 static unsigned long frames, differences, checked[CODES], answered[CODES];
-static bool frame_differs;
 
 static void print_words(const char *before, const uint32_t *words, size_t count) {
     fputs(before, stdout);
     for (size_t i = 0; i < count; i++) printf(" %lu", (unsigned long)words[i]);
 }
 
-/* Counts a frame that differs, in whichever function; the first is printed as a recorded line. */
+/* Counts a difference, at most one for a call; the first is printed as a recorded line. */
 static void differs(const char *function, const char *what, const uint32_t *got, size_t count) {
-    if (frame_differs) return;
-    frame_differs = true;
     if (differences++ > 0) return;
     printf("%s differs in %s, frame %lu:\n%lu %lu %lu |", function, what, frames, (unsigned long)frame.sizes.budget,
            (unsigned long)frame.sizes.work, (unsigned long)frame.sizes.room);
@@ -118,13 +115,14 @@ static void hold_answer(void) {
     }
 }
 
-/* Whether sporeflask_answer, whose budget and work are its own, must give this reply too. */
+/* Whether sporeflask_answer, whose budget and work are its own, must give this reply too. In numbers: a wrong name in the header must not
+   keep it from being asked. */
 static bool at_the_desk(void) {
-    return frame.sizes.budget == SPOREFLASK_DESK_BUDGET && frame.sizes.work == SPOREFLASK_DESK_WORK &&
-           frame.sizes.room <= SPOREFLASK_DESK_REPORT;
+    return frame.sizes.budget == 384 && frame.sizes.work == 16384 && frame.sizes.room <= 4096;
 }
 
-static void print_codes(const char *function, const unsigned long *codes) {
+/* Prints the calls of a function by code; how many there were. */
+static unsigned long print_codes(const char *function, const unsigned long *codes) {
     unsigned long all = 0;
     for (size_t code = 0; code < CODES; code++) all += codes[code];
     printf("%s: %lu calls; by code", function, all);
@@ -132,6 +130,7 @@ static void print_codes(const char *function, const unsigned long *codes) {
         if (codes[code] > 0) printf(" %zu: %lu", code, codes[code]);
     }
     putchar('\n');
+    return all;
 }
 
 int main(void) {
@@ -142,7 +141,6 @@ int main(void) {
     reply = new_slice();
     setvbuf(stdin, NULL, _IOFBF, 1 << 20);
     for (; read_frame(); frames++) {
-        frame_differs = false;
         hold_check();
         if (at_the_desk()) hold_answer();
         if ((frames + 1) % FRAMES_A_LINE == 0) {
@@ -150,10 +148,9 @@ int main(void) {
             fflush(stdout);
         }
     }
-    print_codes("sporeflask_check", checked);
-    print_codes("sporeflask_answer", answered);
+    unsigned long calls = print_codes("sporeflask_check", checked) + print_codes("sporeflask_answer", answered);
     /* nothing asked is a failure */
-    unsigned long failed = frames == 0 ? 1 : differences;
-    printf("%lu passed, %lu failed\n", frames - differences, failed);
+    unsigned long failed = calls == 0 ? 1 : differences;
+    printf("%lu passed, %lu failed\n", calls - differences, failed);
     return failed == 0 ? 0 : 1;
 }

@@ -278,6 +278,44 @@ static void hold_numbers(const char *label, const int *names, size_t count, int 
     for (size_t i = 0; i < count; i++) hold(names[i] == first + (int)i, label, "a name's number, of names", i);
 }
 
+static void numbers_of_kinds_and_codes(void) {
+    static const int KINDS[] = {SPOREFLASK_INFER,  SPOREFLASK_CHECK,  SPOREFLASK_INFER_APP,        SPOREFLASK_SUBTYPE,
+                                SPOREFLASK_INST_L, SPOREFLASK_INST_R, SPOREFLASK_RUN_BIDIRECTIONAL};
+    static const int MODES[] = {SPOREFLASK_PLAIN, SPOREFLASK_STRICT};
+    static const int REFUSALS[] = {SPOREFLASK_OK,        SPOREFLASK_BAD_BUDGET,    SPOREFLASK_SHORT_WORK,
+                                   SPOREFLASK_BAD_LENGTH, SPOREFLASK_BAD_SHAPE,     SPOREFLASK_RESERVED_NAME,
+                                   SPOREFLASK_BUDGET,    SPOREFLASK_NO_ROOM,       SPOREFLASK_SHORT_REPLY};
+    static const int ERRORS[] = {SPOREFLASK_UNBOUND_VARIABLE,       SPOREFLASK_APPLICATION_TYPE_ERROR,
+                                 SPOREFLASK_TYPE_APPLICATION_ERROR, SPOREFLASK_OCCURS_CHECK,
+                                 SPOREFLASK_SUBTYPING_ERROR,        SPOREFLASK_INSTANTIATION_ERROR,
+                                 SPOREFLASK_PARAMETER_MISMATCH};
+    static const int SIZES[][2] = {
+        {SPOREFLASK_MOST_WORDS, 2048},   {SPOREFLASK_MOST_BUDGET, 8192},        {SPOREFLASK_DESK_BUDGET, 384},
+        {SPOREFLASK_DESK_WORK, 16384},   {SPOREFLASK_DESK_REPORT, 4096},        {SPOREFLASK_REPLY_BYTES, 16},
+        {SPOREFLASK_MOST_REPLY_BYTES, 16400}, {SPOREFLASK_FIRST_FRESH_NAME, 1000000}, {SPOREFLASK_WORK_WORDS(384), 16384}};
+    hold_numbers("kinds", KINDS, COUNT(KINDS), 1);
+    hold_numbers("modes", MODES, COUNT(MODES), 0);
+    hold_numbers("refusals", REFUSALS, COUNT(REFUSALS), 0);
+    hold_numbers("type errors", ERRORS, COUNT(ERRORS), 11);
+    for (size_t i = 0; i < COUNT(SIZES); i++) hold(SIZES[i][0] == SIZES[i][1], "sizes", "the number of the table's row", i);
+}
+
+/* In the order of document 01's "Rules 1 to 37". */
+static void numbers_of_rules(void) {
+    static const int RULES[] = {
+        SPOREFLASK_INF_VAR, SPOREFLASK_INF_LIT_INT, SPOREFLASK_INF_LIT_BOOL, SPOREFLASK_INF_LAM, SPOREFLASK_INF_APP,
+        SPOREFLASK_INF_LET, SPOREFLASK_INF_IF, SPOREFLASK_INF_ARITH, SPOREFLASK_INF_BOOL, SPOREFLASK_INF_CMP,
+        SPOREFLASK_INF_EQ, SPOREFLASK_INF_ANN, SPOREFLASK_INF_T_ABS, SPOREFLASK_INF_T_APP, SPOREFLASK_INF_APP_ARR,
+        SPOREFLASK_INF_APP_ETVAR, SPOREFLASK_CHK_LIT_INT, SPOREFLASK_CHK_LIT_BOOL, SPOREFLASK_CHK_LAM,
+        SPOREFLASK_CHK_ALL, SPOREFLASK_CHK_SUB, SPOREFLASK_SUB_REFL, SPOREFLASK_SUB_REFL_TVAR,
+        SPOREFLASK_SUB_REFL_ETVAR, SPOREFLASK_SUB_ARR, SPOREFLASK_SUB_ALL_R, SPOREFLASK_SUB_ALL_L,
+        SPOREFLASK_SUB_INST_L, SPOREFLASK_SUB_INST_R, SPOREFLASK_INST_L_SOLVE, SPOREFLASK_INST_L_REACH,
+        SPOREFLASK_INST_L_ARR, SPOREFLASK_INST_L_ALL_R, SPOREFLASK_INST_R_SOLVE, SPOREFLASK_INST_R_REACH,
+        SPOREFLASK_INST_R_ARR, SPOREFLASK_INST_R_ALL_L};
+    hold(COUNT(RULES) == 37, "rules", "how many", COUNT(RULES));
+    hold_numbers("rules", RULES, COUNT(RULES), 1);
+}
+
 static void numbers_of_names(void) {
     static const int TYPES[] = {SPOREFLASK_T_INT,   SPOREFLASK_T_BOOL,  SPOREFLASK_T_VAR,
                                 SPOREFLASK_T_ETVAR, SPOREFLASK_T_ARROW, SPOREFLASK_T_FORALL};
@@ -294,7 +332,6 @@ static void numbers_of_names(void) {
     hold_numbers("expressions", EXPRESSIONS, COUNT(EXPRESSIONS), 16);
     hold_numbers("entries", ENTRIES, COUNT(ENTRIES), 32);
     hold_numbers("operators", OPERATORS, COUNT(OPERATORS), 1);
-    hold(SPOREFLASK_INST_R_ALL_L == 37, "rules", "the last one's number", 37);
     snprintf(version, sizeof version, "%d.%d.%d", SPOREFLASK_VERSION_MAJOR, SPOREFLASK_VERSION_MINOR, SPOREFLASK_VERSION_PATCH);
     hold(strcmp(version, SPOREFLASK_VERSION) == 0, "version", "the text and its three numbers, of bytes", strlen(version));
 }
@@ -475,6 +512,8 @@ int main(void) {
     question_bytes();
     question_words();
     numbers_of_names();
+    numbers_of_kinds_and_codes();
+    numbers_of_rules();
     formula_in_names();
     threads();
     stack_sizes();

@@ -12,7 +12,7 @@ import subprocess
 import sys
 
 sys.path.insert(0, str(pathlib.Path(__file__).resolve().parent.parent))
-from desk import verdict  # noqa: E402
+from desk import answers, verdict  # noqa: E402
 
 PER_MODULE = 200
 # a folder without this file was not made here, and is left alone
@@ -34,7 +34,7 @@ def listed(words):
 
 
 def theorem(number, line):
-    sizes, question, numbers, report = (part.split() for part in line.split("|"))
+    sizes, question, numbers, report = (part.split() for part in line)
     budget, work, room = sizes
     return (
         f"\nanswer{number} : flat (reply {budget} {work} {room} ({listed(question)})) ≡ {listed(numbers + report)}\n"
@@ -60,12 +60,12 @@ def write_crate(folder, lines):
 
 
 def arguments():
-    *answers, folder = map(pathlib.Path, sys.argv[1:] or [""])
-    if not answers or not all(file.is_file() for file in answers):
+    *files, folder = map(pathlib.Path, sys.argv[1:] or [""])
+    if not files or not all(file.is_file() for file in files):
         sys.exit(usage("ANSWERS.. are files"))
-    if folder.exists() and not (folder / MADE_HERE).is_file():
-        sys.exit(usage(f"{folder} is there already, and was not made by this script"))
-    return answers, folder
+    if folder.name.startswith("-") or folder.suffix or folder.exists() and not (folder / MADE_HERE).is_file():
+        sys.exit(usage(f"{folder} is no name for a folder, or is there already and was not made by this script"))
+    return files, folder
 
 
 def usage(why):
@@ -74,9 +74,9 @@ def usage(why):
 
 
 def main():
-    answers, folder = arguments()
+    files, folder = arguments()
     root = pathlib.Path(__file__).resolve().parents[2]
-    lines = [line for file in answers for line in file.read_text().splitlines() if line and not line.startswith("#")]
+    lines = answers(files)
     shutil.rmtree(folder, ignore_errors=True)
     (folder / "crates").mkdir(parents=True)
     (folder / MADE_HERE).touch()

@@ -25,7 +25,8 @@ def six_lines(line):
         count = int(words[0])
         sections[place] = words[1:1 + count]
         words = words[1 + count:]
-    assert not words, f"words past the sections of a recorded report: {line.question[:400]}"
+    if words:
+        sys.exit(f"words past the sections of a recorded report: {line.question[:400]}")
     return "".join(" ".join(part) + "\n" for part in [line.numbers.split()] + sections)
 
 

@@ -1,4 +1,5 @@
 // Commands over lines: generated questions, answers to them, and a replay.
+use std::collections::HashSet;
 use std::io::{stdin, stdout, BufRead, BufWriter, Write};
 
 use crate::asked::{parse_asked, parse_recorded};
@@ -41,7 +42,7 @@ pub fn answer() -> Result<(), String> {
 
 /// Holds each recorded line of the files to the live answer, and that to the original where it can be asked.
 pub fn replay(files: &[String]) -> Result<(), String> {
-    let mut count = 0;
+    let mut seen = HashSet::new();
     let mut tally = Tally::default();
     for file in files {
         let text = std::fs::read_to_string(file).map_err(|error| format!("{file}: {error}"))?;
@@ -53,13 +54,13 @@ pub fn replay(files: &[String]) -> Result<(), String> {
                 return Err(format!("{asked}\n  recorded {recorded}\n  live     {live}"));
             }
             full_reply(&asked.words, &mut tally)?;
-            count += 1;
+            seen.insert(line.to_string());
         }
     }
-    if count == 0 {
+    if seen.is_empty() {
         return Err("no recorded answer".to_string());
     }
     println!("{} of the recorded questions held to the original", tally.held);
-    println!("{count} passed, 0 failed");
+    println!("{} passed, 0 failed", seen.len());
     Ok(())
 }
