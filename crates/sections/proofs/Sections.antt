@@ -13,7 +13,7 @@ use Rattle.laws.proofs.Steps.{pick-true, pick-false}
 use Rattle.entry.specs.declared.Reply.{Reply}
 use Rattle.sections.specs.declared.Bounds.{Bounds}
 use Rattle.sections.specs.declared.Section.{Section}
-use Rattle.sections.specs.Sections.{boundsAt, boundsOf, sectionOf, has, placeOf, partOf, Part, PartOf}
+use Rattle.sections.specs.Sections.{boundsAt, boundsOf, sectionOf, has, placeOf, boundsIn, partOf, Part, PartOf}
 
 -- ## One section
 
@@ -50,6 +50,7 @@ pub part-of : (ws : List ℕ) (len k n : ℕ) (b : Bounds) → (n ≤ length ws)
     → b .from ≤ b .to → b .to ≤ n → PartOf ws len k b
 unfolding sectionOf
 part-of ws len k n b c e o w = record {
+  place = rw (← c .1) e;
   is = sym (rw (← c .1, e) (part-of-take ws (b .from) (b .to) n o w (c .0)));
   order = o;
   within = omega (arith, c .0);
@@ -67,9 +68,14 @@ first-of ws h = h
 
 module _ {ws : List ℕ} {r : Reply} {s : Section} {t : Bool} (is : t ≡ has s (r .code)) where
   pub some-part : {k : ℕ} {b : Bounds} → t ≡ true → k ≡ placeOf s → PartOf ws (r .len) k b → Part ws r s b
-  unfolding partOf
-  some-part h e p = record { is = rw e at (p .is) ∙ sym (pick-true _ _ (sym is ∙ h)); order = p .order; within = p .within }
+  unfolding boundsIn partOf
+  some-part h e p = record {
+    place = pick-true _ _ (sym is ∙ h) ∙ rw e at (p .place);
+    is = rw e at (p .is) ∙ sym (pick-true _ _ (sym is ∙ h));
+    order = p .order;
+    within = p .within;
+  }
 
   pub no-part : t ≡ false → Part ws r s (record { from = 0; to = 0 })
-  unfolding partOf
-  no-part h = record { is = sym (pick-false _ _ (sym is ∙ h)); order = omega arith; within = omega arith }
+  unfolding boundsIn partOf
+  no-part h = record { place = pick-false _ _ (sym is ∙ h); is = sym (pick-false _ _ (sym is ∙ h)); order = omega arith; within = omega arith }

@@ -49,17 +49,22 @@ placeOf Tree = 2
 placeOf First = 0
 placeOf Second = 1
 
+-- from and to of the words of a section; both 0 where the reply has none
+unfoldable pub boundsIn : Section → ℕ → List ℕ → ℕ × ℕ
+boundsIn s code ws = pick (has s code) (boundsOf (placeOf s) ws) (0, 0)
+
 -- "empty where there is none"
 unfoldable pub partOf : Section → ℕ → List ℕ → List ℕ
 partOf s code ws = pick (has s code) (sectionOf (placeOf s) ws) []
 
 -- `unfolding sections-compute` opens every definition above
 unfoldable pub sections-compute : Unit {0}
-unfolding pick boundsAt boundsOf sectionOf partOf
+unfolding pick boundsAt boundsOf sectionOf boundsIn partOf
 sections-compute = tt
 
--- the bounds of a section in the report slice ws of a reply
+-- where a section stands in the report slice ws of a reply, and what stands there
 pub record Part (ws : List ℕ) (r : Reply) (s : Section) (b : Bounds) : Type 0 where
+  pub place : boundsIn s (r .code) (take (r .len) ws) ≡ (b .from, b .to)
   pub is : take (b .to - b .from) (drop (b .from) ws) ≡ partOf s (r .code) (take (r .len) ws)
   pub order : b .from ≤ b .to
   pub within : b .to ≤ length ws
@@ -72,6 +77,7 @@ pub record PartAt (ws : List ℕ) (n at : ℕ) (b : Bounds) : Type 0 where
   pub within : b .to ≤ n
 
 pub record PartOf (ws : List ℕ) (len k : ℕ) (b : Bounds) : Type 0 where
+  pub place : boundsOf k (take len ws) ≡ (b .from, b .to)
   pub is : take (b .to - b .from) (drop (b .from) ws) ≡ sectionOf k (take len ws)
   pub order : b .from ≤ b .to
   pub within : b .to ≤ length ws
