@@ -8,7 +8,7 @@
    may be shared, since it is only read). A reply depends on the question, the sizes and the budget alone.
 
    Slices of one call must not overlap. Those of uint32_t are aligned as uint32_t is, to 4 bytes; bytes lie anywhere. A
-   length of 0 allows any non-null pointer. */
+   length of 0 allows any non-null, aligned pointer; NULL is not allowed even then. */
 #ifndef SPOREFLASK_H
 #define SPOREFLASK_H
 
@@ -45,7 +45,7 @@ enum {
    question. From the bound of docs/STACK.md, with at least 128 KB for the caller and a signal handler, in steps of
    64 KB; the slices that sporeflask_check is lent are not in it. Let the stack have a guard page, as threads have
    unless told otherwise: then too small a stack ends in SIGSEGV and overwrites nothing. The figures belong to the
-   archive that docs/STACK.md names. */
+   archive that docs/STACK.md names. SPOREFLASK_CHECK_STACK_BYTES evaluates its argument more than once. */
 #define SPOREFLASK_ANSWER_STACK_BYTES ((size_t)720896)
 #define SPOREFLASK_CHECK_STACK_BYTES(budget)                         \
     ((((size_t)(budget) <= 529    ? (size_t)592576                   \
@@ -56,7 +56,7 @@ enum {
 /* ---- The question
 
    kind, mode, then four sections, each after its count of words: context, expression, left type, right type. Places
-   count from 0. At most SPOREFLASK_MOST_WORDS words.
+   count words, from 0, in bytes too. At most SPOREFLASK_MOST_WORDS words.
 
        kind             context  expression  left        right
        INFER            any      one         -           -
@@ -69,7 +69,9 @@ enum {
 
    "-" is count 0. A context is any number of entries, oldest first. Each item is its code and what stands behind it in
    the tables below, parts in order: T a type, e an expression, x a variable's name, a a type's name. Names are below
-   SPOREFLASK_FIRST_FRESH_NAME; a variable's and a type's name of one number are two names.
+   SPOREFLASK_FIRST_FRESH_NAME; a variable's and a type's name of one number are two names. Of entries with one name
+   the earliest counts, so give every input, let, lambda and Forall a name of its own (docs/DIFFERENCES.md, part S: what
+   the checker does not catch).
 
    The formula `1` without inputs, case (a), is 7 0 0 3 22 1 0 0 0:
 
@@ -141,14 +143,15 @@ enum sporeflask_entry {
 /* ---- The reply
 
    Four numbers: code, at, length, units; and a report. length is the report's words; on NO_ROOM it is what the report
-   needs, and nothing is written. units is the work that was counted. The report has types and entries as above, where
-   SPOREFLASK_FIRST_FRESH_NAME + k is the k-th name that the run made, from 0.
+   needs (4,294,967,295 where it needs more), and no report is written. units is the work that was counted. The report
+   has types and entries as above, where SPOREFLASK_FIRST_FRESH_NAME + k is the k-th name that the run made, from 0.
 
    On OK: three sections, each after its count: type (count 0 for CHECK, SUBTYPE, INST_L and INST_R), context, tree. The
    tree is its nodes, parent first, then each child's nodes. A node:
 
-       rule, number of children, place of its expression in the question (0 if none),
-       then five sections, each after its count: input context, left type, right type, output context, result type
+       rule, number of children, place of its expression in the question (INF_APP_ARR, INF_APP_ETVAR: of the argument;
+       0 if none), then five sections, each after its count: input context, left type, right type, output context,
+       result type
 
    On UNBOUND_VARIABLE to PARAMETER_MISMATCH: two type sections, each after its count, empty where there is no type. The
    code's line says which types they hold. Otherwise no report. */
@@ -162,7 +165,7 @@ enum sporeflask_code {
     SPOREFLASK_BAD_SHAPE = 4,               /* at: the place in the question */
     SPOREFLASK_RESERVED_NAME = 5,           /* at: the place in the question */
     SPOREFLASK_BUDGET = 6,                  /* the counted work would pass the budget */
-    SPOREFLASK_NO_ROOM = 7,                 /* length: what the report needs; no word of it was written */
+    SPOREFLASK_NO_ROOM = 7,                 /* length: what the report needs, as above; no word of it was written */
     SPOREFLASK_SHORT_REPLY = 8,             /* sporeflask_answer alone; nothing was written */
     SPOREFLASK_UNBOUND_VARIABLE = 11,       /* at: the name; no type */
     SPOREFLASK_APPLICATION_TYPE_ERROR = 12, /* what was applied is no function: its type; none */
@@ -173,45 +176,45 @@ enum sporeflask_code {
     SPOREFLASK_PARAMETER_MISMATCH = 17      /* strict mode: the parameter's type as written; the one wanted */
 };
 
-/* The first word of a node of the tree. */
+/* The first word of a node of the tree; behind each rule the number of its children. */
 enum sporeflask_rule {
-    SPOREFLASK_INF_VAR = 1,
-    SPOREFLASK_INF_LIT_INT,
-    SPOREFLASK_INF_LIT_BOOL,
-    SPOREFLASK_INF_LAM,
-    SPOREFLASK_INF_APP,
-    SPOREFLASK_INF_LET,
-    SPOREFLASK_INF_IF,
-    SPOREFLASK_INF_ARITH,
-    SPOREFLASK_INF_BOOL,
-    SPOREFLASK_INF_CMP,
-    SPOREFLASK_INF_EQ,
-    SPOREFLASK_INF_ANN,
-    SPOREFLASK_INF_T_ABS,
-    SPOREFLASK_INF_T_APP,
-    SPOREFLASK_INF_APP_ARR,
-    SPOREFLASK_INF_APP_ETVAR,
-    SPOREFLASK_CHK_LIT_INT,
-    SPOREFLASK_CHK_LIT_BOOL,
-    SPOREFLASK_CHK_LAM,
-    SPOREFLASK_CHK_ALL,
-    SPOREFLASK_CHK_SUB,
-    SPOREFLASK_SUB_REFL,
-    SPOREFLASK_SUB_REFL_TVAR,
-    SPOREFLASK_SUB_REFL_ETVAR,
-    SPOREFLASK_SUB_ARR,
-    SPOREFLASK_SUB_ALL_R,
-    SPOREFLASK_SUB_ALL_L,
-    SPOREFLASK_SUB_INST_L,
-    SPOREFLASK_SUB_INST_R,
-    SPOREFLASK_INST_L_SOLVE,
-    SPOREFLASK_INST_L_REACH,
-    SPOREFLASK_INST_L_ARR,
-    SPOREFLASK_INST_L_ALL_R,
-    SPOREFLASK_INST_R_SOLVE,
-    SPOREFLASK_INST_R_REACH,
-    SPOREFLASK_INST_R_ARR,
-    SPOREFLASK_INST_R_ALL_L /* 37 */
+    SPOREFLASK_INF_VAR = 1,         /* 0 */
+    SPOREFLASK_INF_LIT_INT = 2,     /* 0 */
+    SPOREFLASK_INF_LIT_BOOL = 3,    /* 0 */
+    SPOREFLASK_INF_LAM = 4,         /* 1 */
+    SPOREFLASK_INF_APP = 5,         /* 2 */
+    SPOREFLASK_INF_LET = 6,         /* 2 */
+    SPOREFLASK_INF_IF = 7,          /* 4 */
+    SPOREFLASK_INF_ARITH = 8,       /* 2 */
+    SPOREFLASK_INF_BOOL = 9,        /* 2 */
+    SPOREFLASK_INF_CMP = 10,        /* 2 */
+    SPOREFLASK_INF_EQ = 11,         /* 2 */
+    SPOREFLASK_INF_ANN = 12,        /* 1 */
+    SPOREFLASK_INF_T_ABS = 13,      /* 1 */
+    SPOREFLASK_INF_T_APP = 14,      /* 1 */
+    SPOREFLASK_INF_APP_ARR = 15,    /* 1 */
+    SPOREFLASK_INF_APP_ETVAR = 16,  /* 1 */
+    SPOREFLASK_CHK_LIT_INT = 17,    /* 0 */
+    SPOREFLASK_CHK_LIT_BOOL = 18,   /* 0 */
+    SPOREFLASK_CHK_LAM = 19,        /* 1 */
+    SPOREFLASK_CHK_ALL = 20,        /* 1 */
+    SPOREFLASK_CHK_SUB = 21,        /* 2 */
+    SPOREFLASK_SUB_REFL = 22,       /* 0 */
+    SPOREFLASK_SUB_REFL_TVAR = 23,  /* 0 */
+    SPOREFLASK_SUB_REFL_ETVAR = 24, /* 0 */
+    SPOREFLASK_SUB_ARR = 25,        /* 2 */
+    SPOREFLASK_SUB_ALL_R = 26,      /* 1 */
+    SPOREFLASK_SUB_ALL_L = 27,      /* 1 */
+    SPOREFLASK_SUB_INST_L = 28,     /* 1 */
+    SPOREFLASK_SUB_INST_R = 29,     /* 1 */
+    SPOREFLASK_INST_L_SOLVE = 30,   /* 0 */
+    SPOREFLASK_INST_L_REACH = 31,   /* 0 */
+    SPOREFLASK_INST_L_ARR = 32,     /* 2 */
+    SPOREFLASK_INST_L_ALL_R = 33,   /* 1 */
+    SPOREFLASK_INST_R_SOLVE = 34,   /* 0 */
+    SPOREFLASK_INST_R_REACH = 35,   /* 0 */
+    SPOREFLASK_INST_R_ARR = 36,     /* 2 */
+    SPOREFLASK_INST_R_ALL_L = 37    /* 1 */
 };
 
 /* ---- The functions */
@@ -221,14 +224,16 @@ enum sporeflask_rule {
    code. With reply_bytes below 16 it returns SPOREFLASK_SHORT_REPLY before all else and writes nothing. */
 uint32_t sporeflask_answer(const uint8_t *question, size_t question_bytes, uint8_t *reply, size_t reply_bytes);
 
-/* The same checker with every size free. numbers takes code, at, length and units. Returns the code. Work needs
-   SPOREFLASK_WORK_WORDS(budget) words, may hold anything, and ends as 0 there; on 1 to 5 it is not touched. The report
-   has `length` words on 0 and 11 to 17, and is not touched on 1 to 7.
+/* The same checker with every size free. numbers takes code, at, length and units: it is written on every code, and
+   must not overlap the others. Returns the code. Work needs SPOREFLASK_WORK_WORDS(budget) words, may hold anything, and
+   ends as 0 there; on 1 to 5 it is not touched. The report has `length` words on 0 and 11 to 17, and is not touched on
+   1 to 7.
 
    Work may be uninitialised: what it holds changes nothing. But its words are read when it is cleared, and blocks that
    are all 0 already are not written. So a memory checker reports the reads of a slice from malloc (valgrind:
    "Conditional jump or move depends on uninitialised value(s)", in entry::check), and takes words of it for
-   uninitialised even after the call. A slice from calloc, or cleared once, draws no report. */
+   uninitialised even after the call. A slice from calloc, or cleared once, draws no report. MemorySanitizer does not
+   see into the archive: unpoison what a call of either function writes. */
 uint32_t sporeflask_check(const uint32_t *question, size_t question_words, uint32_t budget, uint32_t *work,
                           size_t work_words, uint32_t *report, size_t report_words, uint32_t numbers[4]);
 

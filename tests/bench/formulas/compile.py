@@ -1,12 +1,15 @@
 #!/usr/bin/env python3
 """The words of theatres' formulas, one line each: name | verdict | budget work room | words.
 
-usage: compile.py FORMULAS          the verdict is what the file claims: 'claimed accepted' or 'claimed refused'
-       compile.py --ask FORMULAS    the verdict is the checker's: 'accepted', or 'refused' and the code, by the desk program
-                                    (after `rt check desk`); exit status 1 where one is not as claimed
+usage: compile.py [--strict] FORMULAS          the verdict is what the file claims: 'claimed accepted' or 'claimed refused'
+       compile.py --ask [--strict] FORMULAS    the verdict is the checker's: 'accepted', or 'refused' and the code, by the desk
+                                               program (after `rt check desk`); exit status 1 where one is not as claimed
+                                               ('claimed refused' is: refused with a type error, 11 to 17)
+With --strict the questions are in strict mode.
 
 Names are numbered from 1 by first appearance in each formula, variables and type names apart. A number is at most
-9,223,372,036,854,775,807, the greatest i64; a greater one is a mistake in the file (exit status 1, as every other).
+9,223,372,036,854,775,807, the greatest i64; a greater one is a mistake in the file (exit status 1, as every other), and so are
+two inputs of one name in a house.
 """
 import pathlib
 import re
@@ -15,7 +18,7 @@ import sys
 sys.path.insert(0, str(pathlib.Path(__file__).resolve().parent.parent.parent))
 from desk import ask, program  # noqa: E402
 
-USAGE = "usage: compile.py [--ask] FORMULAS"
+USAGE = "usage: compile.py [--ask] [--strict] FORMULAS"
 
 DESK = "384 16384 4096"
 TOKEN = re.compile(r"\s*(/\\|->|==|!=|<=|>=|&&|\|\||[A-Za-z_]\w*|\d+|[\\.:=()\[\]<>+*/-])")
@@ -210,6 +213,8 @@ class House:
             self.name, self.inputs = rest, []
         elif head == "input":
             name, _, held = rest.partition(":")
+            if name.strip() in dict(self.inputs):
+                raise Mistake(f"two inputs of one name: {name.strip()}")
             self.inputs.append((name.strip(), held))
         elif head in ("formula", "refused"):
             name, _, text = rest.partition(" = ")
@@ -235,9 +240,9 @@ def asked(accepted, words):
 
 
 def main():
-    asks = sys.argv[1:2] == ["--ask"]
-    files = sys.argv[2:] if asks else sys.argv[1:]
-    if len(files) != 1 or files[0].startswith("-") or not pathlib.Path(files[0]).is_file():
+    options, files = ([word for word in sys.argv[1:] if word.startswith("-") == dashed] for dashed in (True, False))
+    asks, strict = "--ask" in options, "--strict" in options
+    if set(options) - {"--ask", "--strict"} or len(files) != 1 or not pathlib.Path(files[0]).is_file():
         print(USAGE, file=sys.stderr)
         sys.exit(2)
     if asks and not pathlib.Path(program("desk")[-1]).exists():
@@ -245,11 +250,13 @@ def main():
     faults = 0
     for name, accepted, words in formulas(files[0]):
         claimed = "accepted" if accepted else "refused"
+        words[1] = int(strict)
         verdict, held = asked(accepted, words) if asks else (f"claimed {claimed}", True)
         print(f"{name} | {verdict} | {DESK} | {' '.join(map(str, words))}")
         if not held:
             faults += 1
-            print(f"{name}: claimed {claimed}, but the checker's verdict is: {verdict}", file=sys.stderr)
+            how = "" if accepted else " by a type error (11 to 17)"
+            print(f"{name}: claimed {claimed}{how}, but the checker's verdict is: {verdict}", file=sys.stderr)
     sys.exit(1 if faults else 0)
 
 
