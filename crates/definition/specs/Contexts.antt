@@ -1,4 +1,4 @@
--- Context, after 000: what a rule may do with one. Later orders change contexts by these operations alone.
+-- Context, after 000: what a rule may do with one. "Vec contexts: runs of entries", oldest first.
 use Prim.Native.Nat.{ℕ}
 use mathlib.Core.Bool.{Bool, false, _&&_, _||_}
 use mathlib.Core.List.{[], _∷_, _++_}
@@ -71,7 +71,8 @@ unfoldable pub _▹_ : Ctx → Entry → Ctx
 unfoldable pub replace : TyVar → Ctx → Ctx → Ctx
 replace a Θ Γ = leftOf (kETVar a) Γ ++ (Θ ++ rightOf (kETVar a) Γ)
 
--- ---- "InfLam, InfLet and InfTAbs keep solved entries of left, then right. [Six others] keep right alone" (rightOf).
+-- ---- "InfLam, InfLet and InfTAbs keep solved entries of left, then right. ChkLam, ChkAll, SubAllR, SubAllL, InstLAllR and InstRAllL keep right
+-- alone" (rightOf).
 
 unfoldable pub isSolved : Entry → Bool
 isSolved e = eqb (kindOf (keyOf e)) 35

@@ -1,5 +1,5 @@
--- The telephone host: "calls the library on byte slices: the question, and a reply whose first 16 bytes take the four numbers, then the
--- report, little-endian, with the desk program's sizes."
+-- "The telephone host is written in C and calls the library on byte slices: the question, and a reply whose first 16 bytes take the four
+-- numbers, then the report, little-endian, with the desk program's sizes."
 use Prim.Native.Nat.{ℕ, zero, suc, _+_, _-_, _*_, _/_, _%_, min}
 use mathlib.Core.List.{List, [], _∷_, _++_}
 use lib.ListN.{length, getD, drop}
@@ -22,18 +22,21 @@ unfoldable pub bytesOf : List ℕ → List ℕ
 bytesOf [] = []
 bytesOf (w ∷ ws) = w % 256 ∷ w / 256 % 256 ∷ w / 65536 % 256 ∷ w / 16777216 % 256 ∷ bytesOf ws
 
--- ---- "budget 384, 16,384 work and 4,096 report words"; "Report room is the whole words after those 16 bytes, at most 4,096."
+-- ---- "The desk program .. uses budget 384, 16,384 work and 4,096 report words"; "Report room is the whole words after those 16 bytes, at most
+-- 4,096."
 
 unfoldable pub deskReply : ℕ → List ℕ → Reply
 deskReply room question = reply 384 16384 (min room 4096) question
 
--- "A question that isn't whole words is BadLength"
+-- "A question that isn't whole words is BadLength"; of the desk program's: "Input that isn't whole words is BadLength."
 unfoldable pub byteReply : ℕ → List ℕ → Reply
 byteReply room question =
     let r : Reply = deskReply room (wordsOf question (length question / 4)) in
     pick (eqb (length question % 4) 0) r (refusal 3 0 0)
 
--- "a reply under 16 bytes returns 8 before all else and writes nothing; otherwise the call returns the code, and bytes past the report stay"
+-- | 8 ShortReply | telephone host only, below | none |
+-- "a reply under 16 bytes returns 8 before all else and writes nothing; otherwise the call returns the
+-- code, and bytes past the report stay"
 pub record HostCall : Type 0 where
   pub returns : ℕ
   pub replySlice : List ℕ

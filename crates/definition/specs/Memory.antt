@@ -1,4 +1,4 @@
--- What the report slice and the work slice hold after a call.
+-- Memory: what the report slice and the work slice hold after a call.
 use Prim.Native.Nat.{ℕ}
 use mathlib.Core.Bool.{_&&_}
 use mathlib.Core.List.{List, _++_}
@@ -7,7 +7,7 @@ use lib.Dec.{leb}
 use Rattle.definition.specs.Syntax.{pick}
 use Rattle.definition.specs.Reply.{Reply, workWords, reply, reply-computes}
 
--- "words of the report slice past the written length, and all of it on 1 to 7, are unchanged" (a reply's report is empty on 1 to 7)
+-- "Memory: words of the report slice past the written length, and all of it on 1 to 7, are unchanged" (a reply's report is empty on 1 to 7)
 unfoldable pub reportAfter : Reply → List ℕ → List ℕ
 reportAfter r slice = r .report ++ drop (length (r .report)) slice
 

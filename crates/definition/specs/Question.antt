@@ -1,5 +1,5 @@
--- The question: "u32 words: kind, mode, then four sections in this order, each after its word count: context, expression, left type, right
--- type." One reading from left to right; its first fault decides.
+-- "A question is u32 words: kind, mode, then four sections in this order, each after its word count: context, expression, left type, right
+-- type." It is read by "one reading from left to right, and its first fault decides between 4 and 5." (Readings, by number: docs/DECISIONS.md.)
 use Prim.Native.Nat.{ℕ, zero, suc}
 use mathlib.Core.Bool.{Bool, true, false, _&&_}
 use mathlib.Core.List.{List, [], _∷_}
@@ -27,7 +27,8 @@ _>>=_ m k = λ p ws. next (m p ws) k
 unfoldable pub give : {A : Type 0} → A → Reader A
 give a p ws = got a p ws
 
--- "4 BadShape: layout broken", "5 ReservedName: a written name of 1,000,000 or more", at a place
+-- | 4 BadShape | layout broken | place |
+-- | 5 ReservedName | a written name of 1,000,000 or more | place |
 unfoldable pub badShape : {A : Type 0} → ℕ → Reader A
 badShape p q ws = fault 4 p
 
@@ -55,10 +56,10 @@ variable = do n ← name; give (record { number = n })
 unfoldable pub typeName : Reader TyVar
 typeName = do n ← name; give (record { number = n })
 
--- a word that is a code of a table, and the reader in its row
+-- a word that is a code of a table, and the reader in its row; any other is the wrong word, 1,000,000 and more among them (reading 13)
 unfoldable pub row : {A : Type 0} → ℕ → List (ℕ × Reader A) → Reader A → Reader A
 row w [] otherwise = otherwise
-row w (r ∷ rows) otherwise = pick (eqb w (r .0)) (r .1) (row w rows otherwise)
+row w ((code, item) ∷ rows) otherwise = pick (eqb w code) item (row w rows otherwise)
 
 unfoldable pub oneOf : {A : Type 0} → List (ℕ × Reader A) → Reader A
 oneOf rows = word (λ p w. row w rows (badShape p))
@@ -126,7 +127,8 @@ readCtx (suc d) p ws = unlessEnd [] (do e ← entry; Γ ← (λ q vs. readCtx d 
 unfoldable pub context : Reader Ctx
 context p ws = readCtx (length ws) p ws
 
--- ---- Sections: "the first word too many; the count itself where it overruns the question or should be 0"
+-- ---- Sections: "the first word too many; the count itself where it overruns the question or should be 0". "A context may be empty even where
+-- it is listed; other listed sections hold exactly one item": a count of 0 is a section that stops too early (reading 1).
 
 unfoldable pub end : Reader Unit
 end p [] = got tt p []
@@ -136,17 +138,18 @@ end p (w ∷ ws) = fault 4 p
 unfoldable pub whole : {A : Type 0} → ℕ → Reader A → Reader A
 whole n m p ws = next ((do a ← m; u ← end; give a) p (take n ws)) (λ a q vs. got a q (drop n ws))
 
+-- the count overruns where it passes the words that are left, those of later counts among them (readings 3 and 4)
 unfoldable pub counted : {A : Type 0} → Reader A → Reader A
 counted m = word (λ p n q ws. pick (leb n (length ws)) (whole n m) (badShape p) q ws)
 
 unfoldable pub empty : Reader ℕ
 empty = within 0 0
 
--- the one ETVar of kinds 5 and 6
+-- "left is one ETVar", "right is one ETVar": another code is the wrong word, and nothing behind it is read (reading 2)
 unfoldable pub unknown : Reader TyVar
 unknown = oneOf ((4, typeName) ∷ [])
 
--- ---- "Mode is 0 plain or 1 strict": what varies with the mode
+-- ---- "Mode is 0 plain or 1 strict." "Strict mode differs in two places."
 
 pub record Mode : Type 0 where
   -- ChkLam compares the written parameter with the expected one
@@ -163,7 +166,15 @@ strict = record { comparesParameter = true; appliesBranches = true }
 unfoldable pub mode : Reader Mode
 mode = oneOf ((0, give plain) ∷ (1, give strict) ∷ [])
 
--- ---- The kinds: 1 infer, 2 check, 3 infer_app, 4 subtype, 5 inst_l, 6 inst_r, 7 run_bidirectional. "Any other section has count 0."
+-- ---- "Any other section has count 0."
+-- | kind | judgement | sections filled |
+-- | 1 | infer | context, expression |
+-- | 2 | check | context, expression, right |
+-- | 3 | infer_app | context, expression, left (the function's type) |
+-- | 4 | subtype | context, left, right |
+-- | 5 | inst_l | the same; left is one ETVar |
+-- | 6 | inst_r | the same; right is one ETVar |
+-- | 7 | run_bidirectional | expression |
 
 pub record Question : Type 0 where
   pub kind : ℕ

@@ -17,13 +17,13 @@ pub record Reply : Type 0 where
   pub units : ℕ
   pub report : List ℕ
 
--- ---- "Length is 0 on 1 to 6." "Units is 0 on 1 to 5, the budget on 6, else the total charged."
+-- ---- "Length is 0 on 1 to 6." "Units is 0 on 1 to 5, the budget on 6, else the total charged." A refusal's code, at and units:
 
 unfoldable pub refusal : ℕ → ℕ → ℕ → Reply
 refusal c p u = record { code = c; at = p; len = 0; units = u; report = [] }
 
--- ---- "7 NoRoom: the report is longer than the report slice, or than 4,294,967,295 words"; length "on 7 the needed length, or
--- 4,294,967,295 if that is less"
+-- ---- | 7 NoRoom | the report is longer than the report slice, or than 4,294,967,295 words | 0 |
+-- Length: "on 7 the needed length, or 4,294,967,295 if that is less." "7 may take the place of 0 or of 11 to 17"; the units stay (reading 17).
 
 abbrev pub most : ℕ
 most = 4_294_967_295
@@ -34,7 +34,13 @@ reported room c p u ws =
     (record { code = c; at = p; len = length ws; units = u; report = ws })
     (record { code = 7; at = 0; len = min (length ws) most; units = u; report = [] })
 
--- ---- Type errors: code, at, and "two type sections: actual or ty in the first, or left and right; an unused one has count 0"
+-- ---- Type errors
+-- | code | given when | at |
+-- | 11 UnboundVariable | as 000 | name |
+-- | 12 ApplicationTypeError, 13 TypeApplicationError | as 000 | 0 |
+-- | 14 OccursCheck, 16 InstantiationError | as 000 | name |
+-- | 15 SubtypingError | as 000 | 0 |
+-- | 17 ParameterMismatch | strict mode only | 0 |
 
 unfoldable pub errorCode : TypeError → ℕ
 errorCode (unboundVariable x) = 11
@@ -54,6 +60,7 @@ errorAt (subtypingError A B) = 0
 errorAt (instantiationError a A) = a .number
 errorAt (parameterMismatch A B) = 0
 
+-- "A type error's report is two type sections: actual or ty in the first, or left and right; an unused one has count 0", both of 11 (reading 5)
 unfoldable pub errorWords : TypeError → List ℕ
 errorWords (unboundVariable x) = noSection ++ noSection
 errorWords (applicationTypeError A) = tySection A ++ noSection
@@ -69,9 +76,9 @@ unfoldable pub givesType : ℕ → Bool
 givesType k = eqb k 1 || eqb k 3 || eqb k 7
 
 unfoldable pub resultWords : ℕ → Result → List ℕ
-resultWords k r = pick (givesType k) (tySection (r .0)) noSection ++ (ctxSection (r .1) ++ section (treeWords (r .2)))
+resultWords k (A, Δ, t) = pick (givesType k) (tySection A) noSection ++ (ctxSection Δ ++ section (treeWords t))
 
--- ---- "Kind 7's type is resolved by the final context."
+-- ---- "Kind 7's type is resolved by the final context": the type section's; the tree keeps what was inferred (reading 10).
 
 unfoldable pub answer : Question → M Result
 answer q =
@@ -79,6 +86,7 @@ answer q =
     (do (A, Δ, t) ← judge (q .manner) (q .asks); A′ ← apply Δ A; give (A′, Δ, t))
     (judge (q .manner) (q .asks))
 
+-- "Units equal this count in the definition": what the run took of the budget, that of a failing judgement too (reading 11)
 unfoldable pub outReply : ℕ → ℕ → ℕ → Out Result → Reply
 outReply k budget room (done r l n) = reported room 0 0 (budget - l) (resultWords k r)
 outReply k budget room (fail e l) = reported room (errorCode e) (errorAt e) (budget - l) (errorWords e)
@@ -88,8 +96,11 @@ unfoldable pub readReply : ℕ → ℕ → Read Question → Reply
 readReply budget room (fault c p) = refusal c p 0
 readReply budget room (got q p ws) = outReply (q .kind) budget room (answer q budget 0)
 
--- ---- "1, 2, 3 are tried in that order; then one reading from left to right": from the budget, the lengths of the work and the report
--- slice, and the question's words
+-- ---- "1, 2, 3 are tried in that order; then one reading from left to right, and its first fault decides between 4 and 5." From the budget, the
+-- lengths of the work and the report slice, and the question's words, "At most 2,048 words":
+-- | 1 BadBudget | budget 0 or above 8,192 | 0 |
+-- | 2 ShortWork | work shorter than 32 x budget + 4,096 words | 0 |
+-- | 3 BadLength | 0 words or more than 2,048 | 0 |
 
 unfoldable pub workWords : ℕ → ℕ
 workWords budget = 32 * budget + 4096

@@ -1,5 +1,15 @@
--- The six judgements and their 37 rules, after 000. Each rule is drawn above its definition; [Γ]A is A with the context applied,
--- [R/a]A substitution. A rule gives its number, its result type (Int where the judgement gives none), its output context and its children.
+-- The six judgements and their 37 rules, after 000: "000 decides for plain mode." Each rule is drawn above its definition, what it asks over
+-- the line, from left to right as it is asked. In the drawings
+--   Γ ⊢ .. ⊣ Δ      is a judgement with its input and its output context, entries oldest first;
+--   x : A, a, ^a, ^a = A, $a   are VarBnd, TVarBnd, ETVarBnd, SETVarBnd and Mark;
+--   [Γ]A, [R/a]A    are A with the context applied, and with R for a (Types);
+--   Γ[^a]           is any context, and Γ[Θ] after it the same with Θ in the place of its earliest ^a, and at its end where ^a is absent
+--                   (`replace`);
+--   Δ, x : _, Θ     is any context, cut at its earliest entry for x, whatever type that has, which need not be the entry that the rule
+--                   pushed (case (d)); where there is none, Δ is all of it and Θ is empty. So too Δ, b, Θ and Δ, $b, Θ (`rightOf`,
+--                   `solvedAndRight`);
+--   solved Δ        are the solved entries of Δ.
+-- No context is asked to be well-formed, and no type to have its names in one.
 use Prim.Native.Nat.{ℕ, zero, suc, _+_}
 use mathlib.Core.Bool.{Bool, true, false, _&&_}
 use mathlib.Core.List.{[], _∷_}
@@ -13,7 +23,8 @@ use Rattle.definition.specs.Run.{M, _>>=_, give, refuse, halt, charge, f
 use Rattle.definition.specs.Contexts.{kVar, kTVar, kMark, find, rightOf, _▹_, replace, solvedAndRight, before}
 use Rattle.definition.specs.Types.{types-compute, sameName, isMono, occurs, subst, apply, sameTy}
 
--- what a rule gives, and what a judgement gives: result type, output context, tree
+-- what a rule gives: its number, result type (Int where the judgement gives none), output context and children; and what a judgement gives:
+-- result type, output context, tree
 abbrev pub Fired : Type 0
 Fired = Rule × Ty × Ctx × Trees
 
@@ -108,7 +119,7 @@ instArr onL = Syntax.InstLArr
 instArr onR = Syntax.InstRArr
 
 -- is_mono T    a not in T
--- ------------------------------------------- InstLSolve, InstRSolve
+-- ------------------------------- InstLSolve; InstRSolve with T :=< ^a
 -- Γ[^a] ⊢ ^a :=< T ⊣ Γ[^a = T]
 unfoldable pub solve : Side → Ctx → TyVar → Ty → M Fired
 solve s Γ a T =
@@ -117,7 +128,7 @@ solve s Γ a T =
     (refuse (instantiationError a T))
 
 -- before Γ a b
--- ------------------------------------------- InstLReach, InstRReach
+-- --------------------------------- InstLReach; InstRReach with ^b :=< ^a
 -- Γ[^b] ⊢ ^a :=< ^b ⊣ Γ[^b = ^a]
 unfoldable pub reach : Side → Ctx → TyVar → TyVar → M Fired
 reach s Γ a b = closes (instReach s) (replace b (setvarBnd b (etvar a) ∷ []) Γ)
@@ -126,8 +137,8 @@ reach s Γ a b = closes (instReach s) (replace b (setvarBnd b (etvar a) ∷ []) 
 unfoldable pub split : TyVar → TyVar → TyVar → Ctx → Ctx
 split a b c Γ = replace a (setvarBnd a (arrow (etvar b) (etvar c)) ∷ etvarBnd b ∷ etvarBnd c ∷ []) Γ
 
--- Γ[^a = ^b → ^c, ^b, ^c] ⊢ A :=< ^b ⊣ Δ    Δ ⊢ ^c :=< [Δ]B ⊣ Θ
--- --------------------------------------------------------------- InstLArr; InstRArr with the sides exchanged
+-- b, c fresh    Γ[^a = ^b → ^c, ^b, ^c] ⊢ A :=< ^b ⊣ Δ    Δ ⊢ ^c :=< [Δ]B ⊣ Θ
+-- ----------------------------------------------------------------------------- InstLArr; InstRArr with the sides of :=< exchanged
 -- Γ[^a] ⊢ ^a :=< A → B ⊣ Θ
 unfoldable pub instArrow : Judge → Side → Ctx → TyVar → Ty → Ty → M Fired
 instArrow judge s Γ a A B = do
@@ -160,31 +171,41 @@ instRule judge s Γ a (forall b T) = instForall judge s Γ a b T
 
 -- ---- subtype: Γ ⊢ A <: B ⊣ Δ. "SubAllR comes before SubAllL, both before SubInstL, that before SubInstR."
 
+-- ------------------- SubRefl, and of Bool        ----------------- SubReflTVar        ------------------- SubReflETVar
+-- Γ ⊢ Int <: Int ⊣ Γ                              Γ ⊢ a <: a ⊣ Γ                       Γ ⊢ ^a <: ^a ⊣ Γ
+unfoldable pub sameBase : Ty → Ty → Bool
+sameBase A B = leb (tyCode A) 2 && eqb (tyCode A) (tyCode B)
+
+unfoldable pub same : Option TyVar → Option TyVar → Bool
+same none o = false
+same (some a) none = false
+same (some a) (some b) = sameName a b
+
 -- Γ ⊢ B₁ <: A₁ ⊣ Δ    Δ ⊢ A₂ <: B₂ ⊣ Θ
--- -------------------------------------- SubArr, which "does not apply the context between its halves"
+-- -------------------------------------- SubArr: "SubArr does not apply the context between its halves; InstLArr and InstRArr do."
 -- Γ ⊢ A₁ → A₂ <: B₁ → B₂ ⊣ Θ
 unfoldable pub subArr : Judge → Ctx → Ty × Ty → Ty × Ty → M Fired
-subArr judge Γ A B = do
-  (C, Δ, t) ← judge (subtype Γ (B .0) (A .0))
-  (D, Θ, t′) ← judge (subtype Δ (A .1) (B .1))
+subArr judge Γ (A₁, A₂) (B₁, B₂) = do
+  (C, Δ, t) ← judge (subtype Γ B₁ A₁)
+  (D, Θ, t′) ← judge (subtype Δ A₂ B₂)
   give (Syntax.SubArr, int, Θ, t & t′ & leaf)
 
 -- Γ, b ⊢ A <: T ⊣ Δ, b, Θ
 -- ------------------------ SubAllR
 -- Γ ⊢ A <: ∀b. T ⊣ Θ
 unfoldable pub subAllR : Judge → Ctx → Ty → TyVar × Ty → M Fired
-subAllR judge Γ A B = do
-  (C, Δ, t) ← judge (subtype (Γ ▹ tvarBnd (B .0)) A (B .1))
-  give (Syntax.SubAllR, int, rightOf (kTVar (B .0)) Δ, t & leaf)
+subAllR judge Γ A (b, T) = do
+  (C, Δ, t) ← judge (subtype (Γ ▹ tvarBnd b) A T)
+  give (Syntax.SubAllR, int, rightOf (kTVar b) Δ, t & leaf)
 
 -- Γ, ^a, $a ⊢ [^a/a]T <: B ⊣ Δ, $a, Θ
 -- ------------------------------------ SubAllL
 -- Γ ⊢ ∀a. T <: B ⊣ Θ
 unfoldable pub subAllL : Judge → Ctx → Ty → TyVar × Ty → M Fired
-subAllL judge Γ B A = do
-  T′ ← subst (A .0) (etvar (A .0)) (A .1)
-  (C, Δ, t) ← judge (subtype (Γ ▹ etvarBnd (A .0) ▹ mark (A .0)) T′ B)
-  give (Syntax.SubAllL, int, rightOf (kMark (A .0)) Δ, t & leaf)
+subAllL judge Γ B (a, T) = do
+  T′ ← subst a (etvar a) T
+  (C, Δ, t) ← judge (subtype (Γ ▹ etvarBnd a ▹ mark a) T′ B)
+  give (Syntax.SubAllL, int, rightOf (kMark a) Δ, t & leaf)
 
 -- a not in B    Γ ⊢ ^a :=< B ⊣ Δ                  a not in A    Γ ⊢ A :=< ^a ⊣ Δ
 -- ------------------------------- SubInstL        ------------------------------- SubInstR
@@ -197,14 +218,6 @@ subInst judge r s Γ T a = do
 unfoldable pub notIn : Ty → Option TyVar → Option TyVar
 notIn T none = none
 notIn T (some a) = pick (occurs a T) none (some a)
-
-unfoldable pub sameBase : Ty → Ty → Bool
-sameBase A B = leb (tyCode A) 2 && eqb (tyCode A) (tyCode B)
-
-unfoldable pub same : Option TyVar → Option TyVar → Bool
-same none o = false
-same (some a) none = false
-same (some a) (some b) = sameName a b
 
 unfoldable pub subtypeRule : Judge → Ctx → Ty → Ty → M Fired
 subtypeRule judge Γ A B =
@@ -220,6 +233,8 @@ subtypeRule judge Γ A B =
 
 -- ---- check: Γ ⊢ e ⇐ B ⊣ Δ. "ChkAll before ChkSub."
 
+-- ----------------- ChkLitInt        ------------------ ChkLitBool
+-- Γ ⊢ n ⇐ Int ⊣ Γ                    Γ ⊢ b ⇐ Bool ⊣ Γ
 unfoldable pub exprCode : Expr → ℕ
 exprCode (evar p x) = 16
 exprCode (app p e e′) = 17
@@ -246,27 +261,28 @@ asAbs (letIn p x e e′) = none
 asAbs (ifThenElse p e e′ e″) = none
 asAbs (binOp p o e e′) = none
 
--- "ChkLam first applies the context to the expected parameter and compares the written parameter with it, name for name; unequal is 17"
+-- "ChkLam first applies the context to the expected parameter and compares the written parameter with it, name for name; unequal is 17,
+-- written type left, applied type right." The written one is compared as written (reading 7); applying is paid for first (reading 8).
 unfoldable pub parameter : Bool → Ctx → Ty → Ty → M (Unit {0})
 parameter false Γ A P = give tt
 parameter true Γ A P = do P′ ← apply Γ P; pick (sameTy A P′) (give tt) (refuse (parameterMismatch A P′))
 
--- Γ, x : P ⊢ e ⇐ C ⊣ Δ, x : P, Θ
--- ------------------------------- ChkLam
+-- strict: A = [Γ]P    Γ, x : P ⊢ e ⇐ C ⊣ Δ, x : _, Θ
+-- ---------------------------------------------------- ChkLam, which binds P as it stood (reading 6)
 -- Γ ⊢ λx:A. e ⇐ P → C ⊣ Θ
 unfoldable pub chkLam : Mode → Judge → Ctx → TmVar × Ty × Expr → Ty × Ty → M Fired
-chkLam m judge Γ f P = do
-  u ← parameter (m .comparesParameter) Γ (f .1) (P .0)
-  (C, Δ, t) ← judge (check (Γ ▹ varBnd (f .0) (P .0)) (f .2) (P .1))
-  give (Syntax.ChkLam, int, rightOf (kVar (f .0)) Δ, t & leaf)
+chkLam m judge Γ (x, A, e) (P, C) = do
+  u ← parameter (m .comparesParameter) Γ A P
+  (D, Δ, t) ← judge (check (Γ ▹ varBnd x P) e C)
+  give (Syntax.ChkLam, int, rightOf (kVar x) Δ, t & leaf)
 
 -- Γ, a ⊢ e ⇐ T ⊣ Δ, a, Θ
 -- ----------------------- ChkAll
 -- Γ ⊢ e ⇐ ∀a. T ⊣ Θ
 unfoldable pub chkAll : Judge → Ctx → Expr → TyVar × Ty → M Fired
-chkAll judge Γ e B = do
-  (C, Δ, t) ← judge (check (Γ ▹ tvarBnd (B .0)) e (B .1))
-  give (Syntax.ChkAll, int, rightOf (kTVar (B .0)) Δ, t & leaf)
+chkAll judge Γ e (a, T) = do
+  (C, Δ, t) ← judge (check (Γ ▹ tvarBnd a) e T)
+  give (Syntax.ChkAll, int, rightOf (kTVar a) Δ, t & leaf)
 
 -- Γ ⊢ e ⇒ A ⊣ Δ    Δ ⊢ [Δ]A <: [Δ]B ⊣ Θ
 -- ---------------------------------------- ChkSub
@@ -287,18 +303,18 @@ checkRule m judge Γ e B =
     orElse on (asForall B) (chkAll judge Γ e)
     orElse chkSub judge Γ e B
 
--- ---- infer_app: Γ ⊢ e • A ⇒⇒ C ⊣ Δ
+-- ---- infer_app: Γ ⊢ e • A ⇒⇒ C ⊣ Δ, for a function's type A as it stands (reading 9)
 
 -- Γ ⊢ e ⇐ A ⊣ Δ
 -- ------------------------ InfAppArr
 -- Γ ⊢ e • A → C ⇒⇒ C ⊣ Δ
 unfoldable pub infAppArr : Judge → Ctx → Expr → Ty × Ty → M Fired
-infAppArr judge Γ e A = do
-  (D, Δ, t) ← judge (check Γ e (A .0))
-  give (Syntax.InfAppArr, A .1, Δ, t & leaf)
+infAppArr judge Γ e (A, C) = do
+  (D, Δ, t) ← judge (check Γ e A)
+  give (Syntax.InfAppArr, C, Δ, t & leaf)
 
--- Γ[^a = ^b → ^c, ^b, ^c] ⊢ e ⇐ ^b ⊣ Δ
--- ------------------------------------- InfAppETVar
+-- b, c fresh    Γ[^a = ^b → ^c, ^b, ^c] ⊢ e ⇐ ^b ⊣ Δ
+-- ---------------------------------------------------- InfAppETVar
 -- Γ[^a] ⊢ e • ^a ⇒⇒ ^c ⊣ Δ
 unfoldable pub infAppETVar : Judge → Ctx → Expr → TyVar → M Fired
 infAppETVar judge Γ e a = do
@@ -315,15 +331,15 @@ inferAppRule judge Γ e A =
 
 -- ---- infer: Γ ⊢ e ⇒ A ⊣ Δ
 
--- x : A in Γ
--- --------------- InfVar
+-- x : A the earliest entry for x in Γ
+-- ------------------------------------ InfVar
 -- Γ ⊢ x ⇒ A ⊣ Γ
 unfoldable pub infVar : TmVar → Ctx → Option Ty → M Fired
 infVar x Γ none = refuse (unboundVariable x)
 infVar x Γ (some A) = give (Syntax.InfVar, A, Γ, leaf)
 
--- Γ, x : A, ^b ⊢ e ⇐ ^b ⊣ Δ, x : A, Θ
--- ------------------------------------- InfLam
+-- b fresh    Γ, x : A, ^b ⊢ e ⇐ ^b ⊣ Δ, x : _, Θ
+-- ------------------------------------------------ InfLam
 -- Γ ⊢ λx:A. e ⇒ A → ^b ⊣ solved Δ, Θ
 unfoldable pub infLam : Judge → Ctx → TmVar → Ty → Expr → M Fired
 infLam judge Γ x A e = do
@@ -341,7 +357,7 @@ infApp judge Γ e e′ = do
   (C, Θ, t′) ← judge (inferApp Δ e′ A′)
   give (Syntax.InfApp, C, Θ, t & t′ & leaf)
 
--- Γ ⊢ e ⇒ A ⊣ Δ    Δ, x : A ⊢ e′ ⇒ B ⊣ Θ, x : A, Ξ
+-- Γ ⊢ e ⇒ A ⊣ Δ    Δ, x : A ⊢ e′ ⇒ B ⊣ Θ, x : _, Ξ
 -- --------------------------------------------------- InfLet
 -- Γ ⊢ let x = e in e′ ⇒ B ⊣ solved Θ, Ξ
 unfoldable pub infLet : Judge → Ctx → TmVar → Expr → Expr → M Fired
@@ -350,13 +366,14 @@ infLet judge Γ x e e′ = do
   (B, Θ, t′) ← judge (infer (Δ ▹ varBnd x A) e′)
   give (Syntax.InfLet, B, solvedAndRight (kVar x) Θ, t & t′ & leaf)
 
--- "InfIf applies its third context to both branch types, first then second, before subtype; its result type stays the unapplied one."
+-- "InfIf applies none"; in strict mode "InfIf applies its third context to both branch types, first then second, before subtype; its result
+-- type stays the unapplied one."
 unfoldable pub branch : Bool → Ctx → Ty → M Ty
 branch false Γ A = give A
 branch true Γ A = apply Γ A
 
 -- Γ ⊢ e ⇐ Bool ⊣ Γ₁    Γ₁ ⊢ e′ ⇒ A ⊣ Γ₂    Γ₂ ⊢ e″ ⇒ B ⊣ Γ₃    Γ₃ ⊢ A <: B ⊣ Γ₄
--- ---------------------------------------------------------------------------------- InfIf; strict: Γ₃ ⊢ [Γ₃]A <: [Γ₃]B
+-- ---------------------------------------------------------------------------------- InfIf; strict: Γ₃ ⊢ [Γ₃]A <: [Γ₃]B ⊣ Γ₄
 -- Γ ⊢ if e then e′ else e″ ⇒ A ⊣ Γ₄
 unfoldable pub infIf : Mode → Judge → Ctx → Expr → Expr → Expr → M Fired
 infIf m judge Γ e e′ e″ = do
@@ -369,7 +386,7 @@ infIf m judge Γ e e′ e″ = do
   give (Syntax.InfIf, A, Γ₄, t₁ & t₂ & t₃ & t₄ & leaf)
 
 -- Γ ⊢ e ⇐ A ⊣ Δ    Δ ⊢ e′ ⇐ A ⊣ Θ
--- ---------------------------------- InfArith (A, C are Int), InfBool (Bool), InfCmp (Int, Bool)
+-- ---------------------------------- InfArith (A and C are Int), InfBool (both are Bool), InfCmp (A is Int, C is Bool)
 -- Γ ⊢ e op e′ ⇒ C ⊣ Θ
 unfoldable pub infBoth : Judge → Rule → Ty → Ty → Ctx → Expr → Expr → M Fired
 infBoth judge r A C Γ e e′ = do
@@ -411,11 +428,11 @@ infTAbs judge Γ a e = do
   A′ ← apply Δ A
   give (Syntax.InfTAbs, forall a A′, solvedAndRight (kTVar a) Δ, t & leaf)
 
--- Γ ⊢ e ⇒ ∀a. A ⊣ Δ
+-- Γ ⊢ e ⇒ ∀a. T ⊣ Δ
 -- ------------------------ InfTApp
--- Γ ⊢ e[B] ⇒ [B/a]A ⊣ Δ
+-- Γ ⊢ e[B] ⇒ [B/a]T ⊣ Δ
 unfoldable pub instantiate : Ty → Ty → M Ty
-instantiate B A = on (asForall A) (λ T. subst (T .0) B (T .1)) orElse refuse (typeApplicationError A)
+instantiate B A = on (asForall A) (λ (a, T). subst a B T) orElse refuse (typeApplicationError A)
 
 unfoldable pub infTApp : Judge → Ctx → Expr → Ty → M Fired
 infTApp judge Γ e B = do
@@ -423,7 +440,8 @@ infTApp judge Γ e B = do
   A′ ← instantiate B A
   give (Syntax.InfTApp, A′, Δ, t & leaf)
 
--- (InfLitInt: Γ ⊢ n ⇒ Int ⊣ Γ; InfLitBool: Γ ⊢ b ⇒ Bool ⊣ Γ)
+-- ----------------- InfLitInt        ------------------ InfLitBool
+-- Γ ⊢ n ⇒ Int ⊣ Γ                    Γ ⊢ b ⇒ Bool ⊣ Γ
 unfoldable pub inferRule : Mode → Judge → Ctx → Expr → M Fired
 inferRule m judge Γ (evar p x) = infVar x Γ (find (kVar x) Γ)
 inferRule m judge Γ (ann p e A) = infAnn judge Γ e A
@@ -438,7 +456,7 @@ inferRule m judge Γ (ifThenElse p e e′ e″) = infIf m judge Γ e e′ e″
 inferRule m judge Γ (binOp p o e e′) = infBinOp judge Γ o e e′
 
 -- ---- "Each judgement of kinds 1 to 6 entered is charged 1 plus the entries of its input context; each that succeeds, the entries of its
--- output context."
+-- output context. .. Charges fall in 000's order." Entries, not words (reading 12); on entering, before its rule; on leaving, after it.
 
 unfoldable pub rule : Mode → Judge → Judgement → M Fired
 rule m judge (infer Γ e) = inferRule m judge Γ e

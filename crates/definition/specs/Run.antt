@@ -1,4 +1,4 @@
--- A run and its count: "the next charge would pass the budget" ends it with 6 and at no other time.
+-- A run and its count. "6 stops the run where it occurs."
 use Prim.Native.Nat.{ℕ, suc, _+_, _-_}
 use lib.Dec.{leb}
 use Rattle.definition.specs.Syntax.{pick, TyVar, TypeError}
@@ -31,6 +31,7 @@ refuse e l n = fail e l
 unfoldable pub halt : {A : Type 0} → M A
 halt l n = stop
 
+-- | 6 Budget | the next charge would pass the budget | 0 |
 unfoldable pub charge : ℕ → M (Unit {0})
 charge c l n = pick (leb c l) (done tt (l - c) n) stop
 

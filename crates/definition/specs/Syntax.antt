@@ -85,7 +85,7 @@ unfoldable pub ctxWords : Ctx → List ℕ
 ctxWords [] = []
 ctxWords (e ∷ Γ) = entryWords e ++ ctxWords Γ
 
--- ---- The six judgements; the two of instantiation are one, with the side on which the unknown stands.
+-- ---- The six judgements, kinds 1 to 6; inst_l and inst_r are one, with the side on which the unknown stands.
 
 pub data Side : Type 0 where
   onL onR : Side
@@ -105,7 +105,9 @@ given (inferApp Γ e A) = Γ
 given (subtype Γ A B) = Γ
 given (inst s Γ a T) = Γ
 
--- ---- "Rules 1 to 37: .."
+-- ---- "Rules 1 to 37: InfVar, InfLitInt, InfLitBool, InfLam, InfApp, InfLet, InfIf, InfArith, InfBool, InfCmp, InfEq, InfAnn, InfTAbs, InfTApp,
+-- InfAppArr, InfAppETVar, ChkLitInt, ChkLitBool, ChkLam, ChkAll, ChkSub, SubRefl, SubReflTVar, SubReflETVar, SubArr, SubAllR, SubAllL, SubInstL,
+-- SubInstR, InstLSolve, InstLReach, InstLArr, InstLAllR, InstRSolve, InstRReach, InstRArr, InstRAllL."
 
 pub data Rule : Type 0 where
   InfVar InfLitInt InfLitBool InfLam InfApp InfLet InfIf InfArith InfBool InfCmp InfEq InfAnn InfTAbs InfTApp : Rule
@@ -156,7 +158,8 @@ ruleNumber InstRAllL = 37
 
 -- ---- "A node: rule number, number of children, place of its expression in the question (0 if none), then five sections: input context,
 -- left type, right type, output context, result type. Left and right are filled as in the question of that judgement; result only for
--- infer and infer_app." A node's result is Int where the judgement gives none, and is not written then.
+-- infer and infer_app." A node's result is Int where the judgement gives none, and is not written then; of infer_app the expression is the
+-- argument (reading 14).
 
 mutual
   pub data Tree : Type 0 where
@@ -205,7 +208,7 @@ unfoldable mutual
   treesWords leaf = []
   treesWords (t & ts) = treeWords t ++ treesWords ts
 
--- ---- Type errors, named as in 003; the last is strict mode's.
+-- ---- Type errors, named as in 003, without "the `expr` fields (always None)"; the last is strict mode's.
 
 pub data TypeError : Type 0 where
   unboundVariable : TmVar → TypeError

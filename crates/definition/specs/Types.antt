@@ -29,7 +29,7 @@ occurs a (etvar b) = sameName b a
 occurs a (arrow A B) = occurs a A || occurs a B
 occurs a (forall b A) = not (sameName b a) && occurs a A
 
--- "subst_type one per call": R for a in a type
+-- "subst_type one per call", recursive ones too (reading 15): R for a in a type
 unfoldable pub subst : TyVar → Ty → Ty → M Ty
 subst a R int = do u ← charge 1; give int
 subst a R bool = do u ← charge 1; give bool
@@ -55,7 +55,7 @@ applyStep Γ once (etvar a) = solutionOr (etvar a) once (find (kSETVar a) Γ)
 applyStep Γ once (arrow A B) = do A′ ← once A; B′ ← once B; give (arrow A′ B′)
 applyStep Γ once (forall a A) = do A′ ← once A; give (forall a A′)
 
--- to a depth; every call is charged, so the budget left is depth enough
+-- to a depth; every call is charged, so the budget left is depth enough. "A solution that leads back to itself therefore ends in 6." (laws, Rings)
 unfoldable pub applyTo : ℕ → Ctx → Ty → M Ty
 applyTo zero Γ A = halt
 applyTo (suc d) Γ A = do u ← charge 1; applyStep Γ (λ B l n. applyTo d Γ B l n) A
@@ -63,7 +63,7 @@ applyTo (suc d) Γ A = do u ← charge 1; applyStep Γ (λ B l n. applyTo d Γ B
 unfoldable pub apply : Ctx → Ty → M Ty
 apply Γ A l n = applyTo l Γ A l n
 
--- ---- "name for name": the same type
+-- ---- "name for name": the same type, Forall's names among it; Var is not ETVar
 
 unfoldable pub sameTy : Ty → Ty → Bool
 sameTy int int = true
