@@ -9,7 +9,8 @@
 --                   pushed (case (d)); where there is none, Δ is all of it and Θ is empty. So too Δ, b, Θ and Δ, $b, Θ (`rightOf`,
 --                   `solvedAndRight`);
 --   solved Δ        are the solved entries of Δ.
--- No context is asked to be well-formed, and no type to have its names in one.
+-- No context is asked to be well-formed, nor a type to have its names in one. Where several rules fit, the order of arms decides (`subtypeRule`,
+-- `checkRule`).
 use Prim.Native.Nat.{ℕ, zero, suc, _+_}
 use mathlib.Core.Bool.{Bool, true, false, _&&_}
 use mathlib.Core.List.{[], _∷_}
@@ -171,16 +172,6 @@ instRule judge s Γ a (forall b T) = instForall judge s Γ a b T
 
 -- ---- subtype: Γ ⊢ A <: B ⊣ Δ. "SubAllR comes before SubAllL, both before SubInstL, that before SubInstR."
 
--- ------------------- SubRefl, and of Bool        ----------------- SubReflTVar        ------------------- SubReflETVar
--- Γ ⊢ Int <: Int ⊣ Γ                              Γ ⊢ a <: a ⊣ Γ                       Γ ⊢ ^a <: ^a ⊣ Γ
-unfoldable pub sameBase : Ty → Ty → Bool
-sameBase A B = leb (tyCode A) 2 && eqb (tyCode A) (tyCode B)
-
-unfoldable pub same : Option TyVar → Option TyVar → Bool
-same none o = false
-same (some a) none = false
-same (some a) (some b) = sameName a b
-
 -- Γ ⊢ B₁ <: A₁ ⊣ Δ    Δ ⊢ A₂ <: B₂ ⊣ Θ
 -- -------------------------------------- SubArr: "SubArr does not apply the context between its halves; InstLArr and InstRArr do."
 -- Γ ⊢ A₁ → A₂ <: B₁ → B₂ ⊣ Θ
@@ -219,6 +210,16 @@ unfoldable pub notIn : Ty → Option TyVar → Option TyVar
 notIn T none = none
 notIn T (some a) = pick (occurs a T) none (some a)
 
+unfoldable pub sameBase : Ty → Ty → Bool
+sameBase A B = leb (tyCode A) 2 && eqb (tyCode A) (tyCode B)
+
+unfoldable pub same : Option TyVar → Option TyVar → Bool
+same none o = false
+same (some a) none = false
+same (some a) (some b) = sameName a b
+
+-- ------------------- SubRefl, and of Bool        ----------------- SubReflTVar        ------------------- SubReflETVar
+-- Γ ⊢ Int <: Int ⊣ Γ                              Γ ⊢ a <: a ⊣ Γ                       Γ ⊢ ^a <: ^a ⊣ Γ
 unfoldable pub subtypeRule : Judge → Ctx → Ty → Ty → M Fired
 subtypeRule judge Γ A B =
     when (sameBase A B) (closes Syntax.SubRefl Γ)
@@ -233,8 +234,6 @@ subtypeRule judge Γ A B =
 
 -- ---- check: Γ ⊢ e ⇐ B ⊣ Δ. "ChkAll before ChkSub."
 
--- ----------------- ChkLitInt        ------------------ ChkLitBool
--- Γ ⊢ n ⇐ Int ⊣ Γ                    Γ ⊢ b ⇐ Bool ⊣ Γ
 unfoldable pub exprCode : Expr → ℕ
 exprCode (evar p x) = 16
 exprCode (app p e e′) = 17
@@ -295,6 +294,8 @@ chkSub judge Γ e B = do
   (C, Θ, t′) ← judge (subtype Δ A′ B′)
   give (Syntax.ChkSub, int, Θ, t & t′ & leaf)
 
+-- ----------------- ChkLitInt        ------------------ ChkLitBool
+-- Γ ⊢ n ⇐ Int ⊣ Γ                    Γ ⊢ b ⇐ Bool ⊣ Γ
 unfoldable pub checkRule : Mode → Judge → Ctx → Expr → Ty → M Fired
 checkRule m judge Γ e B =
     when (eqb (exprCode e) 22 && eqb (tyCode B) 1) (closes Syntax.ChkLitInt Γ)
