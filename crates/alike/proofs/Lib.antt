@@ -1,4 +1,4 @@
--- Demand 3 proved: Demand3 has the theorems, WellFormed, Changes and Examples show what they reach, the others lead there.
+-- Demand 3 proved: Demand3 has the theorems, WellFormed, Changes, Deciding and Examples show what "alike" reaches, the others lead there.
 pub mod Related
 pub mod Contexts
 pub mod Runs
@@ -11,4 +11,5 @@ pub mod Replies
 pub mod Demand3
 pub mod WellFormed
 pub mod Changes
+pub mod Deciding
 pub mod Examples
