@@ -1,4 +1,4 @@
--- Context, after 000: what a rule may do with one. "Vec contexts: runs of entries", oldest first.
+-- Context, after 000: what a rule may do with one; entries oldest first.
 use Prim.Native.Nat.{ℕ}
 use mathlib.Core.Bool.{Bool, false, _&&_, _||_}
 use mathlib.Core.List.{[], _∷_, _++_}
