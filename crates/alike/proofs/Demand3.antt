@@ -1,17 +1,19 @@
 -- Demand 3: questions that are alike get replies that are alike, and no reply depends on a literal's value.
-use mathlib.Core.Path.{_≡_, refl, ap, ap₂}
-use Prim.Native.Nat.{ℕ}
+use mathlib.Core.Path.{_≡_, refl, sym, ap, ap₂, _∙_}
+use Prim.Native.Nat.{ℕ, _≤_}
+use native.Mathlib.Omega.{arith}
+use native.Mathlib.Nat.{not-suc-le-zero}
 use mathlib.Core.Bool.{_||_}
-use mathlib.Core.List.{List, [], _∷_}
+use mathlib.Core.List.{List, [], _∷_, cons-ne-nil}
 use lib.ListN.{length}
 use lib.Dec.{eqb, ltb}
 use Rattle.definition.specs.Syntax.{pick}
 use Rattle.definition.specs.Question.{Read, Question, readQuestion}
 use Rattle.definition.specs.Reply.{Reply, reply}
-use Rattle.definition.specs.Memory.{call, reportAfter, workAfter}
-use Rattle.alike.specs.Alike.{Pairing, itself, Label, the, Named, written, fresh, InReplies, Each, none, more, Alike, AlikeQuestions, AlikeReplies, AlikeCalls, WellFormed}
+use Rattle.definition.specs.Memory.{Call, call, reportAfter, workAfter}
+use Rattle.alike.specs.Alike.{Pairing, itself, Label, IsReport, Named, written, fresh, InReplies, Each, none, more, Alike, AlikeQuestions, AlikeReplies, AlikeCalls, WellFormed}
 use Rattle.alike.proofs.Related.{pickR}
-use Rattle.alike.proofs.Words.{sameLength, done, under, join}
+use Rattle.alike.proofs.Words.{sameLength}
 use Rattle.alike.proofs.Readers.{GotR, gotR}
 use Rattle.alike.proofs.Reading.{QuestionR, readQuestionR}
 use Rattle.alike.proofs.Replies.{refusalR, readReplyR}
@@ -30,24 +32,35 @@ pub alike : {P : Pairing} {ws ws′ : List ℕ} → AlikeQuestions P ws ws′ �
     → AlikeReplies P (reply budget work room ws) (reply budget work room ws′)
 unfolding reply
 alike {P} h budget work room =
-    pickR (AlikeReplies P) refl (refusalR 1 0 (unfold pick in InReplies.same))
-    (pickR (AlikeReplies P) refl (refusalR 2 0 (unfold pick in InReplies.same))
-    (pickR (AlikeReplies P) (ap (λ n. eqb n 0 || ltb 2048 n) (sameLength (h .words))) (refusalR 3 0 (unfold pick in InReplies.same))
+    pickR (AlikeReplies P) refl (refusalR 1 0 (omega arith) (omega arith) (unfold pick in InReplies.same))
+    (pickR (AlikeReplies P) refl (refusalR 2 0 (omega arith) (omega arith) (unfold pick in InReplies.same))
+    (pickR (AlikeReplies P) (ap (λ n. eqb n 0 || ltb 2048 n) (sameLength (h .words))) (refusalR 3 0 (omega arith) (omega arith) (unfold pick in InReplies.same))
     (readReplyR budget room (readQuestionR h))))
 
 -- ## The whole call
-
--- words that are the same
-unchanged : {P : Pairing} (r : List ℕ) → Alike (InReplies P) (λ s. Unit {0}) r r
-unchanged [] = done tt
-unchanged (w ∷ r) = under (the w) InReplies.same (unchanged r)
 
 pub calls-alike : {P : Pairing} {ws ws′ : List ℕ} → AlikeQuestions P ws ws′ → (budget : ℕ) (work slice : List ℕ)
     → AlikeCalls P (call budget ws work slice) (call budget ws′ work slice)
 unfolding call reportAfter workAfter
 calls-alike h budget work slice =
     let a = alike h budget (length work) (length slice) in
-    record { answered = a; reportSlice = rw (sameLength (a .report .words)) (join (a .report) (unchanged _)); workSlice = rw (a .code) }
+    record { answered = a; rest = _; reportSlice = refl; reportSlice′ = rw (sameLength (a .report .words)); workSlice = rw (a .code) }
+
+-- no report on 1 to 7, and so the same slices, whatever the names
+nothing : {c : ℕ} {s : List Label} → IsReport c s → 1 ≤ c → c ≤ 7 → s ≡ []
+nothing (IsReport.result A Γ t) h k = absurd (not-suc-le-zero h)
+nothing (IsReport.empty h k) h′ k′ = refl
+nothing (IsReport.error l A B) h k = absurd (omega arith)
+
+no-words : {R : Label → ℕ → ℕ → Type 0} {s : List Label} {u u′ : List ℕ} → s ≡ [] → Each R s u u′ → (u ≡ []) × (u′ ≡ [])
+no-words e none = (refl, refl)
+no-words e (more x w) = absurd (cons-ne-nil _ _ e)
+
+pub refused-same : {P : Pairing} {c c′ : Call} → AlikeCalls P c c′ → 1 ≤ c .answered .code → c .answered .code ≤ 7 → c .reportSlice ≡ c′ .reportSlice
+refused-same a h k =
+    let r = a .answered .report in
+    let w = no-words (nothing (r .format) h k) (r .words) in
+    a .reportSlice ∙ rw (w .0, w .1) refl ∙ sym (a .reportSlice′)
 
 -- ## Literals
 

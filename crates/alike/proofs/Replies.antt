@@ -1,6 +1,7 @@
 -- Results and type errors that are alike are written as reports that are alike, and so are the replies.
 use mathlib.Core.Path.{_≡_, refl, ap}
-use Prim.Native.Nat.{ℕ, suc, _-_, min}
+use Prim.Native.Nat.{ℕ, suc, _-_, _≤_, min}
+use native.Mathlib.Omega.{arith}
 use mathlib.Core.Bool.{Bool, true, false, _&&_}
 use mathlib.Core.List.{List, [], _∷_, _++_, append-assoc}
 use lib.ListN.{length}
@@ -110,45 +111,42 @@ module _ {P : Pairing} where
 
   -- ## Replies
 
-  emptyW : Told P IsReport [] []
-  emptyW = done IsReport.empty
-
-  reportedR : (room c units : ℕ) {p p′ : ℕ} {u u′ : List ℕ} → InReplies P (atLabel c p) p p′ → Told P IsReport u u′
+  reportedR : (room c units : ℕ) {p p′ : ℕ} {u u′ : List ℕ} → InReplies P (atLabel c p) p p′ → Told P (IsReport c) u u′
       → AlikeReplies P (reported room c p units u) (reported room c p′ units u′)
   unfolding reported pick
   reportedR room c units {u = u} {u′ = u′} a w =
       let e : length u ≡ length u′ = sameLength (w .words) in
       pickR (AlikeReplies P) (ap (λ n. leb n room && leb n most) e)
       (record { code = refl; at = a; len = e; units = refl; report = w })
-      (record { code = refl; at = InReplies.same; len = ap (λ n. min n most) e; units = refl; report = emptyW })
+      (record { code = refl; at = InReplies.same; len = ap (λ n. min n most) e; units = refl; report = done (IsReport.empty (omega arith) (omega arith)) })
 
-  pub refusalR : (c u : ℕ) → InReplies P (atLabel c 0) 0 0 → AlikeReplies P (refusal c 0 u) (refusal c 0 u)
+  pub refusalR : (c u : ℕ) → 1 ≤ c → c ≤ 7 → InReplies P (atLabel c 0) 0 0 → AlikeReplies P (refusal c 0 u) (refusal c 0 u)
   unfolding refusal
-  refusalR c u a = record { code = refl; at = a; len = refl; units = refl; report = emptyW }
+  refusalR c u h k a = record { code = refl; at = a; len = refl; units = refl; report = done (IsReport.empty h k) }
 
-  errorW : {A A′ B B′ : List ℕ} → Told P IsTyOrNone A A′ → Told P IsTyOrNone B B′
-      → Told P IsReport (Syntax.section A ++ Syntax.section B) (Syntax.section A′ ++ Syntax.section B′)
-  errorW a b = sect (same P) a (lastSect (same P) b (IsReport.error (a .format) (b .format)))
+  errorW : {c : ℕ} {A A′ B B′ : List ℕ} → 11 ≤ c → Told P IsTyOrNone A A′ → Told P IsTyOrNone B B′
+      → Told P (IsReport c) (Syntax.section A ++ Syntax.section B) (Syntax.section A′ ++ Syntax.section B′)
+  errorW h a b = sect (same P) a (lastSect (same P) b (IsReport.error h (a .format) (b .format)))
 
   errorR : (room units : ℕ) {e e′ : TypeError} → TypeErrorR P e e′
       → AlikeReplies P
       (reported room (errorCode e) (errorAt e) units (errorWords e))
       (reported room (errorCode e′) (errorAt e′) units (errorWords e′))
   unfolding errorCode errorAt errorWords tySection noSection Syntax.section pick
-  errorR room u (Related.unboundVariableR x) = reportedR room 11 u (InReplies.variables (x .numbers)) (errorW noneW noneW)
-  errorR room u (Related.applicationTypeErrorR t) = reportedR room 12 u InReplies.same (errorW (tyOrNoneW t) noneW)
-  errorR room u (Related.typeApplicationErrorR t) = reportedR room 13 u InReplies.same (errorW (tyOrNoneW t) noneW)
-  errorR room u (Related.occursCheckR a t) = reportedR room 14 u (InReplies.typeNames (a .numbers)) (errorW (tyOrNoneW t) noneW)
-  errorR room u (Related.subtypingErrorR s t) = reportedR room 15 u InReplies.same (errorW (tyOrNoneW s) (tyOrNoneW t))
-  errorR room u (Related.instantiationErrorR a t) = reportedR room 16 u (InReplies.typeNames (a .numbers)) (errorW (tyOrNoneW t) noneW)
-  errorR room u (Related.parameterMismatchR s t) = reportedR room 17 u InReplies.same (errorW (tyOrNoneW s) (tyOrNoneW t))
+  errorR room u (Related.unboundVariableR x) = reportedR room 11 u (InReplies.variables (x .numbers)) (errorW (omega arith) noneW noneW)
+  errorR room u (Related.applicationTypeErrorR t) = reportedR room 12 u InReplies.same (errorW (omega arith) (tyOrNoneW t) noneW)
+  errorR room u (Related.typeApplicationErrorR t) = reportedR room 13 u InReplies.same (errorW (omega arith) (tyOrNoneW t) noneW)
+  errorR room u (Related.occursCheckR a t) = reportedR room 14 u (InReplies.typeNames (a .numbers)) (errorW (omega arith) (tyOrNoneW t) noneW)
+  errorR room u (Related.subtypingErrorR s t) = reportedR room 15 u InReplies.same (errorW (omega arith) (tyOrNoneW s) (tyOrNoneW t))
+  errorR room u (Related.instantiationErrorR a t) = reportedR room 16 u (InReplies.typeNames (a .numbers)) (errorW (omega arith) (tyOrNoneW t) noneW)
+  errorR room u (Related.parameterMismatchR s t) = reportedR room 17 u InReplies.same (errorW (omega arith) (tyOrNoneW s) (tyOrNoneW t))
 
-  resultW : (k : ℕ) (r r′ : Result) → ResultR P r r′ → Told P IsReport (resultWords k r) (resultWords k r′)
+  resultW : (k : ℕ) (r r′ : Result) → ResultR P r r′ → Told P (IsReport 0) (resultWords k r) (resultWords k r′)
   unfolding resultWords ctxSection tySection noSection Syntax.section pick
   resultW k r r′ w = typed (givesType k)
     where
       whole : {A A′ : List ℕ} → Told P IsTyOrNone A A′
-          → Told P IsReport
+          → Told P (IsReport 0)
           (Syntax.section A ++ (Syntax.section (ctxWords (r .1)) ++ Syntax.section (treeWords (r .2))))
           (Syntax.section A′ ++ (Syntax.section (ctxWords (r′ .1)) ++ Syntax.section (treeWords (r′ .2))))
       whole a =
@@ -157,7 +155,7 @@ module _ {P : Pairing} where
           sect (same P) a (sect (same P) c (lastSect (same P) t (IsReport.result (a .format) (c .format) (t .format))))
 
       typed : (b : Bool)
-          → Told P IsReport
+          → Told P (IsReport 0)
           (pick b (tySection (r .0)) noSection ++ (ctxSection (r .1) ++ Syntax.section (treeWords (r .2))))
           (pick b (tySection (r′ .0)) noSection ++ (ctxSection (r′ .1) ++ Syntax.section (treeWords (r′ .2))))
       typed true = whole (tyOrNoneW (w .0))
@@ -168,7 +166,7 @@ module _ {P : Pairing} where
   unfolding outReply pick
   outReplyR {k′ = k′} budget room e (doneR {l = l} w) = rw e (reportedR room 0 (budget - l) InReplies.same (resultW k′ _ _ w))
   outReplyR budget room e (failR {l = l} x) = errorR room (budget - l) x
-  outReplyR budget room e stopR = refusalR 6 budget InReplies.same
+  outReplyR budget room e stopR = refusalR 6 budget (omega arith) (omega arith) InReplies.same
 
   answerR : {q q′ : Question} → QuestionR P q q′ → Runs P (ResultR P) (answer q) (answer q′)
   unfolding answer

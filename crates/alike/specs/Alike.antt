@@ -75,7 +75,7 @@ pub data IsQuestion : List Label → Type 0 where
   instR : {m : ℕ} {c l : List Label} → m ≤ 1 → IsCtx c → IsTy l → IsQuestion (ask 6 m c [] l unknown)
   run : {m : ℕ} {e : List Label} → m ≤ 1 → IsExpr e → IsQuestion (ask 7 m [] e [] [])
 
--- ---- Reports: nothing; type, context and tree; or the two types of a type error
+-- ---- Reports, by the reply's code: type, context and tree on 0, nothing on 1 to 7, the two types of a type error from 11 on
 
 pub data IsTyOrNone : List Label → Type 0 where
   noTy : IsTyOrNone []
@@ -87,10 +87,10 @@ pub data IsNodes : List Label → Type 0 where
   node : {r n p : ℕ} {i A B o C v : List Label} → IsCtx i → IsTyOrNone A → IsTyOrNone B → IsCtx o → IsTyOrNone C → IsNodes v
       → IsNodes (the r ∷ the n ∷ the p ∷ section i ++ (section A ++ (section B ++ (section o ++ (section C ++ v)))))
 
-pub data IsReport : List Label → Type 0 where
-  empty : IsReport []
-  result : {A Γ t : List Label} → IsTyOrNone A → IsCtx Γ → IsNodes t → IsReport (section A ++ (section Γ ++ section t))
-  error : {A B : List Label} → IsTyOrNone A → IsTyOrNone B → IsReport (section A ++ section B)
+pub data IsReport : ℕ → List Label → Type 0 where
+  result : {A Γ t : List Label} → IsTyOrNone A → IsCtx Γ → IsNodes t → IsReport 0 (section A ++ (section Γ ++ section t))
+  empty : {c : ℕ} → 1 ≤ c → c ≤ 7 → IsReport c []
+  error : {c : ℕ} {A B : List Label} → 11 ≤ c → IsTyOrNone A → IsTyOrNone B → IsReport c (section A ++ section B)
 
 -- ---- A pairing says which names go together, one to one.
 
@@ -160,13 +160,15 @@ pub record AlikeReplies (P : Pairing) (r r′ : Reply) : Type 0 where
   pub at : InReplies P (atLabel (r .code) (r .at)) (r .at) (r′ .at)
   pub len : r .len ≡ r′ .len
   pub units : r .units ≡ r′ .units
-  pub report : Alike (InReplies P) IsReport (r .report) (r′ .report)
+  pub report : Alike (InReplies P) (IsReport (r .code)) (r .report) (r′ .report)
 
--- ---- Calls: replies alike, the report slices alike word by word, the work slices the same
+-- ---- Calls: replies alike, the report slices the reports and then the same words, the work slices the same
 
 pub record AlikeCalls (P : Pairing) (c c′ : Call) : Type 0 where
   pub answered : AlikeReplies P (c .answered) (c′ .answered)
-  pub reportSlice : Alike (InReplies P) (λ s. Unit {0}) (c .reportSlice) (c′ .reportSlice)
+  pub rest : List ℕ
+  pub reportSlice : c .reportSlice ≡ c .answered .report ++ rest
+  pub reportSlice′ : c′ .reportSlice ≡ c′ .answered .report ++ rest
   pub workSlice : c .workSlice ≡ c′ .workSlice
 
 -- "well-formed": read to its end without a fault

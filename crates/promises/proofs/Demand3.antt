@@ -1,56 +1,38 @@
 -- Demand 3 of the exported functions, through their contracts.
 use mathlib.Core.Path.{_≡_, sym, _∙_}
 use mathlib.Core.Bool.{Bool, true, false}
-use mathlib.Core.List.{List, [], _∷_, _++_, append-nil}
+use mathlib.Core.List.{List, _++_}
 use Prim.Native.Nat.{ℕ, _-_, _*_, _/_, _%_, min}
 use lib.ListN.{length, drop}
 use lib.Dec.{ltb}
 use Rattle.definition.specs.Syntax.{pick}
-use Rattle.definition.specs.Reply.{Reply, reply}
-use Rattle.definition.specs.Memory.{call, reportAfter, workAfter}
+use Rattle.definition.specs.Reply.{Reply}
+use Rattle.definition.specs.Memory.{call}
 use Rattle.definition.specs.Host.{wordsOf, bytesOf, byteReply, numbers, HostCall, hostCall}
-use Rattle.alike.specs.Alike.{Pairing, itself, the, InReplies, Each, none, more, Alike, AlikeQuestions, AlikeReplies, atLabel}
-use Rattle.alike.proofs.Words.{sameLength, joinE}
-use Rattle.alike.proofs.Demand3.{alike, no-literal, no-literal-call}
+use Rattle.alike.specs.Alike.{Pairing, itself, AlikeQuestions, AlikeReplies}
+use Rattle.alike.proofs.Words.{sameLength}
+use Rattle.alike.proofs.Demand3.{alike, calls-alike, no-literal, no-literal-call}
 use Rattle.sized.proofs.Answering.{whole}
 use Rattle.host.specs.Host.{Answered, Checked}
-use Rattle.promises.specs.Common.{SameChecks, SameAnswers, sames, IsAnswer, AlikeChecks, AlikeAnswers}
+use Rattle.promises.specs.Common.{SameChecks, SameAnswers, AlikeChecks, AlikeAnswers}
 use Rattle.promises.proofs.One.{one-check, one-answer}
-
--- ## The words of two replies that are alike
-
-module _ {P : Pairing} where
-  same-words : (ws : List ℕ) → Each (InReplies P) (sames ws) ws ws
-  same-words [] = none
-  same-words (w ∷ ws) = more InReplies.same (same-words ws)
-
-  same-as : {n n′ : ℕ} → n ≡ n′ → InReplies P (the n) n n′
-  same-as {n} e = rw (← e) InReplies.same
-
-  -- the four numbers, the report, and words that stay
-  pub told : {R R′ : Reply} → AlikeReplies P R R′ → (rest : List ℕ) → Alike (InReplies P) IsAnswer (numbers R ++ (R .report ++ rest)) (numbers R′ ++ (R′ .report ++ rest))
-  unfolding numbers
-  told {R} {R′} a rest = record {
-    labels = the (R .code) ∷ atLabel (R .code) (R .at) ∷ the (R .len) ∷ the (R .units) ∷ a .report .labels ++ sames rest;
-    format = IsAnswer.answer (R .code) (R .at) (a .report .format) rest;
-    words = more (same-as (a .code)) (more (a .at) (more (same-as (a .len)) (more (same-as (a .units)) (joinE (a .report .words) (same-words rest)))));
-  }
 
 -- ## sporeflask_check
 
 -- the same budget, work and report slice
 pub checks-alike : {P : Pairing} {q q′ : List ℕ} → AlikeQuestions P q q′ → {budget : ℕ} {w s w₁ w₂ s₁ s₂ n₁ n₂ : List ℕ} {r₁ r₂ : ℕ}
     → Checked budget q w w₁ s s₁ n₁ r₁ → Checked budget q′ w w₂ s s₂ n₂ r₂ → AlikeChecks P r₁ r₂ n₁ n₂ s₁ s₂ w₁ w₂
-unfolding call reportAfter workAfter
 checks-alike {P} {q} {q′} h {budget} {w} {s} a b =
-    let x = alike h budget (length w) (length s) in
-    let R : Reply = reply budget (length w) (length s) q in
-    let R′ : Reply = reply budget (length w) (length s) q′ in
-    let l : length (R .report) ≡ length (R′ .report) = sameLength (x .report .words) in
+    let c = calls-alike h budget w s in
     record {
-      returns = a .returns ∙ x .code ∙ sym (b .returns);
-      answer = rw (a .four, b .four, a .report, b .report, ← l) (told x (drop (length (R .report)) s));
-      work = a .work ∙ rw (x .code) (sym (b .work));
+      one = call budget q w s .answered;
+      other = call budget q′ w s .answered;
+      alike = c .answered;
+      returns = (a .returns, b .returns);
+      four = (a .four, b .four);
+      rest = c .rest;
+      report = (a .report ∙ c .reportSlice, b .report ∙ c .reportSlice′);
+      work = a .work ∙ c .workSlice ∙ sym (b .work);
     }
 
 -- "No such reply depends on a literal's value."
@@ -70,19 +52,13 @@ handed short R s =
     (record { returns = 8; replySlice = s })
     (record { returns = R .code; replySlice = bytesOf ws ++ drop (4 * length ws) s })
 
-module _ {P : Pairing} where
-  in-bytes : {c c′ : ℕ} {ws ws′ : List ℕ} (rest : List ℕ) → c ≡ c′ → Alike (InReplies P) IsAnswer (c ∷ ws) (c′ ∷ ws′)
-      → AlikeAnswers P c c′ (bytesOf (c ∷ ws) ++ rest) (bytesOf (c′ ∷ ws′) ++ rest)
-  in-bytes {c} {c′} {ws} {ws′} rest e a = rw (← e) (AlikeAnswers.told c ws ws′ rest (rw (← e) at a))
-
-  handed-alike : (short : Bool) {R R′ : Reply} (s : List ℕ) → AlikeReplies P R R′
-      → AlikeAnswers P (handed short R s .returns) (handed short R′ s .returns) (handed short R s .replySlice) (handed short R′ s .replySlice)
-  unfolding pick numbers
-  handed-alike true s a = AlikeAnswers.short
-  handed-alike false {R} {R′} s a =
-      let l : length (R .report) ≡ length (R′ .report) = sameLength (a .report .words) in
-      let t = rw (append-nil (R .report), append-nil (R′ .report)) at (told a []) in
-      rw (← l) (in-bytes (drop (4 * length (numbers R ++ R .report)) s) (a .code) t)
+handed-alike : {P : Pairing} (short : Bool) {R R′ : Reply} (s : List ℕ) → AlikeReplies P R R′
+    → AlikeAnswers P (handed short R s .returns) (handed short R′ s .returns) (handed short R s .replySlice) (handed short R′ s .replySlice)
+unfolding pick numbers
+handed-alike true s a = AlikeAnswers.short
+handed-alike false {R} {R′} s a =
+    let l : length (R .report) ≡ length (R′ .report) = sameLength (a .report .words) in
+    rw (← l) (AlikeAnswers.told a _)
 
 -- bytes that are whole words, of questions alike
 pub answers-alike : {P : Pairing} {b b′ : List ℕ} → length b % 4 ≡ 0 → length b′ % 4 ≡ 0
