@@ -43,7 +43,7 @@ charge-upto : (b c : ℕ) → Upto b (Unit {0}) (charge c) (charge c)
 charge-upto b c l n h =
     (refl, elim (decLe c l) [ yes k ↦ rw (charge-yes c l n k) (omega arith) | no k ↦ rw (charge-no c l n (lt-of-not-le k)) tt ])
 
-upto : (b : ℕ) → Closed (Upto b)
+pub upto : (b : ℕ) → Closed (Upto b)
 unfolding give refuse fresh _>>=_
 upto b = record {
   giveR = λ a l n h. (refl, le-refl l);
@@ -91,7 +91,7 @@ applyTo-upto (suc b) (suc d) (suc d′) h h′ Γ A =
     (applyTo-upto b d d′ (le-of-suc-le-suc h) (le-of-suc-le-suc h′) Γ) A)
 
 -- `apply` at any depth that is enough
-apply-upto : (b d : ℕ) → b ≤ d → (Γ : Ctx) (A : Ty) → Upto b Ty (applyTo d Γ A) (apply Γ A)
+pub apply-upto : (b d : ℕ) → b ≤ d → (Γ : Ctx) (A : Ty) → Upto b Ty (applyTo d Γ A) (apply Γ A)
 unfolding apply
 apply-upto b d h Γ A l n k = applyTo-upto l d l (omega arith) (le-refl l) Γ A l n (le-refl l)
 
@@ -136,7 +136,7 @@ judgeTo-upto m (suc b) (suc d) (suc d′) h h′ j =
     judgeStep-upto b m (λ i l n. judgeTo m d i l n) (λ i l n. judgeTo m d′ i l n)
     (judgeTo-upto m b d d′ (le-of-suc-le-suc h) (le-of-suc-le-suc h′)) j
 
-judge-upto : (m : Mode) (b : ℕ) (j : Judgement) → Upto b Result (judgeTo m b j) (judge m j)
+pub judge-upto : (m : Mode) (b : ℕ) (j : Judgement) → Upto b Result (judgeTo m b j) (judge m j)
 unfolding judge
 judge-upto m b j l n k = judgeTo-upto m l b l k (le-refl l) j l n (le-refl l)
 

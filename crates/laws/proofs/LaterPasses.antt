@@ -3,13 +3,14 @@
 use mathlib.Core.Path.{_≡_, refl, ap, _∙_}
 use Prim.Native.Nat.{ℕ, zero, suc, _+_, _-_, _≤_}
 use native.Mathlib.Omega.{arith}
-use native.Mathlib.Nat.{not-suc-le-zero}
+use native.Mathlib.Nat.{not-suc-le-zero, lt-of-not-le}
+use native.Mathlib.Decide.{decLe}
 use mathlib.Core.Option.{Option, none, some}
 use Rattle.definition.specs.Syntax.{Ty, int, bool, var, etvar, arrow, forall, Ctx}
 use Rattle.definition.specs.Run.{Out, done, fail, stop, M, andThen, _>>=_, give, halt, charge}
 use Rattle.definition.specs.Contexts.{kSETVar, find}
 use Rattle.definition.specs.Types.{solutionOr, applyStep, applyTo, apply}
-use Rattle.laws.proofs.Steps.{charge-yes, bind-done}
+use Rattle.laws.proofs.Steps.{charge-yes, charge-no, bind-done}
 
 -- every unknown of A is unsolved in Γ
 abbrev pub Normal : Ctx → Ty → Type 0
@@ -20,10 +21,10 @@ Normal Γ (etvar a) = find (kSETVar a) Γ ≡ none
 Normal Γ (arrow A B) = Normal Γ A × Normal Γ B
 Normal Γ (forall a A) = Normal Γ A
 
--- whatever a run gives is such
+-- whatever a run gives is such, and it refuses nothing
 abbrev pub Holds : {A : Type 0} → (A → Type 0) → Out A → Type 0
 Holds P (done a l n) = P a
-Holds P (fail e l) = Unit {0}
+Holds P (fail e l) = ⊥
 Holds P stop = Unit {0}
 
 abbrev pub Gives : {A : Type 0} → (A → Type 0) → M A → Type 0
@@ -33,7 +34,7 @@ andThen-holds : {A B : Type 0} (P : A → Type 0) (Q : B → Type 0) (o : Out A)
     → Holds Q (andThen o f)
 unfolding andThen
 andThen-holds P Q (done a l n) f p h = h a p l n
-andThen-holds P Q (fail e l) f p h = tt
+andThen-holds P Q (fail e l) f p h = absurd p
 andThen-holds P Q stop f p h = tt
 
 bind-gives : {A B : Type 0} (P : A → Type 0) (Q : B → Type 0) (m : M A) (f : A → M B) → Gives P m → ((a : A) → P a → Gives Q (f a))
@@ -41,13 +42,8 @@ bind-gives : {A B : Type 0} (P : A → Type 0) (Q : B → Type 0) (m : M A) (f :
 unfolding _>>=_
 bind-gives P Q m f hm hf l n = andThen-holds P Q (m l n) f (hm l n) hf
 
-any-gives : {A : Type 0} (m : M A) → Gives (λ a. Unit {0}) m
-any-gives {A} m l n = go (m l n)
-  where
-    go : (o : Out A) → Holds (λ a. Unit {0}) o
-    go (done a l n) = tt
-    go (fail e l) = tt
-    go stop = tt
+pub charge-gives : (c : ℕ) → Gives (λ u. Unit {0}) (charge c)
+charge-gives c l n = elim (decLe c l) [ yes h ↦ rw (charge-yes c l n h) tt | no h ↦ rw (charge-no c l n (lt-of-not-le h)) tt ]
 
 module _ (Γ : Ctx) where
   step-normal : (ap : Ty → M Ty) → ((A : Ty) → Gives (Normal Γ) (ap A)) → (A : Ty) → Gives (Normal Γ) (applyStep Γ ap A)
@@ -69,7 +65,7 @@ module _ (Γ : Ctx) where
   unfolding applyTo halt
   applyTo-normal zero A = λ l n. tt
   applyTo-normal (suc d) A =
-      bind-gives (λ u. Unit {0}) (Normal Γ) (charge 1) _ (any-gives (charge 1))
+      bind-gives (λ u. Unit {0}) (Normal Γ) (charge 1) _ (charge-gives 1)
       (λ u t. step-normal (λ B l n. applyTo d Γ B l n) (applyTo-normal d) A)
 
   -- the calls that a pass over a normal type makes

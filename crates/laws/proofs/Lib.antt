@@ -4,4 +4,6 @@ pub mod Steps
 pub mod Congruence
 pub mod Depth
 pub mod LaterPasses
+pub mod Budgets
+pub mod Count
 pub mod Endless

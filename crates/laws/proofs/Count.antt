@@ -1,0 +1,182 @@
+-- The count of a run: one at most, and found by one budget that is enough. 6 is given exactly where there is none or it passes the budget, and
+-- otherwise a reply's units are it.
+use mathlib.Core.Path.{_≡_, refl, sym, ap, _∙_}
+use mathlib.Core.Logic.{_↔_, _≢_}
+use mathlib.Core.Option.{Option, none, some, Option·none-ne-some, Option·some-ne-none}
+use Prim.Native.Nat.{ℕ, _+_, _-_, _≤_, _<_}
+use native.Mathlib.Omega.{arith}
+use native.Mathlib.Nat.{lt-of-not-le, not-suc-le-zero}
+use native.Mathlib.Decide.{decLe}
+use mathlib.Core.Bool.{Bool, true, false, _||_}
+use mathlib.Core.List.{List, [], _∷_}
+use lib.ListN.{length}
+use lib.Dec.{leb, ltb, eqb}
+use mir.Facts.{yes-leb, no-leb, no-eqb, no-ltb}
+use Rattle.definition.specs.Syntax.{pick, TypeError, unboundVariable, applicationTypeError, typeApplicationError, occursCheck, subtypingError, instantiationError, parameterMismatch}
+use Rattle.definition.specs.Question.{Read, got, fault, Question, readQuestion, question-computes}
+use Rattle.definition.specs.Run.{Out, done, fail, stop, M, andThen, _>>=_, give, refuse, charge}
+use Rattle.definition.specs.Rules.{Result}
+use Rattle.definition.specs.Reply.{Reply, refusal, reported, errorCode, answer, outReply, readReply, workWords, reply}
+use Rattle.laws.specs.Count.{charged, upTo, Count, countTo, Passes, Asks}
+use Rattle.laws.proofs.Steps.{is-true, is-false, pick-true, pick-false, charge-yes, charge-no}
+use Rattle.laws.proofs.Budgets.{late, Steady, smaller, answer-steady}
+
+-- ## A count as far as a budget goes
+
+enough : (l u : ℕ) → u ≤ l → upTo l (some u) ≡ some u
+unfolding upTo
+enough l u h = pick-true _ _ (is-true (leb u l) (yes-leb h))
+
+passed : (l : ℕ) (c : Option ℕ) → Passes l c → upTo l c ≡ none
+unfolding upTo
+passed l none h = refl
+passed l (some u) h = pick-false _ _ (is-false (leb u l) (no-leb h))
+
+passes : (l : ℕ) (c : Option ℕ) → upTo l c ≡ none → Passes l c
+passes l none e = tt
+passes l (some u) e = elim (decLe u l) [ yes h ↦ absurd (Option·some-ne-none u (sym (enough l u h) ∙ e)) | no h ↦ lt-of-not-le h ]
+
+-- a count that l is enough for, as far as more goes
+further : (l l′ u : ℕ) (c : Option ℕ) → l ≤ l′ → upTo l c ≡ some u → c ≡ upTo l′ (some u)
+unfolding upTo
+further l l′ u none h e = absurd (Option·none-ne-some u e)
+further l l′ u (some v) h e =
+    elim (decLe v l) [
+      | yes i ↦ let s : some v ≡ some u = sym (enough l v i) ∙ e in sym (enough l′ v (omega arith)) ∙ ap (upTo l′) s
+      | no i ↦ absurd (Option·none-ne-some u (sym (passed l (some v) (lt-of-not-le i)) ∙ e))
+    ]
+
+-- ## A run has one count at most
+
+needs : Option ℕ → ℕ
+needs none = 0
+needs (some u) = u
+
+all-of : (c : Option ℕ) (l : ℕ) → needs c ≤ l → upTo l c ≡ c
+unfolding needs upTo
+all-of none l h = refl
+all-of (some u) l h = enough l u h
+
+pub one-count : {A : Type 0} {m : M A} {n : ℕ} {c c′ : Option ℕ} → Count m n c → Count m n c′ → c ≡ c′
+one-count {c = c} {c′} h h′ =
+    let l : ℕ = needs c + needs c′ in
+    sym (all-of c l (omega arith)) ∙ sym (h .at l) ∙ h′ .at l ∙ all-of c′ l (omega arith)
+
+-- ## What one budget is charged tells the count
+
+charged-late : {A : Type 0} (l k : ℕ) (o : Out A) → l ≤ k → charged l (late (k - l) o) ≡ upTo l (charged k o)
+unfolding charged late give refuse _>>=_ andThen upTo
+charged-late {A} l k o h = go o
+  where
+    ends : (x : M A) → ((r n : ℕ) → charged l (x r n) ≡ some (l - r)) → (r n : ℕ) → charged l ((charge (k - l) >>= λ u. x) r n) ≡ upTo l (some (k - r))
+    ends x e r n =
+        elim (decLe (k - l) r) [
+          | yes i ↦
+              let s : l - (r - (k - l)) ≡ k - r = omega arith in
+              rw (charge-yes (k - l) r n i) (e (r - (k - l)) n ∙ ap some s ∙ sym (enough l (k - r) (omega arith)))
+          | no i ↦
+              let j : r < k - l = lt-of-not-le i in
+              rw (charge-no (k - l) r n j) (sym (passed l (some (k - r)) (omega arith)))
+        ]
+
+    go : (o : Out A) → charged l (late (k - l) o) ≡ upTo l (charged k o)
+    go (done a r n) = ends (give a) (λ r n. refl) r n
+    go (fail e r) = ends (refuse e) (λ r n. refl) r 0
+    go stop = refl
+
+charged-smaller : {A : Type 0} {m : M A} → Steady m → (l k n : ℕ) → l ≤ k → charged l (m l n) ≡ upTo l (charged k (m k n))
+charged-smaller {m = m} s l k n h = rw (smaller s l k n h) (charged-late l k (m k n) h)
+
+pub counted : {A : Type 0} {m : M A} → Steady m → (l n u : ℕ) → charged l (m l n) ≡ some u → Count m n (some u)
+counted {m = m} s l n u e = record {
+  at = λ k. elim (decLe k l) [
+    | yes h ↦ charged-smaller s k l n h ∙ ap (upTo k) e
+    | no h ↦ let i : l < k = lt-of-not-le h in further l k u (charged k (m k n)) (omega arith) (sym (charged-smaller s l k n (omega arith)) ∙ e)
+  ];
+}
+
+-- a run that ends at no budget has none
+pub no-count : {A : Type 0} {m : M A} {n : ℕ} → ((l : ℕ) → m l n ≡ stop) → Count m n none
+unfolding charged upTo
+no-count h = record { at = λ l. rw (h l) }
+
+-- ## Replies
+
+-- the reply R to a run that was charged c of the budget b
+data Told (b : ℕ) (R : Reply) : Option ℕ → Type 0 where
+  six : R ≡ refusal 6 0 b → Told b R none
+  other : {u : ℕ} → R .code ≢ 6 → R .units ≡ u → Told b R (some u)
+
+pick-told : {b : ℕ} {c : Option ℕ} (t : Bool) {x y : Reply} → Told b x c → Told b y c → Told b (pick t x y) c
+unfolding pick
+pick-told true h k = h
+pick-told false h k = k
+
+reported-told : (b room c p u : ℕ) (ws : List ℕ) → c ≢ 6 → Told b (reported room c p u ws) (some u)
+unfolding reported
+reported-told b room c p u ws h = pick-told _ (other h refl) (other (λ e. omega (arith, e)) refl)
+
+error-not-6 : (e : TypeError) → errorCode e ≢ 6
+unfolding errorCode
+error-not-6 (unboundVariable x) h = omega (arith, h)
+error-not-6 (applicationTypeError A) h = omega (arith, h)
+error-not-6 (typeApplicationError A) h = omega (arith, h)
+error-not-6 (occursCheck a A) h = omega (arith, h)
+error-not-6 (subtypingError A B) h = omega (arith, h)
+error-not-6 (instantiationError a A) h = omega (arith, h)
+error-not-6 (parameterMismatch A B) h = omega (arith, h)
+
+told : (kind b room : ℕ) (o : Out Result) → Told b (outReply kind b room o) (charged b o)
+unfolding outReply charged
+told kind b room (done r l n) = reported-told b room 0 0 (b - l) _ (λ e. omega (arith, e))
+told kind b room (fail e l) = reported-told b room (errorCode e) _ (b - l) _ (error-not-6 e)
+told kind b room stop = six refl
+
+-- ## Questions
+
+abbrev IsGot : {A : Type 0} → Read A → Type 0
+IsGot (got a p ws) = Unit {0}
+IsGot (fault c p) = ⊥
+
+is-got : {A : Type 0} (r : Read A) {a : A} {p : ℕ} {ws : List ℕ} → r ≡ got a p ws → IsGot r
+is-got r e = rw e tt
+
+some-words : {q : Question} {p : ℕ} {rest : List ℕ} (ws : List ℕ) → readQuestion ws ≡ got q p rest → 1 ≤ length ws
+unfolding question-computes
+some-words [] e = absurd (is-got (readQuestion []) e)
+some-words (w ∷ ws) e = omega arith
+
+within : {high x : ℕ} → 1 ≤ x → x ≤ high → (eqb x 0 || ltb high x) ≡ false
+within {high = high} {x} h k =
+    let p : x ≢ 0 = λ e. not-suc-le-zero (rw e at h) in
+    ap (_|| ltb high x) (is-false (eqb x 0) (no-eqb p)) ∙ is-false (ltb high x) (no-ltb k)
+
+module _ {b w : ℕ} (room : ℕ) {ws : List ℕ} {q : Question} (a : Asks b w ws q) where
+  asked : reply b w room ws ≡ outReply (q .kind) b room (answer q b 0)
+  unfolding reply readReply pick
+  asked = rw (within (a .low) (a .high), is-false (ltb w (workWords b)) (no-ltb (a .enough)), within (some-words ws (a .read)) (a .few), a .read)
+
+  asked-told : Told b (reply b w room ws) (charged b (answer q b 0))
+  asked-told = rw asked (told (q .kind) b room (answer q b 0))
+
+  exactly : {R : Reply} {u : Option ℕ} (c : Option ℕ) → Told b R u → u ≡ upTo b c → (R .code ≡ 6 → Passes b c) × (Passes b c → R ≡ refusal 6 0 b)
+  exactly c (six r) e = (λ _. passes b c (sym e), λ _. r)
+  exactly c (other {u} h r) e = (λ k. absurd (h k), λ p. absurd (Option·some-ne-none u (e ∙ passed b c p)))
+
+  -- "the next charge would pass the budget"
+  pub six-exactly-past-count : {c : Option ℕ} → Count (answer q) 0 c → (reply b w room ws .code ≡ 6 → Passes b c) × (Passes b c → reply b w room ws ≡ refusal 6 0 b)
+  six-exactly-past-count {c} h = exactly c asked-told (h .at b)
+
+  -- the same of a count that computes
+  pub six-exactly-past-8192 : (reply b w room ws .code ≡ 6 → Passes b (countTo 8192 q)) × (Passes b (countTo 8192 q) → reply b w room ws ≡ refusal 6 0 b)
+  unfolding countTo
+  six-exactly-past-8192 = exactly (countTo 8192 q) asked-told (charged-smaller (answer-steady q) b 8192 0 (a .high))
+
+  units : {R : Reply} {u : Option ℕ} → Told b R u → R .code ≢ 6 → u ≡ some (R .units)
+  unfolding refusal
+  units (six r) h = absurd (h (ap (λ R. R .code) r))
+  units (other k r) h = ap some (sym r)
+
+  -- "Units equal this count in the definition."
+  pub units-are-the-count : reply b w room ws .code ≢ 6 → Count (answer q) 0 (some (reply b w room ws .units))
+  units-are-the-count h = counted (answer-steady q) b 0 _ (units asked-told h)

@@ -1,0 +1,51 @@
+-- "Counting work": the count of a run, which no budget changes, and the questions that are run at all.
+use mathlib.Core.Path.{_≡_}
+use mathlib.Core.List.{List}
+use mathlib.Core.Option.{Option, none, some}
+use Prim.Native.Nat.{ℕ, _-_, _≤_, _<_}
+use lib.ListN.{length}
+use lib.Dec.{leb}
+use Rattle.definition.specs.Syntax.{pick}
+use Rattle.definition.specs.Question.{Question, got, readQuestion}
+use Rattle.definition.specs.Run.{Out, done, fail, stop, M}
+use Rattle.definition.specs.Reply.{answer, workWords}
+
+-- ---- "Units .. the total charged"
+
+-- what a run that began with the budget l was charged; none where it ran out
+unfoldable pub charged : {A : Type 0} → ℕ → Out A → Option ℕ
+charged l (done a r n) = some (l - r)
+charged l (fail e r) = some (l - r)
+charged l stop = none
+
+-- a count, where the budget l is enough for it
+unfoldable pub upTo : ℕ → Option ℕ → Option ℕ
+upTo l none = none
+upTo l (some u) = pick (leb u l) (some u) none
+
+-- c is the count of the run m with n fresh names taken, a number or none: every budget that is enough for it is charged it, and every other
+-- runs out
+pub record Count {A : Type 0} (m : M A) (n : ℕ) (c : Option ℕ) : Type 0 where
+  pub at : (l : ℕ) → charged l (m l n) ≡ upTo l c
+
+-- a question's count as far as `most`: none where it is larger, or where there is none
+unfoldable pub countTo : ℕ → Question → Option ℕ
+countTo most q = charged most (answer q most 0)
+
+-- ---- "6 Budget: the next charge would pass the budget"
+
+-- there is no count, or it is larger than the budget l
+abbrev pub Passes : ℕ → Option ℕ → Type 0
+Passes l none = Unit {0}
+Passes l (some u) = l < u
+
+-- ---- "1, 2, 3 are tried in that order; then one reading from left to right": a call that none of 1 to 5 refuses, and its question q
+
+pub record Asks (budget work : ℕ) (ws : List ℕ) (q : Question) : Type 0 where
+  pub low : 1 ≤ budget
+  pub high : budget ≤ 8192
+  pub enough : workWords budget ≤ work
+  pub few : length ws ≤ 2048
+  pub place : ℕ
+  pub rest : List ℕ
+  pub read : readQuestion ws ≡ got q place rest
