@@ -56,7 +56,7 @@ give-steady : {A : Type 0} (a : A) → Steady (give a)
 unfolding late give
 give-steady a = record { early = λ k l n. refl }
 
-charge-steady : (c : ℕ) → Steady (charge c)
+pub charge-steady : (c : ℕ) → Steady (charge c)
 unfolding late _>>=_ andThen give
 charge-steady c = record {
   early = λ k l n. elim (decLe (k + c) l) [
@@ -77,7 +77,7 @@ refuse-steady : {A : Type 0} (e : TypeError) → Steady {A = A} (refuse e)
 unfolding late refuse
 refuse-steady e = record { early = λ k l n. charge-names _ _ n 0 (λ r. refl) k l }
 
-fresh-steady : Steady fresh
+pub fresh-steady : Steady fresh
 unfolding late fresh give
 fresh-steady = record { early = λ k l n. charge-names _ _ n (suc n) (λ r. refl) k l }
 

@@ -1,121 +1,112 @@
--- "A solution that leads back to itself therefore ends in 6", at every allowed budget: document 01's edge, the context SETVarBnd A (ETVar A)
--- with the literal 1 checked against ETVar A.
-use mathlib.Core.Path.{_≡_, refl, ap, _∙_}
-use mathlib.Core.Logic.{_⊎_, inl, inr, _≢_}
-use Prim.Native.Nat.{ℕ, zero, suc, _-_, _≤_}
-use native.Mathlib.Nat.{lt-of-not-le, not-suc-le-zero}
-use native.Mathlib.Decide.{decLe}
-use mathlib.Core.Bool.{false, _||_}
-use mathlib.Core.List.{List, [], _∷_}
-use lib.Dec.{ltb, eqb}
-use Rattle.definition.specs.Syntax.{pick, TyVar, int, etvar, setvarBnd, Ctx, Expr, infer, check, litInt, node, leaf, InfLitInt}
-use Rattle.definition.specs.Question.{plain, got, Question, readQuestion, question-computes}
-use Rattle.definition.specs.Run.{done, stop, M, andThen, _>>=_, give, halt, charge}
+-- "A solution that leads back to itself therefore ends in 6", at every allowed budget, of three questions: document 01's edge, a ring of two,
+-- and a ring that the run itself makes (DIFFERENCES, R2).
+use mathlib.Core.Path.{_≡_, refl}
+use Prim.Native.Nat.{ℕ, _≤_}
+use native.Mathlib.Nat.{le-refl}
+use mathlib.Core.List.{[], _∷_}
+use lib.Dec.{lit≤}
+use Rattle.definition.specs.Syntax.{pick, TyVar, Ty, int, etvar, arrow, setvarBnd, etvarBnd, Ctx, onL, infer, check, inst, litInt, Judgement, Tree, node, leaf, onR, InstRSolve}
+use Rattle.definition.specs.Question.{plain, Question, question-computes}
+use Rattle.definition.specs.Run.{done, fresh}
 use Rattle.definition.specs.Contexts.{contexts-compute}
-use Rattle.definition.specs.Types.{applyStep, solutionOr, applyTo, apply}
-use Rattle.definition.specs.Rules.{Result, _orElse_, when, on, onBoth, exprCode, tyCode, asAbs, asArrow, asForall, chkSub, checkRule, inferRule, rule, judgeStep, judge}
-use Rattle.definition.specs.Reply.{refusal, reply, readReply, answer, outReply, workWords}
-use mir.Facts.{no-ltb, no-eqb}
-use Rattle.laws.proofs.Steps.{charge-yes, charge-no, is-false}
-use Rattle.laws.proofs.Depth.{apply-eq, judge-eq}
+use Rattle.definition.specs.Types.{apply}
+use Rattle.definition.specs.Rules.{Result, _orElse_, when, on, onBoth, exprCode, tyCode, asAbs, asArrow, asForall, other, split, instArrow, instRule, chkSub, checkRule, rule, judgeStep, judge, rules-compute}
+use Rattle.definition.specs.Reply.{refusal, reply, answer, workWords}
+use Rattle.laws.specs.Count.{Asks}
+use Rattle.laws.specs.Rings.{Leads, here, follow, left, right, Ring, Applies, itself, first, after, judging}
+use Rattle.laws.proofs.Steps.{charge-yes}
+use Rattle.laws.proofs.Budgets.{charge-steady, fresh-steady, apply-steady, judge-steady}
+use Rattle.laws.proofs.Rings.{gives, ring-gets-6}
 
--- ## Runs that stop whatever the budget, and runs that give one value or stop
+abbrev name : ℕ → TyVar
+name k = record { number = k }
 
-record Never {A : Type 0} (m : M A) : Type 0 where
-  stops : (l n : ℕ) → m l n ≡ stop
+-- ## A literal against an unknown: it is inferred, and ChkSub applies the context to its type and to the unknown
 
-record Only {A : Type 0} (a : A) (m : M A) : Type 0 where
-  ends : (l n : ℕ) → (m l n ≡ stop) ⊎ ((l′ : ℕ) × (n′ : ℕ) × (m l n ≡ done a l′ n′))
+abbrev literal : Ctx → ℕ → TyVar → Question
+literal Γ p b = record { kind = 2; manner = plain; asks = check Γ (litInt p 1 0) (etvar b) }
 
-charge-only : (c : ℕ) → Only tt (charge c)
-charge-only c = record {
-  ends = λ l n. elim (decLe c l) [ yes h ↦ inr (l - c, n, charge-yes c l n h) | no h ↦ inl (charge-no c l n (lt-of-not-le h)) ];
-}
+literal-applies : (Γ : Ctx) (p : ℕ) (b : TyVar) {t : Tree} (l : ℕ) {r k : ℕ} → judge plain (infer Γ (litInt p 1 0)) l 0 ≡ done (int, Γ, t) r 0
+    → apply Γ int 1 0 ≡ done int k 0 → Applies Γ (etvar b) Result (answer (literal Γ p b)) 0
+unfolding answer judgeStep rule checkRule _orElse_ when on onBoth exprCode tyCode asAbs asArrow asForall pick chkSub
+literal-applies Γ p b l e i =
+    judging plain _ (after _ (gives (charge-steady _) (charge-yes _ _ 0 (le-refl _))) (first _
+    (after _ (gives (judge-steady plain (infer Γ (litInt p 1 0))) e)
+    (after _ (gives (apply-steady Γ int) i)
+    (first _ itself)))))
 
-give-only : {A : Type 0} (a : A) → Only a (give a)
-unfolding give
-give-only a = record { ends = λ l n. inr (l, n, refl) }
+-- ## Document 01's edge: "context SETVarBnd A (ETVar A), kind 2, literal 1 against ETVar A gives 6 at every allowed budget"
 
-bind-only : {A B : Type 0} {a : A} {b : B} {m : M A} (f : A → M B) → Only a m → Only b (f a) → Only b (m >>= f)
-unfolding _>>=_ andThen
-bind-only f h k = record { ends = λ l n. elim (h .ends l n) [ inl e ↦ inl (rw e) | inr r ↦ rw (r .2) (k .ends (r .0) (r .1)) ] }
+abbrev itsOwn : Ctx
+itsOwn = setvarBnd (name 1) (etvar (name 1)) ∷ []
 
-bind-never : {A B : Type 0} {a : A} {m : M A} (f : A → M B) → Only a m → Never (f a) → Never (m >>= f)
-unfolding _>>=_ andThen
-bind-never f h k = record { stops = λ l n. elim (h .ends l n) [ inl e ↦ rw e | inr r ↦ rw (r .2) (k .stops (r .0) (r .1)) ] }
+itsOwn-ring : Ring itsOwn (name 1)
+unfolding contexts-compute
+itsOwn-ring = record { solution = etvar (name 1); solved = refl; back = here }
 
-never-bind : {A B : Type 0} {m : M A} (f : A → M B) → Never m → Never (m >>= f)
-unfolding _>>=_ andThen
-never-bind f h = record { stops = λ l n. rw (h .stops l n) }
-
--- ## The question's judgement
-
-name : TyVar
-name = record { number = 1 }
-
-looping : Ctx
-looping = setvarBnd name (etvar name) ∷ []
-
-literal : Expr
-literal = litInt 8 1 0
-
-applyTo-never : (d : ℕ) → Never (applyTo d looping (etvar name))
-unfolding applyTo halt looping name applyStep solutionOr contexts-compute
-applyTo-never zero = record { stops = λ l n. refl }
-applyTo-never (suc d) = bind-never _ (charge-only 1) (record { stops = λ l n. applyTo-never d .stops l n })
-
-apply-never : Never (apply looping (etvar name))
-unfolding apply
-apply-never = record { stops = λ l n. applyTo-never l .stops l n }
-
-apply-int : Only int (apply looping int)
-unfolding applyStep
-apply-int = record {
-  ends = λ l n.
-      let r : Only int (charge 1 >>= λ u. applyStep looping (apply looping) int) = bind-only _ (charge-only 1) (give-only int) in
-      rw (apply-eq looping int l n) (r .ends l n);
-}
-
-inferred : Result
-inferred = (int, looping, node InfLitInt (infer looping literal) int looping leaf)
-
-infer-only : Only inferred (judge plain (infer looping literal))
-unfolding inferred literal judgeStep rule inferRule
-infer-only = record {
-  ends = λ l n.
-      let r : Only inferred (judgeStep plain (judge plain) (infer looping literal)) =
-      bind-only _ (charge-only _) (bind-only _ (give-only _) (bind-only _ (charge-only _) (give-only inferred))) in
-      rw (judge-eq plain (infer looping literal) l n) (r .ends l n);
-}
-
-check-never : Never (judge plain (check looping literal (etvar name)))
-unfolding inferred literal judgeStep rule checkRule _orElse_ when on onBoth exprCode tyCode asAbs asArrow asForall pick chkSub
-check-never = record {
-  stops = λ l n.
-      let r : Never (judgeStep plain (judge plain) (check looping literal (etvar name))) =
-      bind-never _ (charge-only _) (never-bind _ (bind-never _ infer-only (bind-never _ apply-int (never-bind _ apply-never)))) in
-      rw (judge-eq plain (check looping literal (etvar name)) l n) (r .stops l n);
-}
-
--- ## Its reply
-
-words : List ℕ
-words = 2 ∷ 0 ∷ 4 ∷ 35 ∷ 1 ∷ 4 ∷ 1 ∷ 3 ∷ 22 ∷ 1 ∷ 0 ∷ 0 ∷ 2 ∷ 4 ∷ 1 ∷ []
-
-asked : Question
-asked = record { kind = 2; manner = plain; asks = check looping literal (etvar name) }
-
-read-words : readQuestion words ≡ got asked 15 []
-unfolding words asked looping literal name question-computes
-read-words = refl
-
-allowed : (budget : ℕ) → 1 ≤ budget → budget ≤ 8192 → (eqb budget 0 || ltb 8192 budget) ≡ false
-allowed budget h k =
-    let p : budget ≢ 0 = λ e. not-suc-le-zero (rw e at h) in
-    ap (_|| ltb 8192 budget) (is-false (eqb budget 0) (no-eqb p)) ∙ is-false (ltb 8192 budget) (no-ltb k)
+itsOwn-applies : Applies itsOwn (etvar (name 1)) Result (answer (literal itsOwn 8 (name 1))) 0
+unfolding rules-compute
+itsOwn-applies = literal-applies itsOwn 8 (name 1) 3 refl refl
 
 pub endless : (budget work room : ℕ) → 1 ≤ budget → budget ≤ 8192 → workWords budget ≤ work
     → reply budget work room (2 ∷ 0 ∷ 4 ∷ 35 ∷ 1 ∷ 4 ∷ 1 ∷ 3 ∷ 22 ∷ 1 ∷ 0 ∷ 0 ∷ 2 ∷ 4 ∷ 1 ∷ []) ≡ refusal 6 0 budget
-unfolding reply readReply answer outReply pick asked words
+unfolding question-computes
 endless budget work room h k w =
-    rw (allowed budget h k, is-false (ltb work (workWords budget)) (no-ltb w), read-words, check-never .stops budget 0)
+    ring-gets-6 itsOwn-ring here itsOwn-applies (record { low = h; high = k; enough = w; few = lit≤ tt; place = 15; rest = []; read = refl }) room
+
+-- ## A ring of two: ^1 is ^2, ^2 is Int to ^1; the literal 1 against ^1
+
+abbrev two : Ctx
+two = setvarBnd (name 1) (etvar (name 2)) ∷ setvarBnd (name 2) (arrow int (etvar (name 1))) ∷ []
+
+two-ring : Ring two (name 1)
+unfolding contexts-compute
+two-ring = record { solution = etvar (name 2); solved = refl; back = follow refl (right here) }
+
+two-applies : Applies two (etvar (name 1)) Result (answer (literal two 14 (name 1))) 0
+unfolding rules-compute
+two-applies = literal-applies two 14 (name 1) 5 refl refl
+
+pub ring-of-two : (budget work room : ℕ) → 1 ≤ budget → budget ≤ 8192 → workWords budget ≤ work
+    → reply budget work room (2 ∷ 0 ∷ 10 ∷ 35 ∷ 1 ∷ 4 ∷ 2 ∷ 35 ∷ 2 ∷ 5 ∷ 1 ∷ 4 ∷ 1 ∷ 3 ∷ 22 ∷ 1 ∷ 0 ∷ 0 ∷ 2 ∷ 4 ∷ 1 ∷ []) ≡ refusal 6 0 budget
+unfolding question-computes
+ring-of-two budget work room h k w =
+    ring-gets-6 two-ring here two-applies (record { low = h; high = k; enough = w; few = lit≤ tt; place = 21; rest = []; read = refl }) room
+
+-- ## A ring made on the way: ^1 against ^1 to ^1, with ^1 unsolved. InstLArr solves ^1 as ^b to ^c and ^b as ^1, and applies that to ^1
+
+abbrev unsolved : Question
+unsolved = record { kind = 5; manner = plain; asks = inst onL (etvarBnd (name 1) ∷ []) (name 1) (arrow (etvar (name 1)) (etvar (name 1))) }
+
+abbrev made : Ctx
+made =
+    setvarBnd (name 1) (arrow (etvar (name 1_000_000)) (etvar (name 1_000_001)))
+    ∷ setvarBnd (name 1_000_000) (etvar (name 1))
+    ∷ etvarBnd (name 1_000_001)
+    ∷ []
+
+made-ring : Ring made (name 1)
+unfolding contexts-compute
+made-ring = record { solution = arrow (etvar (name 1_000_000)) (etvar (name 1_000_001)); solved = refl; back = left (follow refl here) }
+
+halfway : Judgement
+halfway = inst onR (split (name 1) (name 1_000_000) (name 1_000_001) (etvarBnd (name 1) ∷ [])) (name 1_000_000) (etvar (name 1))
+
+half : judge plain halfway 7 2 ≡ done (int, made, node InstRSolve halfway int made leaf) 0 2
+unfolding rules-compute halfway
+half = refl
+
+made-applies : Applies made (etvar (name 1)) Result (answer unsolved) 0
+unfolding answer judgeStep rule instRule instArrow other pick halfway fresh
+made-applies =
+    judging plain _ (after _ (gives (charge-steady _) (charge-yes _ _ 0 (le-refl _))) (first _
+    (after _ (gives fresh-steady {l = 0} refl)
+    (after _ (gives fresh-steady {l = 0} refl)
+    (after _ (gives (judge-steady plain halfway) half)
+    (first _ itself))))))
+
+pub ring-made : (budget work room : ℕ) → 1 ≤ budget → budget ≤ 8192 → workWords budget ≤ work
+    → reply budget work room (5 ∷ 0 ∷ 2 ∷ 34 ∷ 1 ∷ 0 ∷ 2 ∷ 4 ∷ 1 ∷ 5 ∷ 5 ∷ 4 ∷ 1 ∷ 4 ∷ 1 ∷ []) ≡ refusal 6 0 budget
+unfolding question-computes
+ring-made budget work room h k w =
+    ring-gets-6 made-ring here made-applies (record { low = h; high = k; enough = w; few = lit≤ tt; place = 15; rest = []; read = refl }) room

@@ -6,4 +6,5 @@ pub mod Depth
 pub mod LaterPasses
 pub mod Budgets
 pub mod Count
+pub mod Rings
 pub mod Endless
