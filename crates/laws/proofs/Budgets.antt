@@ -1,6 +1,8 @@
 -- What a run does with another budget. A run is steady if it is the same to it whether something is charged before it or at its end: k less
 -- to begin with is k less left. Every run of the definition is.
 use mathlib.Core.Path.{_≡_, refl, sym, ap, _∙_}
+use mathlib.Core.Logic.{_⊎_, inl, inr, _≢_}
+use mathlib.Core.Option.{Option·some-ne-none}
 use Prim.Native.Nat.{ℕ, zero, suc, _+_, _-_, _≤_, _<_}
 use native.Mathlib.Omega.{arith}
 use native.Mathlib.Nat.{lt-of-not-le, le-refl}
@@ -11,11 +13,13 @@ use lib.Dec.{leb, eqb}
 use Rattle.definition.specs.Syntax.{pick, TypeError, TyVar, Ty, Ctx, Judgement, given}
 use Rattle.definition.specs.Question.{Mode, Question}
 use Rattle.definition.specs.Run.{Out, done, fail, stop, M, andThen, _>>=_, give, refuse, halt, charge, fresh}
-use Rattle.definition.specs.Types.{applyTo, apply}
+use Rattle.definition.specs.Types.{subst, applyTo, apply}
 use Rattle.definition.specs.Rules.{Result, judgeStep, judgeTo, judge}
 use Rattle.definition.specs.Reply.{answer}
+use Rattle.laws.specs.Count.{charged}
+use Rattle.laws.specs.Rings.{Yields}
 use Rattle.laws.proofs.Steps.{charge-yes, charge-no}
-use Rattle.laws.proofs.Congruence.{Rel, Closed, applyStepR, ruleR}
+use Rattle.laws.proofs.Congruence.{Rel, Closed, substR, applyStepR, ruleR}
 use Rattle.laws.proofs.Depth.{Upto, upto, apply-upto, judge-upto}
 
 -- an end that is charged k more
@@ -26,13 +30,6 @@ late k stop = stop
 
 pub record Steady {A : Type 0} (m : M A) : Type 0 where
   pub early : (k l n : ℕ) → (charge k >>= λ u. m) l n ≡ late k (m l n)
-
--- a smaller budget's end, by a larger one's
-pub smaller : {A : Type 0} {m : M A} → Steady m → (l k n : ℕ) → l ≤ k → m l n ≡ late (k - l) (m k n)
-unfolding _>>=_ andThen
-smaller s l k n h =
-    let e : k - (k - l) ≡ l = omega arith in
-    rw (charge-yes (k - l) k n (omega arith), e) at (s .early (k - l) k n)
 
 -- ## A relation that every rule keeps
 
@@ -56,7 +53,7 @@ give-steady : {A : Type 0} (a : A) → Steady (give a)
 unfolding late give
 give-steady a = record { early = λ k l n. refl }
 
-pub charge-steady : (c : ℕ) → Steady (charge c)
+charge-steady : (c : ℕ) → Steady (charge c)
 unfolding late _>>=_ andThen give
 charge-steady c = record {
   early = λ k l n. elim (decLe (k + c) l) [
@@ -134,6 +131,9 @@ judgeTo-steady m (suc d) j =
     (ruleR Each each apply-steady _ (λ i l n. judgeTo m d i l n) (judgeTo-steady m d) m j)
     (λ r. bind-steady (charge-steady _) (λ v. give-steady _)))
 
+pub subst-steady : (a : TyVar) (R A : Ty) → Steady (subst a R A)
+subst-steady a R A = substR Each each a R A
+
 -- each of the six judgements, in every mode
 pub judge-steady : (m : Mode) (j : Judgement) → Steady (judge m j)
 judge-steady m j = from-depths (λ d. judgeTo m d j) (judge m j) (λ d. judgeTo-steady m d j) (λ d. judge-upto m d j)
@@ -149,3 +149,51 @@ unfolding answer
 answer-steady q =
     let h : Steady (judge (q .manner) (q .asks)) = judge-steady (q .manner) (q .asks) in
     pick-steady (eqb (q .kind) 7) (bind-steady h (λ r. bind-steady (apply-steady _ _) (λ A. give-steady _))) h
+
+-- ## One budget's end tells another's
+
+pub smaller : {A : Type 0} {m : M A} → Steady m → (l k n : ℕ) → l ≤ k → m l n ≡ late (k - l) (m k n)
+unfolding _>>=_ andThen
+smaller s l k n h =
+    let e : k - (k - l) ≡ l = omega arith in
+    rw (charge-yes (k - l) k n (omega arith), e) at (s .early (k - l) k n)
+
+-- an end with k more left: what `late` takes, unless all is gone
+raise : {A : Type 0} → ℕ → Out A → Out A
+raise k (done a l n) = done a (l + k) n
+raise k (fail e l) = fail e (l + k)
+raise k stop = stop
+
+again : {k l : ℕ} → k ≤ l → l ≡ l - k + k
+again h = omega arith
+
+raise-late : {A : Type 0} (k : ℕ) (o : Out A) → (late k o ≡ stop) ⊎ (o ≡ raise k (late k o))
+unfolding late raise _>>=_ andThen give refuse
+raise-late k (done a l n) = elim (decLe k l) [ yes h ↦ rw (charge-yes k l n h) (inr (ap (λ r. done a r n) (again h))) | no h ↦ inl (rw (charge-no k l n (lt-of-not-le h))) ]
+raise-late k (fail e l) = elim (decLe k l) [ yes h ↦ rw (charge-yes k l 0 h) (inr (ap (λ r. fail e r) (again h))) | no h ↦ inl (rw (charge-no k l 0 (lt-of-not-le h))) ]
+raise-late k stop = inl refl
+
+not-stop : {A : Type 0} {o : Out A} {a : A} {l n : ℕ} → o ≡ done a l n → o ≢ stop
+unfolding charged
+not-stop e s = Option·some-ne-none _ (ap (charged 0) (sym e ∙ s))
+
+-- what the budget u is just enough for, every budget that is enough yields
+pub yields : {B : Type 0} {x : M B} → Steady x → (u : ℕ) {n n′ : ℕ} {b : B} → x u n ≡ done b 0 n′ → Yields x n b n′
+unfolding late raise _>>=_ andThen give
+yields {x = x} s u {n} {n′} {b} e = record {
+  units = u;
+  same = λ l. elim (decLe u l) [
+    | yes h ↦
+        let z : late (l - u) (x l n) ≡ done b 0 n′ = sym (smaller s u l n h) ∙ e in
+        let r : 0 + (l - u) ≡ l - u = omega arith in
+        rw (charge-yes u l n′ h, ← r) (elim (raise-late (l - u) (x l n)) [ inl y ↦ absurd (not-stop z y) | inr y ↦ y ∙ ap (raise (l - u)) z ])
+    | no h ↦
+        let i : l < u = lt-of-not-le h in
+        rw (smaller s l u n (omega arith), e, charge-no (u - l) 0 n′ (omega arith), charge-no u l n′ i)
+  ];
+}
+
+pub charge-yields : (c n : ℕ) → Yields (charge c) n tt n
+charge-yields c n =
+    let z : c - c ≡ 0 = omega arith in
+    yields (charge-steady c) c (charge-yes c c n (le-refl c) ∙ ap (λ r. done tt r n) z)

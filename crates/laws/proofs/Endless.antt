@@ -15,8 +15,8 @@ use Rattle.definition.specs.Reply.{refusal, reply, answer, workWords}
 use Rattle.laws.specs.Count.{Asks}
 use Rattle.laws.specs.Rings.{Leads, here, follow, left, right, Ring, Applies, itself, first, after, judging}
 use Rattle.laws.proofs.Steps.{charge-yes}
-use Rattle.laws.proofs.Budgets.{charge-steady, fresh-steady, apply-steady, judge-steady}
-use Rattle.laws.proofs.Rings.{gives, ring-gets-6}
+use Rattle.laws.proofs.Budgets.{yields, charge-yields, fresh-steady, apply-steady, judge-steady}
+use Rattle.laws.proofs.Rings.{ring-gets-6}
 
 abbrev name : ℕ → TyVar
 name k = record { number = k }
@@ -26,13 +26,13 @@ name k = record { number = k }
 abbrev literal : Ctx → ℕ → TyVar → Question
 literal Γ p b = record { kind = 2; manner = plain; asks = check Γ (litInt p 1 0) (etvar b) }
 
-literal-applies : (Γ : Ctx) (p : ℕ) (b : TyVar) {t : Tree} (l : ℕ) {r k : ℕ} → judge plain (infer Γ (litInt p 1 0)) l 0 ≡ done (int, Γ, t) r 0
-    → apply Γ int 1 0 ≡ done int k 0 → Applies Γ (etvar b) Result (answer (literal Γ p b)) 0
+literal-applies : (Γ : Ctx) (p : ℕ) (b : TyVar) {t : Tree} (u : ℕ) → judge plain (infer Γ (litInt p 1 0)) u 0 ≡ done (int, Γ, t) 0 0
+    → apply Γ int 1 0 ≡ done int 0 0 → Applies Γ (etvar b) Result (answer (literal Γ p b)) 0
 unfolding answer judgeStep rule checkRule _orElse_ when on onBoth exprCode tyCode asAbs asArrow asForall pick chkSub
-literal-applies Γ p b l e i =
-    judging plain _ (after _ (gives (charge-steady _) (charge-yes _ _ 0 (le-refl _))) (first _
-    (after _ (gives (judge-steady plain (infer Γ (litInt p 1 0))) e)
-    (after _ (gives (apply-steady Γ int) i)
+literal-applies Γ p b u e i =
+    judging plain _ (after _ (charge-yields _ 0) (first _
+    (after _ (yields (judge-steady plain (infer Γ (litInt p 1 0))) u e)
+    (after _ (yields (apply-steady Γ int) 1 i)
     (first _ itself)))))
 
 -- ## Document 01's edge: "context SETVarBnd A (ETVar A), kind 2, literal 1 against ETVar A gives 6 at every allowed budget"
@@ -99,10 +99,10 @@ half = refl
 made-applies : Applies made (etvar (name 1)) Result (answer unsolved) 0
 unfolding answer judgeStep rule instRule instArrow other pick halfway fresh
 made-applies =
-    judging plain _ (after _ (gives (charge-steady _) (charge-yes _ _ 0 (le-refl _))) (first _
-    (after _ (gives fresh-steady {l = 0} refl)
-    (after _ (gives fresh-steady {l = 0} refl)
-    (after _ (gives (judge-steady plain halfway) half)
+    judging plain _ (after _ (charge-yields _ 0) (first _
+    (after _ (yields fresh-steady 0 refl)
+    (after _ (yields fresh-steady 0 refl)
+    (after _ (yields (judge-steady plain halfway) 7 half)
     (first _ itself))))))
 
 pub ring-made : (budget work room : ℕ) → 1 ≤ budget → budget ≤ 8192 → workWords budget ≤ work

@@ -27,14 +27,14 @@ pub record Ring (Γ : Ctx) (a : TyVar) : Type 0 where
 
 -- ---- A run that applies Γ to A
 
--- the run x with n fresh names taken is charged `units`, gives b, and n′ are taken then
-pub record Gives {B : Type 0} (x : M B) (n : ℕ) (b : B) (n′ : ℕ) : Type 0 where
+-- the run x, with n fresh names taken, is charged `units` and gives b, with n′ taken then, whatever the budget
+pub record Yields {B : Type 0} (x : M B) (n : ℕ) (b : B) (n′ : ℕ) : Type 0 where
   pub units : ℕ
   pub same : (l : ℕ) → x l n ≡ (charge units >>= λ u. give b) l n′
 
--- with n fresh names taken: at once, in its first part, in what follows a part that gives something, or in a judgement's step
+-- with n fresh names taken: at once, in its first part, in what follows a part that yields something, or in a judgement's step
 pub data Applies (Γ : Ctx) (A : Ty) : (B : Type 0) → M B → ℕ → Type 1 where
   itself : {n : ℕ} → Applies Γ A Ty (apply Γ A) n
   first : {B C : Type 0} {n : ℕ} {x : M B} (f : B → M C) → Applies Γ A B x n → Applies Γ A C (x >>= f) n
-  after : {B C : Type 0} {n n′ : ℕ} {b : B} {x : M B} (f : B → M C) → Gives x n b n′ → Applies Γ A C (f b) n′ → Applies Γ A C (x >>= f) n
+  after : {B C : Type 0} {n n′ : ℕ} {b : B} {x : M B} (f : B → M C) → Yields x n b n′ → Applies Γ A C (f b) n′ → Applies Γ A C (x >>= f) n
   judging : {n : ℕ} (m : Mode) (j : Judgement) → Applies Γ A Result (judgeStep m (judge m) j) n → Applies Γ A Result (judge m j) n
