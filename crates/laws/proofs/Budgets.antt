@@ -8,13 +8,12 @@ use native.Mathlib.Omega.{arith}
 use native.Mathlib.Nat.{lt-of-not-le, le-refl}
 use native.Mathlib.Decide.{decLe}
 use mathlib.Core.Bool.{Bool, true, false}
-use lib.ListN.{length}
 use lib.Dec.{leb, eqb}
-use Rattle.definition.specs.Syntax.{pick, TypeError, TyVar, Ty, Ctx, Judgement, given}
+use Rattle.definition.specs.Syntax.{pick, TypeError, TyVar, Ty, Ctx, Judgement}
 use Rattle.definition.specs.Question.{Mode, Question}
 use Rattle.definition.specs.Run.{Out, done, fail, stop, M, andThen, _>>=_, give, refuse, halt, charge, fresh}
 use Rattle.definition.specs.Types.{subst, applyTo, apply}
-use Rattle.definition.specs.Rules.{Result, judgeStep, judgeTo, judge}
+use Rattle.definition.specs.Rules.{judgeStep, judgeTo, judge}
 use Rattle.definition.specs.Reply.{answer}
 use Rattle.laws.specs.Count.{charged}
 use Rattle.laws.specs.Rings.{Yields}

@@ -3,23 +3,23 @@
 use mathlib.Core.Path.{_≡_, refl, sym, ap, _∙_}
 use mathlib.Core.Logic.{_↔_, _≢_}
 use mathlib.Core.Option.{Option, none, some, Option·none-ne-some, Option·some-ne-none}
-use Prim.Native.Nat.{ℕ, _+_, _-_, _≤_, _<_}
+use Prim.Native.Nat.{ℕ, _-_, _≤_, _<_}
 use native.Mathlib.Omega.{arith}
-use native.Mathlib.Nat.{lt-of-not-le, not-suc-le-zero}
+use native.Mathlib.Nat.{lt-of-not-le, not-suc-le-zero, le-refl}
 use native.Mathlib.Decide.{decLe}
 use mathlib.Core.Bool.{Bool, true, false, _||_}
 use mathlib.Core.List.{List, [], _∷_}
 use lib.ListN.{length}
 use lib.Dec.{leb, ltb, eqb}
 use mir.Facts.{yes-leb, no-leb, no-eqb, no-ltb}
-use Rattle.definition.specs.Syntax.{pick, TypeError, unboundVariable, applicationTypeError, typeApplicationError, occursCheck, subtypingError, instantiationError, parameterMismatch}
-use Rattle.definition.specs.Question.{Read, got, fault, Question, readQuestion, question-computes}
+use Rattle.definition.specs.Syntax.{pick, Judgement, TypeError, unboundVariable, applicationTypeError, typeApplicationError, occursCheck, subtypingError, instantiationError, parameterMismatch}
+use Rattle.definition.specs.Question.{Mode, Read, got, fault, Question, readQuestion, question-computes}
 use Rattle.definition.specs.Run.{Out, done, fail, stop, M, andThen, _>>=_, give, refuse, charge}
-use Rattle.definition.specs.Rules.{Result}
+use Rattle.definition.specs.Rules.{Result, judge}
 use Rattle.definition.specs.Reply.{Reply, refusal, reported, errorCode, answer, outReply, readReply, workWords, reply}
 use Rattle.laws.specs.Count.{charged, upTo, Count, countTo, Passes, Asks}
 use Rattle.laws.proofs.Steps.{is-true, is-false, pick-true, pick-false, charge-yes, charge-no}
-use Rattle.laws.proofs.Budgets.{late, Steady, smaller, answer-steady}
+use Rattle.laws.proofs.Budgets.{late, Steady, smaller, judge-steady, answer-steady}
 
 -- ## A count as far as a budget goes
 
@@ -48,19 +48,14 @@ further l l′ u (some v) h e =
 
 -- ## A run has one count at most
 
-needs : Option ℕ → ℕ
-needs none = 0
-needs (some u) = u
-
-all-of : (c : Option ℕ) (l : ℕ) → needs c ≤ l → upTo l c ≡ c
-unfolding needs upTo
-all-of none l h = refl
-all-of (some u) l h = enough l u h
+same-count : (c c′ : Option ℕ) → ((l : ℕ) → upTo l c ≡ upTo l c′) → c ≡ c′
+unfolding upTo
+same-count none none e = refl
+same-count none (some u) e = absurd (Option·none-ne-some u (e u ∙ enough u u (le-refl u)))
+same-count (some u) c′ e = let z : upTo u (some u) ≡ some u = enough u u (le-refl u) in sym z ∙ sym (further u u u c′ (le-refl u) (sym (e u) ∙ z))
 
 pub one-count : {A : Type 0} {m : M A} {n : ℕ} {c c′ : Option ℕ} → Count m n c → Count m n c′ → c ≡ c′
-one-count {c = c} {c′} h h′ =
-    let l : ℕ = needs c + needs c′ in
-    sym (all-of c l (omega arith)) ∙ sym (h .at l) ∙ h′ .at l ∙ all-of c′ l (omega arith)
+one-count {c = c} {c′} h h′ = same-count c c′ (λ l. sym (h .at l) ∙ h′ .at l)
 
 -- ## What one budget is charged tells the count
 
@@ -87,7 +82,7 @@ charged-late {A} l k o h = go o
 charged-smaller : {A : Type 0} {m : M A} → Steady m → (l k n : ℕ) → l ≤ k → charged l (m l n) ≡ upTo l (charged k (m k n))
 charged-smaller {m = m} s l k n h = rw (smaller s l k n h) (charged-late l k (m k n) h)
 
-pub counted : {A : Type 0} {m : M A} → Steady m → (l n u : ℕ) → charged l (m l n) ≡ some u → Count m n (some u)
+counted : {A : Type 0} {m : M A} → Steady m → (l n u : ℕ) → charged l (m l n) ≡ some u → Count m n (some u)
 counted {m = m} s l n u e = record {
   at = λ k. elim (decLe k l) [
     | yes h ↦ charged-smaller s k l n h ∙ ap (upTo k) e
@@ -95,10 +90,31 @@ counted {m = m} s l n u e = record {
   ];
 }
 
+-- a question's, and each judgement's
+pub question-counted : (q : Question) (most u : ℕ) → countTo most q ≡ some u → Count (answer q) 0 (some u)
+unfolding countTo
+question-counted q most u e = counted (answer-steady q) most 0 u e
+
+pub judgement-counted : (m : Mode) (j : Judgement) (l n u : ℕ) → charged l (judge m j l n) ≡ some u → Count (judge m j) n (some u)
+judgement-counted m j = counted (judge-steady m j)
+
 -- a run that ends at no budget has none
 pub no-count : {A : Type 0} {m : M A} {n : ℕ} → ((l : ℕ) → m l n ≡ stop) → Count m n none
 unfolding charged upTo
 no-count h = record { at = λ l. rw (h l) }
+
+-- ## A run is out of budget exactly where there is none or it passes the budget
+
+out : {A : Type 0} (l : ℕ) (o : Out A) → charged l o ≡ none → o ≡ stop
+unfolding charged
+out l (done a r n) e = absurd (Option·some-ne-none _ e)
+out l (fail x r) e = absurd (Option·some-ne-none _ e)
+out l stop e = refl
+
+pub out-exactly-past-count : {A : Type 0} {m : M A} {n : ℕ} {c : Option ℕ} → Count m n c → (l : ℕ) → (m l n ≡ stop) ↔ Passes l c
+unfolding charged
+out-exactly-past-count {m = m} {n} {c} h l =
+    (λ e. passes l c (sym (h .at l) ∙ ap (charged l) e), λ p. out l (m l n) (h .at l ∙ passed l c p))
 
 -- ## Replies
 
@@ -151,32 +167,34 @@ within {high = high} {x} h k =
     let p : x ≢ 0 = λ e. not-suc-le-zero (rw e at h) in
     ap (_|| ltb high x) (is-false (eqb x 0) (no-eqb p)) ∙ is-false (ltb high x) (no-ltb k)
 
-module _ {b w : ℕ} (room : ℕ) {ws : List ℕ} {q : Question} (a : Asks b w ws q) where
-  asked : reply b w room ws ≡ outReply (q .kind) b room (answer q b 0)
-  unfolding reply readReply pick
-  asked = rw (within (a .low) (a .high), is-false (ltb w (workWords b)) (no-ltb (a .enough)), within (some-words ws (a .read)) (a .few), a .read)
+told-reply : {b w : ℕ} {ws : List ℕ} {q : Question} → Asks b w ws q → (room : ℕ) → Told b (reply b w room ws) (charged b (answer q b 0))
+unfolding reply readReply pick
+told-reply {b} {w} {ws} {q} a room =
+    rw (within (a .low) (a .high), is-false (ltb w (workWords b)) (no-ltb (a .enough)), within (some-words ws (a .read)) (a .few), a .read)
+    (told (q .kind) b room (answer q b 0))
 
-  asked-told : Told b (reply b w room ws) (charged b (answer q b 0))
-  asked-told = rw asked (told (q .kind) b room (answer q b 0))
+-- "the next charge would pass the budget"
+exactly : {b : ℕ} {R : Reply} {u : Option ℕ} → Told b R u → (c : Option ℕ) → u ≡ upTo b c → (R .code ≡ 6 → Passes b c) × (Passes b c → R ≡ refusal 6 0 b)
+exactly {b} (six r) c e = (λ _. passes b c (sym e), λ _. r)
+exactly {b} (other {u} h r) c e = (λ k. absurd (h k), λ p. absurd (Option·some-ne-none u (e ∙ passed b c p)))
 
-  exactly : {R : Reply} {u : Option ℕ} (c : Option ℕ) → Told b R u → u ≡ upTo b c → (R .code ≡ 6 → Passes b c) × (Passes b c → R ≡ refusal 6 0 b)
-  exactly c (six r) e = (λ _. passes b c (sym e), λ _. r)
-  exactly c (other {u} h r) e = (λ k. absurd (h k), λ p. absurd (Option·some-ne-none u (e ∙ passed b c p)))
+pub six-exactly-past-count : {budget work : ℕ} {ws : List ℕ} {q : Question} → Asks budget work ws q → {c : Option ℕ} → Count (answer q) 0 c → (room : ℕ)
+    → (reply budget work room ws .code ≡ 6 → Passes budget c) × (Passes budget c → reply budget work room ws ≡ refusal 6 0 budget)
+six-exactly-past-count {budget} a {c} h room = exactly (told-reply a room) c (h .at budget)
 
-  -- "the next charge would pass the budget"
-  pub six-exactly-past-count : {c : Option ℕ} → Count (answer q) 0 c → (reply b w room ws .code ≡ 6 → Passes b c) × (Passes b c → reply b w room ws ≡ refusal 6 0 b)
-  six-exactly-past-count {c} h = exactly c asked-told (h .at b)
+-- the same of a count that computes
+pub six-exactly-past-count-to-8192 : {budget work : ℕ} {ws : List ℕ} {q : Question} → Asks budget work ws q → (room : ℕ)
+    → (reply budget work room ws .code ≡ 6 → Passes budget (countTo 8192 q)) × (Passes budget (countTo 8192 q) → reply budget work room ws ≡ refusal 6 0 budget)
+unfolding countTo
+six-exactly-past-count-to-8192 {budget} {q = q} a room =
+    exactly (told-reply a room) (countTo 8192 q) (charged-smaller (answer-steady q) budget 8192 0 (a .high))
 
-  -- the same of a count that computes
-  pub six-exactly-past-8192 : (reply b w room ws .code ≡ 6 → Passes b (countTo 8192 q)) × (Passes b (countTo 8192 q) → reply b w room ws ≡ refusal 6 0 b)
-  unfolding countTo
-  six-exactly-past-8192 = exactly (countTo 8192 q) asked-told (charged-smaller (answer-steady q) b 8192 0 (a .high))
+-- "Units equal this count in the definition."
+units : {b : ℕ} {R : Reply} {u : Option ℕ} → Told b R u → R .code ≢ 6 → u ≡ some (R .units)
+unfolding refusal
+units (six r) h = absurd (h (ap (λ R. R .code) r))
+units (other k r) h = ap some (sym r)
 
-  units : {R : Reply} {u : Option ℕ} → Told b R u → R .code ≢ 6 → u ≡ some (R .units)
-  unfolding refusal
-  units (six r) h = absurd (h (ap (λ R. R .code) r))
-  units (other k r) h = ap some (sym r)
-
-  -- "Units equal this count in the definition."
-  pub units-are-the-count : reply b w room ws .code ≢ 6 → Count (answer q) 0 (some (reply b w room ws .units))
-  units-are-the-count h = counted (answer-steady q) b 0 _ (units asked-told h)
+pub units-are-the-count : {budget work : ℕ} {ws : List ℕ} {q : Question} → Asks budget work ws q → (room : ℕ)
+    → reply budget work room ws .code ≢ 6 → Count (answer q) 0 (some (reply budget work room ws .units))
+units-are-the-count {budget} {q = q} a room h = counted (answer-steady q) budget 0 _ (units (told-reply a room) h)

@@ -2,19 +2,16 @@
 -- and a ring that the run itself makes (DIFFERENCES, R2).
 use mathlib.Core.Path.{_≡_, refl}
 use Prim.Native.Nat.{ℕ, _≤_}
-use native.Mathlib.Nat.{le-refl}
 use mathlib.Core.List.{[], _∷_}
 use lib.Dec.{lit≤}
-use Rattle.definition.specs.Syntax.{pick, TyVar, Ty, int, etvar, arrow, setvarBnd, etvarBnd, Ctx, onL, infer, check, inst, litInt, Judgement, Tree, node, leaf, onR, InstRSolve}
+use Rattle.definition.specs.Syntax.{pick, TyVar, int, etvar, arrow, setvarBnd, etvarBnd, Ctx, onL, infer, check, inst, litInt, Judgement, Tree, node, leaf, onR, InstRSolve}
 use Rattle.definition.specs.Question.{plain, Question, question-computes}
 use Rattle.definition.specs.Run.{done, fresh}
 use Rattle.definition.specs.Contexts.{contexts-compute}
 use Rattle.definition.specs.Types.{apply}
 use Rattle.definition.specs.Rules.{Result, _orElse_, when, on, onBoth, exprCode, tyCode, asAbs, asArrow, asForall, other, split, instArrow, instRule, chkSub, checkRule, rule, judgeStep, judge, rules-compute}
 use Rattle.definition.specs.Reply.{refusal, reply, answer, workWords}
-use Rattle.laws.specs.Count.{Asks}
-use Rattle.laws.specs.Rings.{Leads, here, follow, left, right, Ring, Applies, itself, first, after, judging}
-use Rattle.laws.proofs.Steps.{charge-yes}
+use Rattle.laws.specs.Rings.{here, follow, left, right, Ring, Applies, itself, first, after, judging}
 use Rattle.laws.proofs.Budgets.{yields, charge-yields, fresh-steady, apply-steady, judge-steady}
 use Rattle.laws.proofs.Rings.{ring-gets-6}
 

@@ -1,25 +1,22 @@
 -- "A solution that leads back to itself therefore ends in 6": an application that comes to a ring ends at no budget, a run with such an
 -- application has no count, and its reply is 6.
-use mathlib.Core.Path.{_≡_, refl, sym, ap, _∙_}
-use mathlib.Core.Logic.{_⊎_, inl, inr, _≢_}
-use Prim.Native.Nat.{ℕ, zero, suc, _+_, _-_, _≤_, _<_}
-use native.Mathlib.Omega.{arith}
-use native.Mathlib.Nat.{lt-of-not-le, le-refl}
+use mathlib.Core.Path.{_≡_, refl, _∙_}
+use Prim.Native.Nat.{ℕ, zero, suc, _-_}
+use native.Mathlib.Nat.{lt-of-not-le}
 use native.Mathlib.Decide.{decLe}
 use mathlib.Core.List.{List}
-use mathlib.Core.Option.{none, Option·some-ne-none}
+use mathlib.Core.Option.{none}
 use Rattle.definition.specs.Syntax.{TyVar, Ty, etvar, arrow, forall, Ctx}
 use Rattle.definition.specs.Question.{Question}
-use Rattle.definition.specs.Run.{Out, done, fail, stop, M, andThen, _>>=_, give, refuse, charge, halt}
+use Rattle.definition.specs.Run.{Out, done, fail, stop, M, andThen, _>>=_, give, charge, halt}
 use Rattle.definition.specs.Types.{solutionOr, applyStep, applyTo, apply}
 use Rattle.definition.specs.Rules.{Result}
 use Rattle.definition.specs.Reply.{refusal, reply, answer}
-use Rattle.laws.specs.Count.{charged, Count, Asks}
+use Rattle.laws.specs.Count.{Count, Asks}
 use Rattle.laws.specs.Rings.{Leads, here, follow, left, right, under, Ring, Yields, Applies, itself, first, after, judging}
 use Rattle.laws.proofs.Steps.{charge-yes, charge-no, bind-stop}
 use Rattle.laws.proofs.Depth.{judge-eq}
 use Rattle.laws.proofs.LaterPasses.{Normal, Holds, charge-gives, applyTo-normal}
-use Rattle.laws.proofs.Budgets.{late, Steady, smaller}
 use Rattle.laws.proofs.Count.{no-count, six-exactly-past-count}
 
 -- ## Application
@@ -76,4 +73,4 @@ ring-has-no-count ring leads q applies = no-count (run-never-ends ring leads app
 
 pub ring-gets-6 : {Γ : Ctx} {a : TyVar} {A : Ty} → Ring Γ a → Leads Γ a A → {q : Question} → Applies Γ A Result (answer q) 0
     → {budget work : ℕ} {ws : List ℕ} → Asks budget work ws q → (room : ℕ) → reply budget work room ws ≡ refusal 6 0 budget
-ring-gets-6 ring leads {q} applies asks room = six-exactly-past-count room asks (ring-has-no-count ring leads q applies) .1 tt
+ring-gets-6 ring leads {q} applies asks room = six-exactly-past-count asks (ring-has-no-count ring leads q applies) room .1 tt
