@@ -1,5 +1,5 @@
--- What a run does with another budget. A run is steady if it is the same to it whether something is charged before it or at its end: k less
--- to begin with is k less left. Every run of the definition is.
+-- What a run does with another budget. It is the same to a run of the definition whether something is charged before it or at its end: k
+-- less to begin with is k less left.
 use mathlib.Core.Path.{_≡_, refl, sym, ap, _∙_}
 use mathlib.Core.Logic.{_⊎_, inl, inr, _≢_}
 use mathlib.Core.Option.{Option·some-ne-none}
@@ -21,7 +21,7 @@ use Rattle.laws.proofs.Steps.{charge-yes, charge-no}
 use Rattle.laws.proofs.Congruence.{Rel, Closed, substR, applyStepR, ruleR}
 use Rattle.laws.proofs.Depth.{Upto, upto, apply-upto, judge-upto}
 
--- an end that is charged k more
+-- an end, a type error among others, that is charged k more
 unfoldable pub late : {A : Type 0} → ℕ → Out A → Out A
 late k (done a l n) = (charge k >>= λ u. give a) l n
 late k (fail e l) = (charge k >>= λ u. refuse e) l 0
@@ -58,16 +58,25 @@ charge-steady c = record {
   early = λ k l n. elim (decLe (k + c) l) [
     | yes h ↦
         let e : l - k - c ≡ l - c - k = omega arith in
-        rw (charge-yes k l n (omega arith), charge-yes c (l - k) n (omega arith), charge-yes c l n (omega arith), charge-yes k (l - c) n (omega arith), e)
+        rw (charge-yes k l n (omega arith), charge-yes c (l - k) n (omega arith))
+        (rw (charge-yes c l n (omega arith), charge-yes k (l - c) n (omega arith), e))
     | no h ↦ first k l n (lt-of-not-le h) ∙ sym (last k l n (lt-of-not-le h))
   ];
 }
   where
     first : (k l n : ℕ) → l < k + c → andThen (charge k l n) (λ u. charge c) ≡ stop
-    first k l n h = elim (decLe k l) [ yes i ↦ rw (charge-yes k l n i) (charge-no c (l - k) n (omega arith)) | no i ↦ rw (charge-no k l n (lt-of-not-le i)) ]
+    first k l n h =
+        elim (decLe k l) [
+          | yes i ↦ rw (charge-yes k l n i) (charge-no c (l - k) n (omega arith))
+          | no i ↦ rw (charge-no k l n (lt-of-not-le i))
+        ]
 
     last : (k l n : ℕ) → l < k + c → late k (charge c l n) ≡ stop
-    last k l n h = elim (decLe c l) [ yes i ↦ rw (charge-yes c l n i, charge-no k (l - c) n (omega arith)) | no i ↦ rw (charge-no c l n (lt-of-not-le i)) ]
+    last k l n h =
+        elim (decLe c l) [
+          | yes i ↦ rw (charge-yes c l n i, charge-no k (l - c) n (omega arith))
+          | no i ↦ rw (charge-no c l n (lt-of-not-le i))
+        ]
 
 refuse-steady : {A : Type 0} (e : TypeError) → Steady {A = A} (refuse e)
 unfolding late refuse
@@ -105,7 +114,10 @@ each = record {
   bindR = λ hm hf. bind-steady hm hf;
 }
 
--- ## Application and judgements
+-- ## Substitution, application, judgements
+
+pub subst-steady : (a : TyVar) (R A : Ty) → Steady (subst a R A)
+subst-steady a R A = substR Each each a R A
 
 -- what is steady to every depth, and does not depend on it where the depth is enough
 from-depths : {A : Type 0} (m : ℕ → M A) (x : M A) → ((d : ℕ) → Steady (m d)) → ((d : ℕ) → Upto d A (m d) x) → Steady x
@@ -129,9 +141,6 @@ judgeTo-steady m (suc d) j =
     bind-steady (charge-steady _) (λ u. bind-steady
     (ruleR Each each apply-steady _ (λ i l n. judgeTo m d i l n) (judgeTo-steady m d) m j)
     (λ r. bind-steady (charge-steady _) (λ v. give-steady _)))
-
-pub subst-steady : (a : TyVar) (R A : Ty) → Steady (subst a R A)
-subst-steady a R A = substR Each each a R A
 
 -- each of the six judgements, in every mode
 pub judge-steady : (m : Mode) (j : Judgement) → Steady (judge m j)
@@ -157,26 +166,31 @@ smaller s l k n h =
     let e : k - (k - l) ≡ l = omega arith in
     rw (charge-yes (k - l) k n (omega arith), e) at (s .early (k - l) k n)
 
--- an end with k more left: what `late` takes, unless all is gone
+-- an end with k more left
 raise : {A : Type 0} → ℕ → Out A → Out A
 raise k (done a l n) = done a (l + k) n
 raise k (fail e l) = fail e (l + k)
 raise k stop = stop
 
-again : {k l : ℕ} → k ≤ l → l ≡ l - k + k
-again h = omega arith
-
 raise-late : {A : Type 0} (k : ℕ) (o : Out A) → (late k o ≡ stop) ⊎ (o ≡ raise k (late k o))
 unfolding late raise _>>=_ andThen give refuse
-raise-late k (done a l n) = elim (decLe k l) [ yes h ↦ rw (charge-yes k l n h) (inr (ap (λ r. done a r n) (again h))) | no h ↦ inl (rw (charge-no k l n (lt-of-not-le h))) ]
-raise-late k (fail e l) = elim (decLe k l) [ yes h ↦ rw (charge-yes k l 0 h) (inr (ap (λ r. fail e r) (again h))) | no h ↦ inl (rw (charge-no k l 0 (lt-of-not-le h))) ]
+raise-late k (done a l n) =
+    elim (decLe k l) [
+      | yes h ↦ let e : l - k + k ≡ l = omega arith in rw (charge-yes k l n h) (inr (rw e))
+      | no h ↦ inl (rw (charge-no k l n (lt-of-not-le h)))
+    ]
+raise-late k (fail x l) =
+    elim (decLe k l) [
+      | yes h ↦ let e : l - k + k ≡ l = omega arith in rw (charge-yes k l 0 h) (inr (rw e))
+      | no h ↦ inl (rw (charge-no k l 0 (lt-of-not-le h)))
+    ]
 raise-late k stop = inl refl
 
 not-stop : {A : Type 0} {o : Out A} {a : A} {l n : ℕ} → o ≡ done a l n → o ≢ stop
 unfolding charged
 not-stop e s = Option·some-ne-none _ (ap (charged 0) (sym e ∙ s))
 
--- what the budget u is just enough for, every budget that is enough yields
+-- what the budget u is just enough for, every budget from u on yields
 pub yields : {B : Type 0} {x : M B} → Steady x → (u : ℕ) {n n′ : ℕ} {b : B} → x u n ≡ done b 0 n′ → Yields x n b n′
 unfolding late raise _>>=_ andThen give
 yields {x = x} s u {n} {n′} {b} e = record {
@@ -185,7 +199,8 @@ yields {x = x} s u {n} {n′} {b} e = record {
     | yes h ↦
         let z : late (l - u) (x l n) ≡ done b 0 n′ = sym (smaller s u l n h) ∙ e in
         let r : 0 + (l - u) ≡ l - u = omega arith in
-        rw (charge-yes u l n′ h, ← r) (elim (raise-late (l - u) (x l n)) [ inl y ↦ absurd (not-stop z y) | inr y ↦ y ∙ ap (raise (l - u)) z ])
+        rw (charge-yes u l n′ h, ← r)
+        (elim (raise-late (l - u) (x l n)) [ inl y ↦ absurd (not-stop z y) | inr y ↦ y ∙ ap (raise (l - u)) z ])
     | no h ↦
         let i : l < u = lt-of-not-le h in
         rw (smaller s l u n (omega arith), e, charge-no (u - l) 0 n′ (omega arith), charge-no u l n′ i)

@@ -1,5 +1,5 @@
--- The count of a run: one at most, and found by one budget that is enough. 6 is given exactly where there is none or it passes the budget, and
--- otherwise a reply's units are it.
+-- The count of a run: there is one at most, and any budget that is enough tells it. 6 is given exactly where there is none or it passes the
+-- budget; else it is the reply's units.
 use mathlib.Core.Path.{_≡_, refl, sym, ap, _∙_}
 use mathlib.Core.Logic.{_↔_, _≢_}
 use mathlib.Core.Option.{Option, none, some, Option·none-ne-some, Option·some-ne-none}
@@ -52,7 +52,9 @@ same-count : (c c′ : Option ℕ) → ((l : ℕ) → upTo l c ≡ upTo l c′) 
 unfolding upTo
 same-count none none e = refl
 same-count none (some u) e = absurd (Option·none-ne-some u (e u ∙ enough u u (le-refl u)))
-same-count (some u) c′ e = let z : upTo u (some u) ≡ some u = enough u u (le-refl u) in sym z ∙ sym (further u u u c′ (le-refl u) (sym (e u) ∙ z))
+same-count (some u) c′ e =
+    let z : upTo u (some u) ≡ some u = enough u u (le-refl u) in
+    sym z ∙ sym (further u u u c′ (le-refl u) (sym (e u) ∙ z))
 
 pub one-count : {A : Type 0} {m : M A} {n : ℕ} {c c′ : Option ℕ} → Count m n c → Count m n c′ → c ≡ c′
 one-count {c = c} {c′} h h′ = same-count c c′ (λ l. sym (h .at l) ∙ h′ .at l)
@@ -63,7 +65,8 @@ charged-late : {A : Type 0} (l k : ℕ) (o : Out A) → l ≤ k → charged l (l
 unfolding charged late give refuse _>>=_ andThen upTo
 charged-late {A} l k o h = go o
   where
-    ends : (x : M A) → ((r n : ℕ) → charged l (x r n) ≡ some (l - r)) → (r n : ℕ) → charged l ((charge (k - l) >>= λ u. x) r n) ≡ upTo l (some (k - r))
+    ends : (x : M A) → ((r n : ℕ) → charged l (x r n) ≡ some (l - r)) → (r n : ℕ)
+        → charged l ((charge (k - l) >>= λ u. x) r n) ≡ upTo l (some (k - r))
     ends x e r n =
         elim (decLe (k - l) r) [
           | yes i ↦
@@ -173,28 +176,31 @@ told-reply {b} {w} {ws} {q} a room =
     rw (within (a .low) (a .high), is-false (ltb w (workWords b)) (no-ltb (a .enough)), within (some-words ws (a .read)) (a .few), a .read)
     (told (q .kind) b room (answer q b 0))
 
--- "the next charge would pass the budget"
-exactly : {b : ℕ} {R : Reply} {u : Option ℕ} → Told b R u → (c : Option ℕ) → u ≡ upTo b c → (R .code ≡ 6 → Passes b c) × (Passes b c → R ≡ refusal 6 0 b)
+exactly : {b : ℕ} {R : Reply} {u : Option ℕ} → Told b R u → (c : Option ℕ) → u ≡ upTo b c
+    → (R .code ≡ 6 → Passes b c) × (Passes b c → R ≡ refusal 6 0 b)
 exactly {b} (six r) c e = (λ _. passes b c (sym e), λ _. r)
 exactly {b} (other {u} h r) c e = (λ k. absurd (h k), λ p. absurd (Option·some-ne-none u (e ∙ passed b c p)))
 
-pub six-exactly-past-count : {budget work : ℕ} {ws : List ℕ} {q : Question} → Asks budget work ws q → {c : Option ℕ} → Count (answer q) 0 c → (room : ℕ)
+-- "6 Budget: the next charge would pass the budget"
+pub six-exactly-past-count : {budget work : ℕ} {ws : List ℕ} {q : Question} → Asks budget work ws q → {c : Option ℕ} → Count (answer q) 0 c
+    → (room : ℕ)
     → (reply budget work room ws .code ≡ 6 → Passes budget c) × (Passes budget c → reply budget work room ws ≡ refusal 6 0 budget)
 six-exactly-past-count {budget} a {c} h room = exactly (told-reply a room) c (h .at budget)
 
--- the same of a count that computes
+-- the same of a count that computes: no question is left out
 pub six-exactly-past-count-to-8192 : {budget work : ℕ} {ws : List ℕ} {q : Question} → Asks budget work ws q → (room : ℕ)
-    → (reply budget work room ws .code ≡ 6 → Passes budget (countTo 8192 q)) × (Passes budget (countTo 8192 q) → reply budget work room ws ≡ refusal 6 0 budget)
+    → (reply budget work room ws .code ≡ 6 → Passes budget (countTo 8192 q))
+    × (Passes budget (countTo 8192 q) → reply budget work room ws ≡ refusal 6 0 budget)
 unfolding countTo
 six-exactly-past-count-to-8192 {budget} {q = q} a room =
     exactly (told-reply a room) (countTo 8192 q) (charged-smaller (answer-steady q) budget 8192 0 (a .high))
 
--- "Units equal this count in the definition."
 units : {b : ℕ} {R : Reply} {u : Option ℕ} → Told b R u → R .code ≢ 6 → u ≡ some (R .units)
 unfolding refusal
 units (six r) h = absurd (h (ap (λ R. R .code) r))
 units (other k r) h = ap some (sym r)
 
+-- "Units equal this count in the definition."
 pub units-are-the-count : {budget work : ℕ} {ws : List ℕ} {q : Question} → Asks budget work ws q → (room : ℕ)
     → reply budget work room ws .code ≢ 6 → Count (answer q) 0 (some (reply budget work room ws .units))
 units-are-the-count {budget} {q = q} a room h = counted (answer-steady q) budget 0 _ (units (told-reply a room) h)

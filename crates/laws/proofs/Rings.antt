@@ -21,7 +21,8 @@ use Rattle.laws.proofs.Count.{no-count, six-exactly-past-count}
 
 -- ## Application
 
-then-stops : {A B : Type 0} (P : A → Type 0) (o : Out A) (f : A → M B) → Holds P o → ((a : A) (l n : ℕ) → f a l n ≡ stop) → andThen o f ≡ stop
+then-stops : {A B : Type 0} (P : A → Type 0) (o : Out A) (f : A → M B) → Holds P o → ((a : A) (l n : ℕ) → f a l n ≡ stop)
+    → andThen o f ≡ stop
 unfolding andThen
 then-stops P (done a l n) f p h = h a l n
 then-stops P (fail e l) f p h = absurd p
@@ -50,7 +51,8 @@ module _ {Γ : Ctx} {a : TyVar} (ring : Ring Γ a) where
 
 -- ## Runs
 
-yields-stops : {A B : Type 0} {x : M A} (f : A → M B) {n n′ : ℕ} {a : A} → Yields x n a n′ → ((l : ℕ) → f a l n′ ≡ stop) → (l : ℕ) → (x >>= f) l n ≡ stop
+yields-stops : {A B : Type 0} {x : M A} (f : A → M B) {n n′ : ℕ} {a : A} → Yields x n a n′ → ((l : ℕ) → f a l n′ ≡ stop)
+    → (l : ℕ) → (x >>= f) l n ≡ stop
 unfolding _>>=_ andThen give
 yields-stops f {n′ = n′} y h l =
     elim (decLe (y .units) l) [

@@ -1,4 +1,4 @@
--- "Counting work": the count of a run, which no budget changes, and the questions that are run at all.
+-- "Counting work": the count of a run, which no budget changes; when it passes a budget; and which calls run their question at all.
 use mathlib.Core.Path.{_≡_}
 use mathlib.Core.List.{List}
 use mathlib.Core.Option.{Option, none, some}
@@ -10,9 +10,9 @@ use Rattle.definition.specs.Question.{Question, got, readQuestion}
 use Rattle.definition.specs.Run.{Out, done, fail, stop, M}
 use Rattle.definition.specs.Reply.{answer, workWords}
 
--- ---- "Units .. the total charged"
+-- ---- "Units is 0 on 1 to 5, the budget on 6, else the total charged." "Units equal this count in the definition."
 
--- what a run that began with the budget l was charged; none where it ran out
+-- what a run that began with the budget l was charged in all; none where it ran out
 unfoldable pub charged : {A : Type 0} → ℕ → Out A → Option ℕ
 charged l (done a r n) = some (l - r)
 charged l (fail e r) = some (l - r)
@@ -23,8 +23,8 @@ unfoldable pub upTo : ℕ → Option ℕ → Option ℕ
 upTo l none = none
 upTo l (some u) = pick (leb u l) (some u) none
 
--- c is the count of the run m with n fresh names taken, a number or none: every budget that is enough for it is charged it, and every other
--- runs out
+-- c, a number or none, is the count of the run m with n fresh names taken: every budget that is enough for it is charged it, and every
+-- other runs out
 pub record Count {A : Type 0} (m : M A) (n : ℕ) (c : Option ℕ) : Type 0 where
   pub at : (l : ℕ) → charged l (m l n) ≡ upTo l c
 
@@ -39,8 +39,9 @@ abbrev pub Passes : ℕ → Option ℕ → Type 0
 Passes l none = Unit {0}
 Passes l (some u) = l < u
 
--- ---- "1, 2, 3 are tried in that order; then one reading from left to right": a call that none of 1 to 5 refuses, and its question q
+-- ---- "1, 2, 3 are tried in that order; then one reading from left to right, and its first fault decides between 4 and 5."
 
+-- a call that none of 1 to 5 refuses, and the question that its words are
 pub record Asks (budget work : ℕ) (ws : List ℕ) (q : Question) : Type 0 where
   pub low : 1 ≤ budget
   pub high : budget ≤ 8192
