@@ -1,24 +1,20 @@
 -- What a run does with another budget. It is the same to a run of the definition whether something is charged before it or at its end: k
 -- less to begin with is k less left.
 use mathlib.Core.Path.{_≡_, refl, sym, ap, _∙_}
-use mathlib.Core.Logic.{_⊎_, inl, inr, _≢_}
-use mathlib.Core.Option.{Option·some-ne-none}
 use Prim.Native.Nat.{ℕ, zero, suc, _+_, _-_, _≤_, _<_}
 use native.Mathlib.Omega.{arith}
 use native.Mathlib.Nat.{lt-of-not-le, le-refl}
 use native.Mathlib.Decide.{decLe}
 use mathlib.Core.Bool.{Bool, true, false}
 use lib.Dec.{leb, eqb}
-use Rattle.definition.specs.Syntax.{pick, TypeError, TyVar, Ty, Ctx, Judgement}
+use Rattle.definition.specs.Syntax.{pick, TypeError, Ty, Ctx, Judgement}
 use Rattle.definition.specs.Question.{Mode, Question}
 use Rattle.definition.specs.Run.{Out, done, fail, stop, M, andThen, _>>=_, give, refuse, halt, charge, fresh}
-use Rattle.definition.specs.Types.{subst, applyTo, apply}
+use Rattle.definition.specs.Types.{applyTo, apply}
 use Rattle.definition.specs.Rules.{judgeStep, judgeTo, judge}
 use Rattle.definition.specs.Reply.{answer}
-use Rattle.laws.specs.Count.{charged}
-use Rattle.laws.specs.Rings.{Yields}
 use Rattle.laws.proofs.Steps.{charge-yes, charge-no}
-use Rattle.laws.proofs.Congruence.{Rel, Closed, substR, applyStepR, ruleR}
+use Rattle.laws.proofs.Congruence.{Rel, Closed, applyStepR, ruleR}
 use Rattle.laws.proofs.Depth.{Upto, upto, apply-upto, judge-upto}
 
 -- an end, a type error among others, that is charged k more
@@ -82,7 +78,7 @@ refuse-steady : {A : Type 0} (e : TypeError) → Steady {A = A} (refuse e)
 unfolding late refuse
 refuse-steady e = record { early = λ k l n. charge-names _ _ n 0 (λ r. refl) k l }
 
-pub fresh-steady : Steady fresh
+fresh-steady : Steady fresh
 unfolding late fresh give
 fresh-steady = record { early = λ k l n. charge-names _ _ n (suc n) (λ r. refl) k l }
 
@@ -114,10 +110,7 @@ each = record {
   bindR = λ hm hf. bind-steady hm hf;
 }
 
--- ## Substitution, application, judgements
-
-pub subst-steady : (a : TyVar) (R A : Ty) → Steady (subst a R A)
-subst-steady a R A = substR Each each a R A
+-- ## Application and judgements
 
 -- what is steady to every depth, and does not depend on it where the depth is enough
 from-depths : {A : Type 0} (m : ℕ → M A) (x : M A) → ((d : ℕ) → Steady (m d)) → ((d : ℕ) → Upto d A (m d) x) → Steady x
@@ -131,7 +124,7 @@ unfolding applyTo
 applyTo-steady zero Γ A = halt-steady
 applyTo-steady (suc d) Γ A = bind-steady (charge-steady 1) (λ u. applyStepR Each each Γ _ (λ B l n. applyTo d Γ B l n) (applyTo-steady d Γ) A)
 
-pub apply-steady : (Γ : Ctx) (A : Ty) → Steady (apply Γ A)
+apply-steady : (Γ : Ctx) (A : Ty) → Steady (apply Γ A)
 apply-steady Γ A = from-depths (λ d. applyTo d Γ A) (apply Γ A) (λ d. applyTo-steady d Γ A) (λ d. apply-upto d d (le-refl d) Γ A)
 
 judgeTo-steady : (m : Mode) (d : ℕ) (j : Judgement) → Steady (judgeTo m d j)
@@ -165,49 +158,3 @@ unfolding _>>=_ andThen
 smaller s l k n h =
     let e : k - (k - l) ≡ l = omega arith in
     rw (charge-yes (k - l) k n (omega arith), e) at (s .early (k - l) k n)
-
--- an end with k more left
-raise : {A : Type 0} → ℕ → Out A → Out A
-raise k (done a l n) = done a (l + k) n
-raise k (fail e l) = fail e (l + k)
-raise k stop = stop
-
-raise-late : {A : Type 0} (k : ℕ) (o : Out A) → (late k o ≡ stop) ⊎ (o ≡ raise k (late k o))
-unfolding late raise _>>=_ andThen give refuse
-raise-late k (done a l n) =
-    elim (decLe k l) [
-      | yes h ↦ let e : l - k + k ≡ l = omega arith in rw (charge-yes k l n h) (inr (rw e))
-      | no h ↦ inl (rw (charge-no k l n (lt-of-not-le h)))
-    ]
-raise-late k (fail x l) =
-    elim (decLe k l) [
-      | yes h ↦ let e : l - k + k ≡ l = omega arith in rw (charge-yes k l 0 h) (inr (rw e))
-      | no h ↦ inl (rw (charge-no k l 0 (lt-of-not-le h)))
-    ]
-raise-late k stop = inl refl
-
-not-stop : {A : Type 0} {o : Out A} {a : A} {l n : ℕ} → o ≡ done a l n → o ≢ stop
-unfolding charged
-not-stop e s = Option·some-ne-none _ (ap (charged 0) (sym e ∙ s))
-
--- what the budget u is just enough for, every budget from u on yields
-pub yields : {B : Type 0} {x : M B} → Steady x → (u : ℕ) {n n′ : ℕ} {b : B} → x u n ≡ done b 0 n′ → Yields x n b n′
-unfolding late raise _>>=_ andThen give
-yields {x = x} s u {n} {n′} {b} e = record {
-  units = u;
-  same = λ l. elim (decLe u l) [
-    | yes h ↦
-        let z : late (l - u) (x l n) ≡ done b 0 n′ = sym (smaller s u l n h) ∙ e in
-        let r : 0 + (l - u) ≡ l - u = omega arith in
-        rw (charge-yes u l n′ h, ← r)
-        (elim (raise-late (l - u) (x l n)) [ inl y ↦ absurd (not-stop z y) | inr y ↦ y ∙ ap (raise (l - u)) z ])
-    | no h ↦
-        let i : l < u = lt-of-not-le h in
-        rw (smaller s l u n (omega arith), e, charge-no (u - l) 0 n′ (omega arith), charge-no u l n′ i)
-  ];
-}
-
-pub charge-yields : (c n : ℕ) → Yields (charge c) n tt n
-charge-yields c n =
-    let z : c - c ≡ 0 = omega arith in
-    yields (charge-steady c) c (charge-yes c c n (le-refl c) ∙ ap (λ r. done tt r n) z)

@@ -187,13 +187,13 @@ pub six-exactly-past-count : {budget work : ℕ} {ws : List ℕ} {q : Question} 
     → (reply budget work room ws .code ≡ 6 → Passes budget c) × (Passes budget c → reply budget work room ws ≡ refusal 6 0 budget)
 six-exactly-past-count {budget} a {c} h room = exactly (told-reply a room) c (h .at budget)
 
--- the same of a count that computes: no question is left out
-pub six-exactly-past-count-to-8192 : {budget work : ℕ} {ws : List ℕ} {q : Question} → Asks budget work ws q → (room : ℕ)
-    → (reply budget work room ws .code ≡ 6 → Passes budget (countTo 8192 q))
-    × (Passes budget (countTo 8192 q) → reply budget work room ws ≡ refusal 6 0 budget)
+-- the same of a count that computes, as far as any bound that the budget is within: no question is left out
+pub six-exactly-past-count-to : {budget work : ℕ} {ws : List ℕ} {q : Question} → Asks budget work ws q → (most : ℕ) → budget ≤ most → (room : ℕ)
+    → (reply budget work room ws .code ≡ 6 → Passes budget (countTo most q))
+    × (Passes budget (countTo most q) → reply budget work room ws ≡ refusal 6 0 budget)
 unfolding countTo
-six-exactly-past-count-to-8192 {budget} {q = q} a room =
-    exactly (told-reply a room) (countTo 8192 q) (charged-smaller (answer-steady q) budget 8192 0 (a .high))
+six-exactly-past-count-to {budget} {q = q} a most h room =
+    exactly (told-reply a room) (countTo most q) (charged-smaller (answer-steady q) budget most 0 h)
 
 units : {b : ℕ} {R : Reply} {u : Option ℕ} → Told b R u → R .code ≢ 6 → u ≡ some (R .units)
 unfolding refusal
