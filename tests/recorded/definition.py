@@ -3,60 +3,20 @@
 
 usage: definition.py ANSWERS.. FOLDER
 
-Writes a scratch repository into FOLDER (the crate definition, and a crate `recorded` with one theorem by computation for each line of
-ANSWERS) and has `rt` check it. FOLDER must be new, or made by this script. The last line says how many replies were computed.
+Writes a scratch repository into FOLDER (computed.py) and has `rt` check it. FOLDER must be new, or made by this script. The last line
+says how many replies were computed.
 """
 import pathlib
 import shutil
-import subprocess
 import sys
+
+from computed import check, write
 
 sys.path.insert(0, str(pathlib.Path(__file__).resolve().parent.parent))
 from desk import answers, verdict  # noqa: E402
 
-PER_MODULE = 200
 # a folder without this file was not made here, and is left alone
 MADE_HERE = ".made-by-definition.py"
-
-HEAD = """-- Recorded answers {first} to {last}, computed from the definition. Made by tests/recorded/definition.py.
-use mathlib.Core.Path.{{_≡_, refl}}
-use Prim.Native.Nat.{{ℕ}}
-use mathlib.Core.List.{{List, [], _∷_}}
-use Rattle.definition.specs.Reply.{{Reply, reply, reply-computes}}
-
-unfoldable flat : Reply → List ℕ
-flat r = r .code ∷ r .at ∷ r .len ∷ r .units ∷ r .report
-"""
-
-
-def listed(words):
-    return " ∷ ".join([*words, "[]"])
-
-
-def theorem(number, line):
-    sizes, question, numbers, report = (part.split() for part in line)
-    budget, work, room = sizes
-    return (
-        f"\nanswer{number} : flat (reply {budget} {work} {room} ({listed(question)})) ≡ {listed(numbers + report)}\n"
-        f"unfolding flat reply-computes\nanswer{number} = refl\n"
-    )
-
-
-def write_crate(folder, lines):
-    proofs = folder / "crates" / "recorded" / "proofs"
-    proofs.mkdir(parents=True)
-    (folder / "crates" / "recorded" / "src").mkdir()
-    (folder / "crates" / "recorded" / "src" / "lib.rt").write_text("// Nothing to run: the theorems are in proofs/.\n")
-    (folder / "crates.txt").write_text("definition:\nrecorded: definition\n")
-    modules = []
-    for start in range(0, len(lines), PER_MODULE):
-        part = lines[start : start + PER_MODULE]
-        name = f"From{start + 1}"
-        modules.append(name)
-        text = HEAD.format(first=start + 1, last=start + len(part))
-        text += "".join(theorem(start + 1 + i, line) for i, line in enumerate(part))
-        (proofs / f"{name}.antt").write_text(text)
-    (proofs / "Lib.antt").write_text("".join(f"pub mod {name}\n" for name in modules))
 
 
 def arguments():
@@ -75,16 +35,13 @@ def usage(why):
 
 def main():
     files, folder = arguments()
-    root = pathlib.Path(__file__).resolve().parents[2]
     lines = answers(files)
     shutil.rmtree(folder, ignore_errors=True)
-    (folder / "crates").mkdir(parents=True)
+    write(folder, lines)
     (folder / MADE_HERE).touch()
-    shutil.copytree(root / "crates" / "definition", folder / "crates" / "definition")
-    write_crate(folder, lines)
-    run = subprocess.run(["rt", "check"], cwd=folder, capture_output=True, text=True)
-    if run.returncode != 0 or "rt: ok" not in run.stdout + run.stderr:
-        print((run.stdout + run.stderr)[-4000:])
+    computed, told = check(folder)
+    if not computed:
+        print(told[-4000:])
         print("the definition differs from a recorded answer, or could not be checked")
         verdict(0, len(lines))
     verdict(len(lines), 0)
