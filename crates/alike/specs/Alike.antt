@@ -1,4 +1,4 @@
--- Demand 3's words as definitions: "two well-formed questions, alike except in the values of literals and in names, where variable names
+-- Demand 3's words (../shared/MISSION.md) as definitions: "two well-formed questions, alike except in the values of literals and in names, where variable names
 -- pair one to one and type names pair one to one", and "replies alike word by word but for paired names".
 -- The formats of document 01 say which words are names and which are a literal's value, by labels; two lists of words are alike if they
 -- fill the same labels, with names paired, a literal's words free, and all others the same.

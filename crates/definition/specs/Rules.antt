@@ -1,16 +1,19 @@
 -- The six judgements and their 37 rules, after 000: "000 decides for plain mode." Each rule is drawn above its definition, what it asks over
 -- the line, from left to right as it is asked. In the drawings
---   Γ ⊢ .. ⊣ Δ      is a judgement with its input and its output context, entries oldest first;
---   x : A, a, ^a, ^a = A, $a   are VarBnd, TVarBnd, ETVarBnd, SETVarBnd and Mark;
---   [Γ]A, [R/a]A    are A with the context applied, and with R for a (Types);
---   Γ[^a]           is any context, and Γ[Θ] after it the same with Θ in the place of its earliest ^a, and at its end where ^a is absent
---                   (`replace`);
---   Δ, x : _, Θ     is any context, cut at its earliest entry for x, whatever type that has, which need not be the entry that the rule
---                   pushed (case (d)); where there is none, Δ is all of it and Θ is empty. So too Δ, b, Θ and Δ, $b, Θ (`rightOf`,
---                   `solvedAndRight`);
---   solved Δ        are the solved entries of Δ.
--- No context is asked to be well-formed, nor a type to have its names in one. Where several rules fit, the order of arms decides (`subtypeRule`,
--- `checkRule`).
+--   Γ ⊢ .. ⊣ Δ       is a judgement with its input and its output context, entries oldest first: x : A, a, ^a, ^a = A and $a are VarBnd,
+--                    TVarBnd, ETVarBnd, SETVarBnd and Mark, and Γ, x : A is Γ with that entry pushed (as types, a and ^a are Var and ETVar);
+--   Γ[^a], Γ[Θ]      in one drawing are any context, and the same with Θ in the place of its earliest ^a, or at its end where it has none
+--                    (`replace`);
+--   Δ, x : _, Θ      after ⊣ is any context, cut at its earliest entry for x, whatever type that has: it need not be the one that the rule
+--                    pushed (case (d)); where there is none, Δ is all of it and Θ is empty. So too Δ, b, Θ and Δ, $b, Θ (`rightOf`,
+--                    `solvedAndRight`); solved Δ are its solved entries;
+--   [Γ]A, [R/a]A     are A with the context applied, and with R for a, each charged (Types);
+--   a not in T       says that neither Var a nor ETVar a is free in T (`occurs`);
+--   before Γ a b     says that both are unsolved in Γ, and that ^a's earliest entry is the later one (Contexts);
+--   b fresh          takes the next fresh name (Run).
+-- No context is asked to be well-formed, nor a type to have its names in one. Of several rules that fit, the first arm's is taken (`instRule`,
+-- where Reach, Arr and All come before Solve, `subtypeRule`, `checkRule`); what chooses a rule is asked there. Refusals are not drawn: they are
+-- where no arm fits, where x has no entry, and where Solve's conditions (is_mono, then a not in T) or strict ChkLam's do not hold.
 use Prim.Native.Nat.{ℕ, zero, suc, _+_}
 use mathlib.Core.Bool.{Bool, true, false, _&&_}
 use mathlib.Core.List.{[], _∷_}
@@ -24,7 +27,7 @@ use Rattle.definition.specs.Run.{M, _>>=_, give, refuse, halt, charge, f
 use Rattle.definition.specs.Contexts.{kVar, kTVar, kMark, find, rightOf, _▹_, replace, solvedAndRight, before}
 use Rattle.definition.specs.Types.{types-compute, sameName, isMono, occurs, subst, apply, sameTy}
 
--- what a rule gives: its number, result type (Int where the judgement gives none), output context and children; and what a judgement gives:
+-- what a rule gives: which it is, its result type (Int where the judgement gives none), output context and children; and what a judgement gives:
 -- result type, output context, tree
 abbrev pub Fired : Type 0
 Fired = Rule × Ty × Ctx × Trees
@@ -119,7 +122,7 @@ unfoldable pub instArr : Side → Rule
 instArr onL = Syntax.InstLArr
 instArr onR = Syntax.InstRArr
 
--- is_mono T    a not in T
+-- is_mono T    a not in T    (and neither Reach, Arr nor All fits)
 -- ------------------------------- InstLSolve; InstRSolve with T :=< ^a
 -- Γ[^a] ⊢ ^a :=< T ⊣ Γ[^a = T]
 unfoldable pub solve : Side → Ctx → TyVar → Ty → M Fired
@@ -128,7 +131,7 @@ solve s Γ a T =
     (pick (occurs a T) (refuse (occursCheck a T)) (closes (instSolve s) (replace a (setvarBnd a T ∷ []) Γ)))
     (refuse (instantiationError a T))
 
--- before Γ a b
+-- before Γ[^b] a b
 -- --------------------------------- InstLReach; InstRReach with ^b :=< ^a
 -- Γ[^b] ⊢ ^a :=< ^b ⊣ Γ[^b = ^a]
 unfoldable pub reach : Side → Ctx → TyVar → TyVar → M Fired
@@ -294,8 +297,8 @@ chkSub judge Γ e B = do
   (C, Θ, t′) ← judge (subtype Δ A′ B′)
   give (Syntax.ChkSub, int, Θ, t & t′ & leaf)
 
--- ----------------- ChkLitInt        ------------------ ChkLitBool
--- Γ ⊢ n ⇐ Int ⊣ Γ                    Γ ⊢ b ⇐ Bool ⊣ Γ
+-- ----------------- ChkLitInt        --------------------- ChkLitBool
+-- Γ ⊢ 1 ⇐ Int ⊣ Γ                    Γ ⊢ true ⇐ Bool ⊣ Γ
 unfoldable pub checkRule : Mode → Judge → Ctx → Expr → Ty → M Fired
 checkRule m judge Γ e B =
     when (eqb (exprCode e) 22 && eqb (tyCode B) 1) (closes Syntax.ChkLitInt Γ)
@@ -387,7 +390,7 @@ infIf m judge Γ e e′ e″ = do
   give (Syntax.InfIf, A, Γ₄, t₁ & t₂ & t₃ & t₄ & leaf)
 
 -- Γ ⊢ e ⇐ A ⊣ Δ    Δ ⊢ e′ ⇐ A ⊣ Θ
--- ---------------------------------- InfArith (A and C are Int), InfBool (both are Bool), InfCmp (A is Int, C is Bool)
+-- ---------------------------------- InfArith (1 to 4; A and C are Int), InfBool (5, 6; both are Bool), InfCmp (9 to 12; A is Int, C is Bool)
 -- Γ ⊢ e op e′ ⇒ C ⊣ Θ
 unfoldable pub infBoth : Judge → Rule → Ty → Ty → Ctx → Expr → Expr → M Fired
 infBoth judge r A C Γ e e′ = do
@@ -396,7 +399,7 @@ infBoth judge r A C Γ e e′ = do
   give (r, C, Θ, t & t′ & leaf)
 
 -- Γ ⊢ e ⇒ A ⊣ Δ    Δ ⊢ e′ ⇐ A ⊣ Θ
--- ---------------------------------- InfEq
+-- ---------------------------------- InfEq (7, 8)
 -- Γ ⊢ e == e′ ⇒ Bool ⊣ Θ
 unfoldable pub infEq : Judge → Ctx → Expr → Expr → M Fired
 infEq judge Γ e e′ = do
@@ -441,8 +444,8 @@ infTApp judge Γ e B = do
   A′ ← instantiate B A
   give (Syntax.InfTApp, A′, Δ, t & leaf)
 
--- ----------------- InfLitInt        ------------------ InfLitBool
--- Γ ⊢ n ⇒ Int ⊣ Γ                    Γ ⊢ b ⇒ Bool ⊣ Γ
+-- ----------------- InfLitInt        --------------------- InfLitBool
+-- Γ ⊢ 1 ⇒ Int ⊣ Γ                    Γ ⊢ true ⇒ Bool ⊣ Γ
 unfoldable pub inferRule : Mode → Judge → Ctx → Expr → M Fired
 inferRule m judge Γ (evar p x) = infVar x Γ (find (kVar x) Γ)
 inferRule m judge Γ (ann p e A) = infAnn judge Γ e A
@@ -457,7 +460,7 @@ inferRule m judge Γ (ifThenElse p e e′ e″) = infIf m judge Γ e e′ e″
 inferRule m judge Γ (binOp p o e e′) = infBinOp judge Γ o e e′
 
 -- ---- "Each judgement of kinds 1 to 6 entered is charged 1 plus the entries of its input context; each that succeeds, the entries of its
--- output context. .. Charges fall in 000's order." Entries, not words (reading 12); on entering, before its rule; on leaving, after it.
+-- output context. .. Charges fall in 000's order" (reading 16). Entries, not words (reading 12); on entering, before its rule; on leaving, after it.
 
 unfoldable pub rule : Mode → Judge → Judgement → M Fired
 rule m judge (infer Γ e) = inferRule m judge Γ e

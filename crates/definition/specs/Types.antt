@@ -40,8 +40,8 @@ subst a R (forall b A) = do
   u ← charge 1
   pick (sameName b a) (give (forall b A)) (do A′ ← subst a R A; give (forall b A′))
 
--- ---- "Context application is charged one for every call of apply_ctx_type_once in its first pass, followed solutions included.
--- Later passes of apply_ctx_type change nothing, so they aren't charged; prove that." (laws, LaterPasses)
+-- ---- "Context application is charged one for every call of apply_ctx_type_once in its first pass, followed solutions included; .."
+-- "Later passes of apply_ctx_type change nothing, so they aren't charged; prove that." (laws, LaterPasses)
 
 unfoldable pub solutionOr : Ty → (Ty → M Ty) → Option Ty → M Ty
 solutionOr A follow none = give A

@@ -17,7 +17,7 @@ use Rattle.definition.specs.Question.{Mode, Read, got, fault, Question, readQue
 use Rattle.definition.specs.Run.{Out, done, fail, stop, M, andThen, _>>=_, give, refuse, charge}
 use Rattle.definition.specs.Rules.{Result, judge}
 use Rattle.definition.specs.Reply.{Reply, refusal, reported, errorCode, answer, outReply, readReply, workWords, reply}
-use Rattle.laws.specs.Count.{charged, upTo, Count, countTo, Passes, Asks}
+use Rattle.laws.specs.Count.{charged, upTo, Count, countTo, Passes, IsRun}
 use Rattle.laws.proofs.Steps.{is-true, is-false, pick-true, pick-false, charge-yes, charge-no}
 use Rattle.laws.proofs.Budgets.{late, Steady, smaller, judge-steady, answer-steady}
 
@@ -27,12 +27,12 @@ enough : (l u : ℕ) → u ≤ l → upTo l (some u) ≡ some u
 unfolding upTo
 enough l u h = pick-true _ _ (is-true (leb u l) (yes-leb h))
 
-passed : (l : ℕ) (c : Option ℕ) → Passes l c → upTo l c ≡ none
+passed : (l : ℕ) (c : Option ℕ) → Passes c l → upTo l c ≡ none
 unfolding upTo
 passed l none h = refl
 passed l (some u) h = pick-false _ _ (is-false (leb u l) (no-leb h))
 
-passes : (l : ℕ) (c : Option ℕ) → upTo l c ≡ none → Passes l c
+passes : (l : ℕ) (c : Option ℕ) → upTo l c ≡ none → Passes c l
 passes l none e = tt
 passes l (some u) e = elim (decLe u l) [ yes h ↦ absurd (Option·some-ne-none u (sym (enough l u h) ∙ e)) | no h ↦ lt-of-not-le h ]
 
@@ -85,8 +85,8 @@ charged-late {A} l k o h = go o
 charged-smaller : {A : Type 0} {m : M A} → Steady m → (l k n : ℕ) → l ≤ k → charged l (m l n) ≡ upTo l (charged k (m k n))
 charged-smaller {m = m} s l k n h = rw (smaller s l k n h) (charged-late l k (m k n) h)
 
-counted : {A : Type 0} {m : M A} → Steady m → (l n u : ℕ) → charged l (m l n) ≡ some u → Count m n (some u)
-counted {m = m} s l n u e = record {
+count-from : {A : Type 0} {m : M A} → Steady m → (l n u : ℕ) → charged l (m l n) ≡ some u → Count m n (some u)
+count-from {m = m} s l n u e = record {
   at = λ k. elim (decLe k l) [
     | yes h ↦ charged-smaller s k l n h ∙ ap (upTo k) e
     | no h ↦ let i : l < k = lt-of-not-le h in further l k u (charged k (m k n)) (omega arith) (sym (charged-smaller s l k n (omega arith)) ∙ e)
@@ -96,10 +96,10 @@ counted {m = m} s l n u e = record {
 -- a question's, and each judgement's
 pub question-counted : (q : Question) (most u : ℕ) → countTo most q ≡ some u → Count (answer q) 0 (some u)
 unfolding countTo
-question-counted q most u e = counted (answer-steady q) most 0 u e
+question-counted q most u e = count-from (answer-steady q) most 0 u e
 
 pub judgement-counted : (m : Mode) (j : Judgement) (l n u : ℕ) → charged l (judge m j l n) ≡ some u → Count (judge m j) n (some u)
-judgement-counted m j = counted (judge-steady m j)
+judgement-counted m j = count-from (judge-steady m j)
 
 -- a run that ends at no budget has none
 pub no-count : {A : Type 0} {m : M A} {n : ℕ} → ((l : ℕ) → m l n ≡ stop) → Count m n none
@@ -114,7 +114,7 @@ out l (done a r n) e = absurd (Option·some-ne-none _ e)
 out l (fail x r) e = absurd (Option·some-ne-none _ e)
 out l stop e = refl
 
-pub out-exactly-past-count : {A : Type 0} {m : M A} {n : ℕ} {c : Option ℕ} → Count m n c → (l : ℕ) → (m l n ≡ stop) ↔ Passes l c
+pub out-exactly-past-count : {A : Type 0} {m : M A} {n : ℕ} {c : Option ℕ} → Count m n c → (l : ℕ) → (m l n ≡ stop) ↔ Passes c l
 unfolding charged
 out-exactly-past-count {m = m} {n} {c} h l =
     (λ e. passes l c (sym (h .at l) ∙ ap (charged l) e), λ p. out l (m l n) (h .at l ∙ passed l c p))
@@ -170,27 +170,27 @@ within {high = high} {x} h k =
     let p : x ≢ 0 = λ e. not-suc-le-zero (rw e at h) in
     ap (_|| ltb high x) (is-false (eqb x 0) (no-eqb p)) ∙ is-false (ltb high x) (no-ltb k)
 
-told-reply : {b w : ℕ} {ws : List ℕ} {q : Question} → Asks b w ws q → (room : ℕ) → Told b (reply b w room ws) (charged b (answer q b 0))
+told-reply : {b w : ℕ} {ws : List ℕ} {q : Question} → IsRun b w ws q → (room : ℕ) → Told b (reply b w room ws) (charged b (answer q b 0))
 unfolding reply readReply pick
 told-reply {b} {w} {ws} {q} a room =
     rw (within (a .low) (a .high), is-false (ltb w (workWords b)) (no-ltb (a .enough)), within (some-words ws (a .read)) (a .few), a .read)
     (told (q .kind) b room (answer q b 0))
 
 exactly : {b : ℕ} {R : Reply} {u : Option ℕ} → Told b R u → (c : Option ℕ) → u ≡ upTo b c
-    → (R .code ≡ 6 → Passes b c) × (Passes b c → R ≡ refusal 6 0 b)
+    → (R .code ≡ 6 → Passes c b) × (Passes c b → R ≡ refusal 6 0 b)
 exactly {b} (six r) c e = (λ _. passes b c (sym e), λ _. r)
 exactly {b} (other {u} h r) c e = (λ k. absurd (h k), λ p. absurd (Option·some-ne-none u (e ∙ passed b c p)))
 
 -- "6 Budget: the next charge would pass the budget"
-pub six-exactly-past-count : {budget work : ℕ} {ws : List ℕ} {q : Question} → Asks budget work ws q → {c : Option ℕ} → Count (answer q) 0 c
+pub six-exactly-past-count : {budget work : ℕ} {ws : List ℕ} {q : Question} → IsRun budget work ws q → {c : Option ℕ} → Count (answer q) 0 c
     → (room : ℕ)
-    → (reply budget work room ws .code ≡ 6 → Passes budget c) × (Passes budget c → reply budget work room ws ≡ refusal 6 0 budget)
+    → (reply budget work room ws .code ≡ 6 → Passes c budget) × (Passes c budget → reply budget work room ws ≡ refusal 6 0 budget)
 six-exactly-past-count {budget} a {c} h room = exactly (told-reply a room) c (h .at budget)
 
 -- the same of a count that computes, as far as any bound that the budget is within: no question is left out
-pub six-exactly-past-count-to : {budget work : ℕ} {ws : List ℕ} {q : Question} → Asks budget work ws q → (most : ℕ) → budget ≤ most → (room : ℕ)
-    → (reply budget work room ws .code ≡ 6 → Passes budget (countTo most q))
-    × (Passes budget (countTo most q) → reply budget work room ws ≡ refusal 6 0 budget)
+pub six-exactly-past-count-to : {budget work : ℕ} {ws : List ℕ} {q : Question} → IsRun budget work ws q → (most : ℕ) → budget ≤ most → (room : ℕ)
+    → (reply budget work room ws .code ≡ 6 → Passes (countTo most q) budget)
+    × (Passes (countTo most q) budget → reply budget work room ws ≡ refusal 6 0 budget)
 unfolding countTo
 six-exactly-past-count-to {budget} {q = q} a most h room =
     exactly (told-reply a room) (countTo most q) (charged-smaller (answer-steady q) budget most 0 h)
@@ -201,6 +201,6 @@ units (six r) h = absurd (h (ap (λ R. R .code) r))
 units (other k r) h = ap some (sym r)
 
 -- "Units equal this count in the definition."
-pub units-are-the-count : {budget work : ℕ} {ws : List ℕ} {q : Question} → Asks budget work ws q → (room : ℕ)
+pub units-are-the-count : {budget work : ℕ} {ws : List ℕ} {q : Question} → IsRun budget work ws q → (room : ℕ)
     → reply budget work room ws .code ≢ 6 → Count (answer q) 0 (some (reply budget work room ws .units))
-units-are-the-count {budget} {q = q} a room h = counted (answer-steady q) budget 0 _ (units (told-reply a room) h)
+units-are-the-count {budget} {q = q} a room h = count-from (answer-steady q) budget 0 _ (units (told-reply a room) h)

@@ -10,7 +10,7 @@ use Rattle.definition.specs.Run.{Out, done, fail, stop, M, andThen, _>>=_, char
 use Rattle.definition.specs.Types.{solutionOr, applyStep, applyTo, apply}
 use Rattle.definition.specs.Rules.{Result}
 use Rattle.definition.specs.Reply.{refusal, reply, answer}
-use Rattle.laws.specs.Count.{charged, Count, countTo, Passes, Asks}
+use Rattle.laws.specs.Count.{charged, Count, countTo, Passes, IsRun}
 use Rattle.laws.specs.Rings.{Leads, here, follow, left, right, under, Ring, Applies, itself, first, after, judging}
 use Rattle.laws.proofs.Steps.{bind-done, bind-stop}
 use Rattle.laws.proofs.Depth.{judge-eq}
@@ -67,7 +67,7 @@ unfolding countTo charged
 ring-has-no-count ring leads q applies = rw (run-out ring leads applies)
 
 pub ring-gets-6 : {Γ : Ctx} {a : TyVar} {A : Ty} → Ring Γ a → Leads Γ a A → {q : Question} {l : ℕ} → Applies Γ A Result (answer q) l 0
-    → {budget work : ℕ} {ws : List ℕ} → Asks budget work ws q → budget ≤ l → (room : ℕ) → reply budget work room ws ≡ refusal 6 0 budget
+    → {budget work : ℕ} {ws : List ℕ} → IsRun budget work ws q → budget ≤ l → (room : ℕ) → reply budget work room ws ≡ refusal 6 0 budget
 ring-gets-6 ring leads {q} {l} applies {budget} asks h room =
-    let p : Passes budget (countTo l q) = rw (ring-has-no-count ring leads q applies) tt in
+    let p : Passes (countTo l q) budget = rw (ring-has-no-count ring leads q applies) tt in
     six-exactly-past-count-to asks l h room .1 p

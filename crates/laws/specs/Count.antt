@@ -18,7 +18,7 @@ charged l (done a r n) = some (l - r)
 charged l (fail e r) = some (l - r)
 charged l stop = none
 
--- a count, where the budget l is enough for it
+-- what the budget l is charged by a run whose count is c: c where l is enough for it, else none
 unfoldable pub upTo : ℕ → Option ℕ → Option ℕ
 upTo l none = none
 upTo l (some u) = pick (leb u l) (some u) none
@@ -34,15 +34,15 @@ countTo most q = charged most (answer q most 0)
 
 -- ---- "6 Budget: the next charge would pass the budget"
 
--- there is no count, or it is larger than the budget l
-abbrev pub Passes : ℕ → Option ℕ → Type 0
-Passes l none = Unit {0}
-Passes l (some u) = l < u
+-- the count passes the budget l: it is larger, or there is none
+abbrev pub Passes : Option ℕ → ℕ → Type 0
+Passes none l = Unit {0}
+Passes (some u) l = l < u
 
 -- ---- "1, 2, 3 are tried in that order; then one reading from left to right, and its first fault decides between 4 and 5."
 
 -- a call that none of 1 to 5 refuses, and the question that its words are
-pub record Asks (budget work : ℕ) (ws : List ℕ) (q : Question) : Type 0 where
+pub record IsRun (budget work : ℕ) (ws : List ℕ) (q : Question) : Type 0 where
   pub low : 1 ≤ budget
   pub high : budget ≤ 8192
   pub enough : workWords budget ≤ work

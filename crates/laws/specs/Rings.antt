@@ -26,9 +26,9 @@ pub record Ring (Γ : Ctx) (a : TyVar) : Type 0 where
   pub solved : find (kSETVar a) Γ ≡ some solution
   pub back : Leads Γ a solution
 
--- ---- A run that applies Γ to A, from the budget l, with n fresh names taken
+-- ---- A run that comes to apply Γ to A, from the budget l, with n fresh names taken
 
--- at once, in its first part, in what follows a part that ended, or in a judgement's step
+-- at once, in its first part, in what follows a part that ended, or in a judgement's step; and so does every run that is equal to such a one
 pub data Applies (Γ : Ctx) (A : Ty) : (B : Type 0) → M B → ℕ → ℕ → Type 1 where
   itself : {l n : ℕ} → Applies Γ A Ty (apply Γ A) l n
   first : {B C : Type 0} {x : M B} (f : B → M C) {l n : ℕ} → Applies Γ A B x l n → Applies Γ A C (x >>= f) l n

@@ -2,9 +2,9 @@
 use mathlib.Core.Path.{_≡_, sym, _∙_}
 use mathlib.Core.Bool.{Bool, true, false}
 use mathlib.Core.List.{List, _++_}
-use Prim.Native.Nat.{ℕ, _-_, _*_, _/_, _%_, min}
+use Prim.Native.Nat.{ℕ, _-_, _*_, _/_, _%_, _<_, min}
 use lib.ListN.{length, drop}
-use lib.Dec.{ltb}
+use lib.Dec.{T, ltb, ltb→lt}
 use Rattle.definition.specs.Syntax.{pick}
 use Rattle.definition.specs.Reply.{Reply}
 use Rattle.definition.specs.Memory.{call}
@@ -21,12 +21,11 @@ use Rattle.promises.proofs.One.{one-check, one-answer}
 
 -- the same budget, work and report slice
 pub checks-alike : {P : Pairing} {q q′ : List ℕ} → AlikeQuestions P q q′ → {budget : ℕ} {w s w₁ w₂ s₁ s₂ n₁ n₂ : List ℕ} {r₁ r₂ : ℕ}
-    → Checked budget q w w₁ s s₁ n₁ r₁ → Checked budget q′ w w₂ s s₂ n₂ r₂ → AlikeChecks P r₁ r₂ n₁ n₂ s₁ s₂ w₁ w₂
-checks-alike {P} {q} {q′} h {budget} {w} {s} a b =
+    → Checked budget q w w₁ s s₁ n₁ r₁ → Checked budget q′ w w₂ s s₂ n₂ r₂
+    → AlikeChecks P (call budget q w s .answered) (call budget q′ w s .answered) r₁ r₂ n₁ n₂ s₁ s₂ w₁ w₂
+checks-alike h {budget} {w} {s} a b =
     let c = calls-alike h budget w s in
     record {
-      one = call budget q w s .answered;
-      other = call budget q′ w s .answered;
       alike = c .answered;
       returns = (a .returns, b .returns);
       four = (a .four, b .four);
@@ -52,23 +51,24 @@ handed short R s =
     (record { returns = 8; replySlice = s })
     (record { returns = R .code; replySlice = bytesOf ws ++ drop (4 * length ws) s })
 
-handed-alike : {P : Pairing} (short : Bool) {R R′ : Reply} (s : List ℕ) → AlikeReplies P R R′
-    → AlikeAnswers P (handed short R s .returns) (handed short R′ s .returns) (handed short R s .replySlice) (handed short R′ s .replySlice)
+handed-alike : {P : Pairing} (short : Bool) {R R′ : Reply} (s : List ℕ) → (T short → length s < 16) → AlikeReplies P R R′
+    → AlikeAnswers P R R′ (handed short R s .returns) (handed short R′ s .returns) (handed short R s .replySlice) (handed short R′ s .replySlice)
 unfolding pick numbers
-handed-alike true s a = AlikeAnswers.short
-handed-alike false {R} {R′} s a =
+handed-alike true s h a = AlikeAnswers.short (h tt)
+handed-alike false {R} {R′} s h a =
     let l : length (R .report) ≡ length (R′ .report) = sameLength (a .report .words) in
     rw (← l) (AlikeAnswers.told a _)
 
 -- bytes that are whole words, of questions alike
 pub answers-alike : {P : Pairing} {b b′ : List ℕ} → length b % 4 ≡ 0 → length b′ % 4 ≡ 0
     → AlikeQuestions P (wordsOf b (length b / 4)) (wordsOf b′ (length b′ / 4)) → {s s₁ s₂ : List ℕ} {r₁ r₂ : ℕ}
-    → Answered b s s₁ r₁ → Answered b′ s s₂ r₂ → AlikeAnswers P r₁ r₂ s₁ s₂
+    → Answered b s s₁ r₁ → Answered b′ s s₂ r₂
+    → AlikeAnswers P (byteReply ((length s - 16) / 4) b) (byteReply ((length s - 16) / 4) b′) r₁ r₂ s₁ s₂
 unfolding hostCall
 answers-alike {P} {b} {b′} k k′ h {s} a a′ =
     let room : ℕ = (length s - 16) / 4 in
     let x : AlikeReplies P (byteReply room b) (byteReply room b′) = rw (whole room b k, whole room b′ k′) (alike h 384 16384 (min room 4096)) in
-    rw (a .returns, a′ .returns, a .reply, a′ .reply) (handed-alike (ltb (length s) 16) s x)
+    rw (a .returns, a′ .returns, a .reply, a′ .reply) (handed-alike (ltb (length s) 16) s (ltb→lt (length s) 16) x)
 
 pub answer-no-literal : {b b′ : List ℕ} → length b % 4 ≡ 0 → length b′ % 4 ≡ 0
     → AlikeQuestions itself (wordsOf b (length b / 4)) (wordsOf b′ (length b′ / 4)) → {s s₁ s₂ : List ℕ} {r₁ r₂ : ℕ}

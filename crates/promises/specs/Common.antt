@@ -1,7 +1,8 @@
 -- What two calls of an exported function have in common: everything, for the same question; all but paired names, for questions alike.
 use mathlib.Core.Path.{_≡_}
 use mathlib.Core.List.{List, _++_}
-use Prim.Native.Nat.{ℕ}
+use Prim.Native.Nat.{ℕ, _<_}
+use lib.ListN.{length}
 use Rattle.definition.specs.Reply.{Reply}
 use Rattle.definition.specs.Host.{bytesOf, numbers}
 use Rattle.alike.specs.Alike.{Pairing, AlikeReplies}
@@ -18,20 +19,18 @@ pub record SameAnswers (r r′ : ℕ) (s s′ : List ℕ) : Type 0 where
   pub returns : r ≡ r′
   pub reply : s ≡ s′
 
--- ---- Alike: two replies that are alike, handed over, and words that are the same
+-- ---- Alike, of the replies R and R′ that the two questions get: both are handed over, and words that are the same stand behind them
 
-pub record AlikeChecks (P : Pairing) (r r′ : ℕ) (ns ns′ s s′ w w′ : List ℕ) : Type 0 where
-  pub one : Reply
-  pub other : Reply
-  pub alike : AlikeReplies P one other
-  pub returns : (r ≡ one .code) × (r′ ≡ other .code)
-  pub four : (ns ≡ numbers one) × (ns′ ≡ numbers other)
+pub record AlikeChecks (P : Pairing) (R R′ : Reply) (r r′ : ℕ) (ns ns′ s s′ w w′ : List ℕ) : Type 0 where
+  pub alike : AlikeReplies P R R′
+  pub returns : (r ≡ R .code) × (r′ ≡ R′ .code)
+  pub four : (ns ≡ numbers R) × (ns′ ≡ numbers R′)
   pub rest : List ℕ
-  pub report : (s ≡ one .report ++ rest) × (s′ ≡ other .report ++ rest)
+  pub report : (s ≡ R .report ++ rest) × (s′ ≡ R′ .report ++ rest)
   pub work : w ≡ w′
 
 -- the telephone host's: under 16 bytes nothing is written; else the words of a reply as bytes, then bytes that are the same
-pub data AlikeAnswers (P : Pairing) : ℕ → ℕ → List ℕ → List ℕ → Type 0 where
-  short : {s : List ℕ} → AlikeAnswers P 8 8 s s
-  told : {R R′ : Reply} → AlikeReplies P R R′ → (rest : List ℕ)
-      → AlikeAnswers P (R .code) (R′ .code) (bytesOf (numbers R ++ R .report) ++ rest) (bytesOf (numbers R′ ++ R′ .report) ++ rest)
+pub data AlikeAnswers (P : Pairing) (R R′ : Reply) : ℕ → ℕ → List ℕ → List ℕ → Type 0 where
+  short : {s : List ℕ} → length s < 16 → AlikeAnswers P R R′ 8 8 s s
+  told : AlikeReplies P R R′ → (rest : List ℕ)
+      → AlikeAnswers P R R′ (R .code) (R′ .code) (bytesOf (numbers R ++ R .report) ++ rest) (bytesOf (numbers R′ ++ R′ .report) ++ rest)
