@@ -1,11 +1,20 @@
 -- The fifteen questions of document 01 with their replies, as one table under one theorem, and the edges that it states.
 use mathlib.Core.Path.{_≡_, refl}
-use Prim.Native.Nat.{ℕ, _+_, _*_}
+use mathlib.Core.Bool.{Bool, true, false, not, _&&_}
+use Prim.Native.Nat.{ℕ, zero, suc, _+_, _*_, _≤_, _<_, min}
+use native.Mathlib.Omega.{arith}
 use mathlib.Core.List.{List, [], _∷_, _++_, map}
 use lib.ListN.{length, take, drop, replicate}
-use Rattle.definition.specs.Reply.{Reply, refusal, reply, reply-computes}
-use Rattle.definition.specs.Memory.{call, memory-computes}
-use Rattle.definition.specs.Host.{hostCall, host-computes}
+use lib.Dec.{T, leb}
+use mir.Facts.{yes-leb, no-leb}
+use Rattle.definition.specs.Syntax.{pick, TmVar, TyVar, int, bool, var, etvar, arrow, forall, evar, app, abs, tapp, tabs, ann, litInt, litBool, letIn, ifThenElse, binOp, varBnd, tvarBnd, etvarBnd, setvarBnd, mark, onL, instantiationError}
+use Rattle.definition.specs.Run.{fail}
+use Rattle.definition.specs.Contexts.{keyOf, kindOf}
+use Rattle.definition.specs.Types.{isMono}
+use Rattle.definition.specs.Rules.{tyCode, exprCode, solve}
+use Rattle.definition.specs.Reply.{Reply, refusal, reported, outReply, reply, reply-computes}
+use Rattle.definition.specs.Memory.{Call, call, memory-computes}
+use Rattle.definition.specs.Host.{HostCall, wordsOf, bytesOf, hostCall, host-computes}
 
 -- what document 01 says of a reply: all of it, or code, at, and how the report begins
 pub data Says : Type 0 where
@@ -79,20 +88,156 @@ pub edges :
 unfolding reply-computes
 edges = (refl, refl, refl, refl, refl, refl, refl)
 
--- Memory: code 1 leaves both slices; 11 and 0 zero the first 32 x budget + 4,096 words of work alone, and write their report alone
+-- A report of more than 4,294,967,295 words is 7 with that length, however long the slice is; one of just so many that the slice can
+-- hold is written. (No list so long can be computed.)
+pub lengths :
+    (room c p u : ℕ) (ws : List ℕ)
+    → (4_294_967_295 < length ws → reported room c p u ws ≡ record { code = 7; at = 0; len = 4_294_967_295; units = u; report = [] })
+    × (length ws ≡ 4_294_967_295 → length ws ≤ room
+    → reported room c p u ws ≡ record { code = c; at = p; len = length ws; units = u; report = ws })
+unfolding reported pick
+lengths room c p u ws = (past, whole)
+  where
+    neither : (a b : Bool) → T (not b) → (a && b) ≡ false
+    neither a true t = absurd t
+    neither true false t = refl
+    neither false false t = refl
+
+    both : (a b : Bool) → T a → T b → (a && b) ≡ true
+    both true true t s = refl
+    both true false t s = absurd s
+    both false b t s = absurd t
+
+    past : 4_294_967_295 < length ws → reported room c p u ws ≡ record { code = 7; at = 0; len = 4_294_967_295; units = u; report = [] }
+    past h =
+        let e : min (length ws) 4_294_967_295 ≡ 4_294_967_295 = omega arith in
+        rw (neither (leb (length ws) room) (leb (length ws) 4_294_967_295) (no-leb h), e) refl
+
+    whole : length ws ≡ 4_294_967_295 → length ws ≤ room → reported room c p u ws ≡ record { code = c; at = p; len = length ws; units = u; report = ws }
+    whole h k =
+        let l : length ws ≤ 4_294_967_295 = omega arith in
+        rw (both (leb (length ws) room) (leb (length ws) 4_294_967_295) (yes-leb k) (yes-leb l)) refl
+
+-- ---- What no question shows
+
+-- the names 1 and 2
+abbrev a₁ : TyVar
+a₁ = record { number = 1 }
+
+abbrev a₂ : TyVar
+a₂ = record { number = 2 }
+
+abbrev x₁ : TmVar
+x₁ = record { number = 1 }
+
+-- a rule's first test by a code goes by these numbers, which document 01 has for types, expressions and entries
+pub codes :
+    (map tyCode (int ∷ bool ∷ var a₁ ∷ etvar a₁ ∷ arrow int int ∷ forall a₁ int ∷ []) ≡ 1 ∷ 2 ∷ 3 ∷ 4 ∷ 5 ∷ 6 ∷ [])
+    × (map exprCode
+    (evar 0 x₁
+    ∷ app 0 (litBool 0 0) (litBool 0 0)
+    ∷ abs 0 x₁ int (litBool 0 0)
+    ∷ tapp 0 (litBool 0 0) int
+    ∷ tabs 0 a₁ (litBool 0 0)
+    ∷ ann 0 (litBool 0 0) int
+    ∷ litInt 0 0 0
+    ∷ litBool 0 0
+    ∷ letIn 0 x₁ (litBool 0 0) (litBool 0 0)
+    ∷ ifThenElse 0 (litBool 0 0) (litBool 0 0) (litBool 0 0)
+    ∷ binOp 0 1 (litBool 0 0) (litBool 0 0)
+    ∷ [])
+    ≡ 16 ∷ 17 ∷ 18 ∷ 19 ∷ 20 ∷ 21 ∷ 22 ∷ 23 ∷ 24 ∷ 25 ∷ 26 ∷ [])
+    × (map (λ e. kindOf (keyOf e)) (varBnd x₁ int ∷ tvarBnd a₁ ∷ etvarBnd a₁ ∷ setvarBnd a₁ int ∷ mark a₁ ∷ []) ≡ 32 ∷ 33 ∷ 34 ∷ 35 ∷ 36 ∷ [])
+unfolding reply-computes
+codes = (refl, refl, refl)
+
+-- is_mono is asked of Int, Bool, Var and ETVar alone, so that nothing is 16; it is 000's all the same
+pub mono :
+    (map isMono (int ∷ bool ∷ var a₁ ∷ etvar a₁ ∷ arrow int int ∷ arrow (forall a₁ int) int ∷ arrow int (forall a₁ int) ∷ forall a₁ int ∷ [])
+    ≡ true ∷ true ∷ true ∷ true ∷ true ∷ false ∷ false ∷ false ∷ [])
+    × (solve onL [] a₂ (forall a₁ bool) 5 0 ≡ fail (instantiationError a₂ (forall a₁ bool)) 5)
+    × (outReply 5 9 6 (fail (instantiationError a₂ (forall a₁ bool)) 5)
+    ≡ record { code = 16; at = 2; len = 5; units = 4; report = 3 ∷ 6 ∷ 1 ∷ 2 ∷ 0 ∷ [] })
+unfolding reply-computes
+mono = (refl, refl, refl)
+
+-- ---- Memory
+
+-- case (a), which has 2 units and a report of 13 words
+unfoldable pub literal : List ℕ
+literal = 7 ∷ 0 ∷ 0 ∷ 3 ∷ 22 ∷ 1 ∷ 0 ∷ 0 ∷ 0 ∷ []
+
+-- a call on work that is full of 3, and what it leaves: the code, work's first word, its words from a place on, and the report slice
+unfoldable pub leaves : ℕ → List ℕ → ℕ → List ℕ → ℕ → List ℕ
+leaves budget question work slice n =
+    let c : Call = call budget question (replicate work 3) slice in
+    c .answered .code ∷ take 1 (c .workSlice) ++ (drop n (c .workSlice) ++ c .reportSlice)
+
+-- 1 to 5 leave both slices; 6 and 7 zero the first 32 x budget + 4,096 words of work alone, and leave the report slice; 0 and 11 zero them
+-- too, and write their report alone
 pub memory :
     (call 0 [] (7 ∷ 8 ∷ []) (9 ∷ []) ≡ record { answered = refusal 1 0 0; reportSlice = 9 ∷ []; workSlice = 7 ∷ 8 ∷ [] })
-    × (drop 4126 (call 1 (7 ∷ 0 ∷ 0 ∷ 2 ∷ 16 ∷ 5 ∷ 0 ∷ 0 ∷ []) (replicate 4130 3) (9 ∷ 9 ∷ 9 ∷ []) .workSlice) ≡ 0 ∷ 0 ∷ 3 ∷ 3 ∷ [])
-    × (call 1 (7 ∷ 0 ∷ 0 ∷ 2 ∷ 16 ∷ 5 ∷ 0 ∷ 0 ∷ []) (replicate 4130 3) (9 ∷ 9 ∷ 9 ∷ []) .reportSlice ≡ 0 ∷ 0 ∷ 9 ∷ [])
-    × (drop 4126 (call 2 (7 ∷ 0 ∷ 0 ∷ 3 ∷ 22 ∷ 1 ∷ 0 ∷ 0 ∷ 0 ∷ []) (replicate 4162 3) (replicate 13 9) .workSlice) ≡ replicate 34 0 ++ 3 ∷ 3 ∷ [])
-unfolding memory-computes
-memory = (refl, refl, refl, refl)
+    × (leaves 2 literal 4159 (9 ∷ []) 4157 ≡ 2 ∷ 3 ∷ 3 ∷ 3 ∷ 9 ∷ [])
+    × (leaves 1 [] 4129 (9 ∷ []) 4127 ≡ 3 ∷ 3 ∷ 3 ∷ 3 ∷ 9 ∷ [])
+    × (leaves 1 (7 ∷ 0 ∷ []) 4129 (9 ∷ []) 4127 ≡ 4 ∷ 3 ∷ 3 ∷ 3 ∷ 9 ∷ [])
+    × (leaves 1 (7 ∷ 0 ∷ 0 ∷ 2 ∷ 16 ∷ 1_000_000 ∷ 0 ∷ 0 ∷ []) 4129 (9 ∷ []) 4127 ≡ 5 ∷ 3 ∷ 3 ∷ 3 ∷ 9 ∷ [])
+    × (leaves 1 literal 4130 (replicate 13 9) 4127 ≡ 6 ∷ 0 ∷ 0 ∷ 3 ∷ 3 ∷ replicate 13 9)
+    × (leaves 2 literal 4162 (replicate 12 9) 4159 ≡ 7 ∷ 0 ∷ 0 ∷ 3 ∷ 3 ∷ replicate 12 9)
+    × (leaves 2 literal 4162 (replicate 15 9) 4159 ≡ 0 ∷ 0 ∷ 0 ∷ 3 ∷ 3 ∷ 1 ∷ 1 ∷ 0 ∷ 9 ∷ 2 ∷ 0 ∷ 4 ∷ 0 ∷ 0 ∷ 0 ∷ 0 ∷ 1 ∷ 1 ∷ 9 ∷ 9 ∷ [])
+    × (leaves 1 (7 ∷ 0 ∷ 0 ∷ 2 ∷ 16 ∷ 5 ∷ 0 ∷ 0 ∷ []) 4130 (9 ∷ 9 ∷ 9 ∷ []) 4127 ≡ 11 ∷ 0 ∷ 0 ∷ 3 ∷ 3 ∷ 0 ∷ 0 ∷ 9 ∷ [])
+unfolding leaves literal memory-computes
+memory = (refl, refl, refl, refl, refl, refl, refl, refl, refl)
 
--- The telephone host: 15 bytes of reply, a question that is not whole words, and case (a)
+-- ---- The telephone host
+
+-- words as bytes, the lowest first, and back; bytes past the words that are asked for are not read
+pub little-endian :
+    (wordsOf (4 ∷ 3 ∷ 2 ∷ 1 ∷ 255 ∷ 255 ∷ 255 ∷ 255 ∷ 9 ∷ []) 2 ≡ 16_909_060 ∷ 4_294_967_295 ∷ [])
+    × (bytesOf (16_909_060 ∷ 4_294_967_295 ∷ []) ≡ 4 ∷ 3 ∷ 2 ∷ 1 ∷ 255 ∷ 255 ∷ 255 ∷ 255 ∷ [])
+unfolding host-computes
+little-endian = (refl, refl)
+
+-- case (a) with a reply of some bytes
+unfoldable pub phoned : ℕ → HostCall
+phoned n = hostCall (bytesOf literal) (replicate n 9)
+
+-- the bytes of four numbers below 256
+unfoldable pub small : ℕ → ℕ → ℕ → ℕ → List ℕ
+small c a l u = bytesOf (c ∷ a ∷ l ∷ u ∷ [])
+
+-- "a reply under 16 bytes returns 8 before all else and writes nothing", also where the question is not whole words; "A question that isn't
+-- whole words is BadLength"; no room for the report, one byte too few, just enough, one and three more: "bytes past the report stay"
 pub telephone :
     (hostCall (7 ∷ []) (replicate 15 9) ≡ record { returns = 8; replySlice = replicate 15 9 })
-    × (hostCall (7 ∷ []) (replicate 17 9) ≡ record { returns = 3; replySlice = 3 ∷ replicate 15 0 ++ 9 ∷ [] })
-    × (take 20 (hostCall (7 ∷ replicate 11 0 ++ 3 ∷ 0 ∷ 0 ∷ 0 ∷ 22 ∷ 0 ∷ 0 ∷ 0 ∷ 1 ∷ replicate 15 0) (replicate 100 9) .replySlice)
-    ≡ 0 ∷ 0 ∷ 0 ∷ 0 ∷ 0 ∷ 0 ∷ 0 ∷ 0 ∷ 13 ∷ 0 ∷ 0 ∷ 0 ∷ 2 ∷ 0 ∷ 0 ∷ 0 ∷ 1 ∷ 0 ∷ 0 ∷ 0 ∷ [])
-unfolding host-computes
-telephone = (refl, refl, refl)
+    × (phoned 15 ≡ record { returns = 8; replySlice = replicate 15 9 })
+    × (hostCall [] (replicate 16 9) ≡ record { returns = 3; replySlice = small 3 0 0 0 })
+    × (hostCall (7 ∷ []) (replicate 17 9) ≡ record { returns = 3; replySlice = small 3 0 0 0 ++ 9 ∷ [] })
+    × (hostCall (bytesOf literal ++ 0 ∷ []) (replicate 68 9) ≡ record { returns = 3; replySlice = small 3 0 0 0 ++ replicate 52 9 })
+    × (phoned 16 ≡ record { returns = 7; replySlice = small 7 0 13 2 })
+    × (phoned 67 ≡ record { returns = 7; replySlice = small 7 0 13 2 ++ replicate 51 9 })
+    × (phoned 68 ≡ record { returns = 0; replySlice = small 0 0 13 2 ++ bytesOf (1 ∷ 1 ∷ 0 ∷ 9 ∷ 2 ∷ 0 ∷ 4 ∷ 0 ∷ 0 ∷ 0 ∷ 0 ∷ 1 ∷ 1 ∷ []) })
+    × (drop 60 (phoned 69 .replySlice) ≡ 1 ∷ 0 ∷ 0 ∷ 0 ∷ 1 ∷ 0 ∷ 0 ∷ 0 ∷ 9 ∷ [])
+    × (drop 64 (phoned 71 .replySlice) ≡ 1 ∷ 0 ∷ 0 ∷ 0 ∷ 9 ∷ 9 ∷ 9 ∷ [])
+    × (hostCall (bytesOf (7 ∷ 0 ∷ 0 ∷ 2 ∷ 16 ∷ 500_000 ∷ 0 ∷ 0 ∷ [])) (replicate 24 9)
+    ≡ record { returns = 11; replySlice = bytesOf (11 ∷ 500_000 ∷ 2 ∷ 1 ∷ 0 ∷ 0 ∷ []) })
+unfolding phoned small literal host-computes
+telephone = (refl, refl, refl, refl, refl, refl, refl, refl, refl, refl, refl)
+
+-- n times Int →, then what follows Int
+unfoldable pub arrows : ℕ → List ℕ → List ℕ
+arrows zero ws = 1 ∷ ws
+arrows (suc n) ws = 5 ∷ 1 ∷ arrows n ws
+
+-- the first 12 bytes of what the telephone host writes to a question, with room for n words: code, at, length
+unfoldable pub numbered : ℕ → List ℕ → List ℕ
+numbered n question = wordsOf (hostCall (bytesOf question) (replicate (16 + 4 * n) 9) .replySlice) 3
+
+-- "with the desk program's sizes": a report of 4,096 words is written, one of 4,097 is not, however long the reply; 384 units are given, and
+-- 385 are not
+pub desk-sizes :
+    (numbered 4100 (2 ∷ 0 ∷ 50 ∷ 32 ∷ 1 ∷ arrows 22 (32 ∷ 2 ∷ 1 ∷ 44 ∷ 25 ∷ 23 ∷ 1 ∷ 21 ∷ 26 ∷ 1 ∷ 25 ∷ 23 ∷ 1 ∷ 25 ∷ 23 ∷ 1 ∷ 21 ∷ 26 ∷ 1 ∷ 26 ∷ 1 ∷ 21 ∷ 21 ∷ 22 ∷ 1 ∷ 0 ∷ 1 ∷ 1 ∷ 22 ∷ 1 ∷ 0 ∷ 22 ∷ 1 ∷ 0 ∷ 1 ∷ 22 ∷ 1 ∷ 0 ∷ 22 ∷ 1 ∷ 0 ∷ 22 ∷ 1 ∷ 0 ∷ 1 ∷ 22 ∷ 1 ∷ 0 ∷ 0 ∷ 1 ∷ 1 ∷ [])) ≡ 0 ∷ 0 ∷ 4096 ∷ [])
+    × (numbered 4100 (1 ∷ 0 ∷ 79 ∷ 32 ∷ 1 ∷ arrows 37 (33 ∷ 7 ∷ 29 ∷ 21 ∷ 21 ∷ 26 ∷ 1 ∷ 26 ∷ 1 ∷ 26 ∷ 1 ∷ 26 ∷ 1 ∷ 21 ∷ 22 ∷ 1 ∷ 0 ∷ 1 ∷ 22 ∷ 1 ∷ 0 ∷ 22 ∷ 1 ∷ 0 ∷ 22 ∷ 1 ∷ 0 ∷ 22 ∷ 1 ∷ 0 ∷ 1 ∷ 1 ∷ 0 ∷ 0 ∷ [])) ≡ 7 ∷ 0 ∷ 4097 ∷ [])
+    × (numbered 4096 (6 ∷ 0 ∷ 24 ∷ 34 ∷ 2 ∷ 34 ∷ 1 ∷ 34 ∷ 2 ∷ 34 ∷ 2 ∷ 33 ∷ 1 ∷ 34 ∷ 3 ∷ 34 ∷ 4 ∷ 34 ∷ 4 ∷ 32 ∷ 2 ∷ 5 ∷ 1 ∷ 4 ∷ 1 ∷ 34 ∷ 3 ∷ 0 ∷ 13 ∷ 5 ∷ 5 ∷ 5 ∷ 2 ∷ 2 ∷ 1 ∷ 5 ∷ 1 ∷ 5 ∷ 1 ∷ 6 ∷ 1 ∷ 1 ∷ 2 ∷ 4 ∷ 999999 ∷ []) ≡ 0 ∷ 0 ∷ 1347 ∷ [])
+    × (numbered 4096 (7 ∷ 1 ∷ 0 ∷ 30 ∷ 17 ∷ 17 ∷ 18 ∷ 1 ∷ 2 ∷ 18 ∷ 4 ∷ 2 ∷ 22 ∷ 58 ∷ 0 ∷ 17 ∷ 18 ∷ 1 ∷ 1 ∷ 23 ∷ 0 ∷ 22 ∷ 53 ∷ 0 ∷ 21 ∷ 21 ∷ 26 ∷ 6 ∷ 23 ∷ 0 ∷ 23 ∷ 0 ∷ 2 ∷ 2 ∷ 0 ∷ 0 ∷ []) ≡ 6 ∷ 0 ∷ 0 ∷ [])
+unfolding numbered arrows host-computes
+desk-sizes = (refl, refl, refl, refl)
