@@ -6,12 +6,13 @@ usage: definition.py [--count N --seed S] [--file NAME] [--again LOG..] [--quick
 
 Edits crates/definition/specs in a copy (DIR, which is made anew; else a temporary one). Without --count all edits are tried, in the
 files' order; with it N of them, one of every definition and kind in turn, in an order that S fixes. --file takes those of one file.
---again counts as there what the outputs LOG of earlier runs have as no type or answers, and does not try it again. --quick leaves two
-thirds of the recorded answers out, the costly ones, and the laws. M ends the run. What notices an edit:
+--again counts as there what the outputs LOG of earlier runs have as no type or answers, and does not try it again. --quick leaves out
+two thirds of the recorded answers, the costly ones. M ends the run. What notices an edit, in the order in which it is asked:
   no type   the definition no longer checks
-  answers   a recorded answer, computed from the definition, is another
-  cases     every answer is the same, and a computed theorem of crates/laws/proofs/Cases.antt fails
-  laws      all of these pass, and a proof of crates laws or alike is refused: it may be so for its form alone
+  answers   a recorded answer, computed from the definition, is another: of the guards and some that show every rule, code and form
+  cases     a computed theorem of crates/laws/proofs/Cases.antt fails
+  answers   one of the other recorded answers is another
+  laws      a proof of crates laws or alike is refused: it may be so for its form alone
   survives  nothing notices it
   slow      the prover takes 20 times what it takes without an edit, or more than 6 GB
   none      the prover gave no verdict
@@ -136,10 +137,21 @@ def held(pid):
 class Judges:
     """A crate with the definition and what is computed from it, and a repository with the definition and its laws."""
 
-    def __init__(self, scratch, texts, parts, last):
-        self.texts, self.parts, self.last = texts, [list(part) for part in parts], last
+    def __init__(self, scratch, texts, parts):
+        self.texts, self.parts = texts, [list(part) for part in parts]
         self.by_name = {f"answer{line.number}": line for part in parts for line in part}
         self.computed, self.laws, self.kept = scratch / "definition", scratch / "repository", scratch / "kept"
+        self.prepare()
+        # Cases as part of the definition's own crate
+        cases = (ROOT / "crates/laws/proofs/Cases.antt").read_text()
+        self.cases = cases.replace("Rattle.definition.specs", "Rattle.definition.specs")
+        self.reached = self.used_by("Reply")
+        for module in texts:
+            self.put(module, texts[module])
+        self.stages = [0, "cases", *range(1, len(parts)), "laws"]
+        self.limits = {stage: 20 * self.baseline(stage) for stage in self.stages}
+
+    def prepare(self):
         for folder in (self.computed, self.laws, self.kept):
             shutil.rmtree(folder, ignore_errors=True)
         for part in ("src", "specs"):
@@ -150,13 +162,6 @@ class Judges:
         (self.computed / "proofs").mkdir()
         self.kept.mkdir()
         (self.computed / "proofs/Lib.antt").write_text("pub mod Computed\n")
-        # Cases as part of the definition's own crate
-        cases = (ROOT / "crates/laws/proofs/Cases.antt").read_text()
-        self.cases = cases.replace("Rattle.definition.specs", "Rattle.definition.specs")
-        self.reached = self.used_by("Reply")
-        for module in texts:
-            self.put(module, texts[module])
-        self.limits = {stage: 20 * self.baseline(stage) for stage in (*range(len(parts)), *last)}
 
     def used_by(self, module):
         used = re.findall(r"·specs\.specs\.(\w+)\.\{", self.texts[module])
@@ -186,8 +191,7 @@ class Judges:
         """The verdict, and what decided."""
         self.put(edit.path, edit.apply(self.texts[edit.path]))
         try:
-            stages = range(len(self.parts)) if edit.path in self.reached else []
-            for stage in (*stages, *self.last):
+            for stage in self.stages if edit.path in self.reached else ["cases", "laws"]:
                 found = self.verdict(stage)
                 if found:
                     return found
@@ -207,14 +211,11 @@ class Judges:
             return "laws", f"{errors[0][1]} {errors[0][2]}"
         if any(part == "specs" for part, _, _ in errors):
             return "no type", errors[0][2]
-        return ("cases", errors[0][2]) if stage == "cases" else ("answers", self.noticed_by(stage, [name for _, _, name in errors]))
+        return ("cases", errors[0][2]) if stage == "cases" else ("answers", self.shortest([name for _, _, name in errors]))
 
-    def noticed_by(self, stage, names):
-        """The cheapest answer that differs; from now on it is asked first."""
+    def shortest(self, names):
+        """The cheapest of some answers."""
         line = min((self.by_name[name] for name in names), key=lambda line: (line.cost, line.number))
-        if line in self.parts[stage] and stage != 0:
-            self.parts[stage].remove(line)
-            self.parts[0].append(line)
         return f"{line.line.sizes} | {line.line.question}"[:100]
 
 
@@ -314,7 +315,7 @@ def main():
     parts = blocks(recorded())
     with tempfile.TemporaryDirectory() as room:
         scratch = (given.scratch or pathlib.Path(room)).resolve()
-        judges = Judges(scratch, texts, *(parts[:2], ["cases"]) if given.quick else (parts, ["cases", "laws"]))
+        judges = Judges(scratch, texts, parts[:2] if given.quick else parts)
         tell(before + run(judges, chosen, said, given.minutes), said)
 
 

@@ -228,16 +228,16 @@ unfoldable pub arrows : ℕ → List ℕ → List ℕ
 arrows zero ws = 1 ∷ ws
 arrows (suc n) ws = 5 ∷ 1 ∷ arrows n ws
 
--- the first 12 bytes of what the telephone host writes to a question, with room for n words: code, at, length
-unfoldable pub numbered : ℕ → List ℕ → List ℕ
-numbered n question = wordsOf (hostCall (bytesOf question) (replicate (16 + 4 * n) 9) .replySlice) 3
+-- what the telephone host returns to a question, with room for n words
+unfoldable pub returned : ℕ → List ℕ → ℕ
+returned n question = hostCall (bytesOf question) (replicate (16 + 4 * n) 9) .returns
 
 -- "with the desk program's sizes": a report of 4,096 words is written, one of 4,097 is not, however long the reply; 384 units are given, and
 -- 385 are not
 pub desk-sizes :
-    (numbered 4100 (2 ∷ 0 ∷ 50 ∷ 32 ∷ 1 ∷ arrows 22 (32 ∷ 2 ∷ 1 ∷ 44 ∷ 25 ∷ 23 ∷ 1 ∷ 21 ∷ 26 ∷ 1 ∷ 25 ∷ 23 ∷ 1 ∷ 25 ∷ 23 ∷ 1 ∷ 21 ∷ 26 ∷ 1 ∷ 26 ∷ 1 ∷ 21 ∷ 21 ∷ 22 ∷ 1 ∷ 0 ∷ 1 ∷ 1 ∷ 22 ∷ 1 ∷ 0 ∷ 22 ∷ 1 ∷ 0 ∷ 1 ∷ 22 ∷ 1 ∷ 0 ∷ 22 ∷ 1 ∷ 0 ∷ 22 ∷ 1 ∷ 0 ∷ 1 ∷ 22 ∷ 1 ∷ 0 ∷ 0 ∷ 1 ∷ 1 ∷ [])) ≡ 0 ∷ 0 ∷ 4096 ∷ [])
-    × (numbered 4100 (1 ∷ 0 ∷ 79 ∷ 32 ∷ 1 ∷ arrows 37 (33 ∷ 7 ∷ 29 ∷ 21 ∷ 21 ∷ 26 ∷ 1 ∷ 26 ∷ 1 ∷ 26 ∷ 1 ∷ 26 ∷ 1 ∷ 21 ∷ 22 ∷ 1 ∷ 0 ∷ 1 ∷ 22 ∷ 1 ∷ 0 ∷ 22 ∷ 1 ∷ 0 ∷ 22 ∷ 1 ∷ 0 ∷ 22 ∷ 1 ∷ 0 ∷ 1 ∷ 1 ∷ 0 ∷ 0 ∷ [])) ≡ 7 ∷ 0 ∷ 4097 ∷ [])
-    × (numbered 4096 (6 ∷ 0 ∷ 24 ∷ 34 ∷ 2 ∷ 34 ∷ 1 ∷ 34 ∷ 2 ∷ 34 ∷ 2 ∷ 33 ∷ 1 ∷ 34 ∷ 3 ∷ 34 ∷ 4 ∷ 34 ∷ 4 ∷ 32 ∷ 2 ∷ 5 ∷ 1 ∷ 4 ∷ 1 ∷ 34 ∷ 3 ∷ 0 ∷ 13 ∷ 5 ∷ 5 ∷ 5 ∷ 2 ∷ 2 ∷ 1 ∷ 5 ∷ 1 ∷ 5 ∷ 1 ∷ 6 ∷ 1 ∷ 1 ∷ 2 ∷ 4 ∷ 999999 ∷ []) ≡ 0 ∷ 0 ∷ 1347 ∷ [])
-    × (numbered 4096 (7 ∷ 1 ∷ 0 ∷ 30 ∷ 17 ∷ 17 ∷ 18 ∷ 1 ∷ 2 ∷ 18 ∷ 4 ∷ 2 ∷ 22 ∷ 58 ∷ 0 ∷ 17 ∷ 18 ∷ 1 ∷ 1 ∷ 23 ∷ 0 ∷ 22 ∷ 53 ∷ 0 ∷ 21 ∷ 21 ∷ 26 ∷ 6 ∷ 23 ∷ 0 ∷ 23 ∷ 0 ∷ 2 ∷ 2 ∷ 0 ∷ 0 ∷ []) ≡ 6 ∷ 0 ∷ 0 ∷ [])
-unfolding numbered arrows host-computes
+    (returned 4100 (2 ∷ 0 ∷ 50 ∷ 32 ∷ 1 ∷ arrows 22 (32 ∷ 2 ∷ 1 ∷ 44 ∷ 25 ∷ 23 ∷ 1 ∷ 21 ∷ 26 ∷ 1 ∷ 25 ∷ 23 ∷ 1 ∷ 25 ∷ 23 ∷ 1 ∷ 21 ∷ 26 ∷ 1 ∷ 26 ∷ 1 ∷ 21 ∷ 21 ∷ 22 ∷ 1 ∷ 0 ∷ 1 ∷ 1 ∷ 22 ∷ 1 ∷ 0 ∷ 22 ∷ 1 ∷ 0 ∷ 1 ∷ 22 ∷ 1 ∷ 0 ∷ 22 ∷ 1 ∷ 0 ∷ 22 ∷ 1 ∷ 0 ∷ 1 ∷ 22 ∷ 1 ∷ 0 ∷ 0 ∷ 1 ∷ 1 ∷ [])) ≡ 0)
+    × (returned 4100 (1 ∷ 0 ∷ 79 ∷ 32 ∷ 1 ∷ arrows 37 (33 ∷ 7 ∷ 29 ∷ 21 ∷ 21 ∷ 26 ∷ 1 ∷ 26 ∷ 1 ∷ 26 ∷ 1 ∷ 26 ∷ 1 ∷ 21 ∷ 22 ∷ 1 ∷ 0 ∷ 1 ∷ 22 ∷ 1 ∷ 0 ∷ 22 ∷ 1 ∷ 0 ∷ 22 ∷ 1 ∷ 0 ∷ 22 ∷ 1 ∷ 0 ∷ 1 ∷ 1 ∷ 0 ∷ 0 ∷ [])) ≡ 7)
+    × (returned 4096 (6 ∷ 0 ∷ 24 ∷ 34 ∷ 2 ∷ 34 ∷ 1 ∷ 34 ∷ 2 ∷ 34 ∷ 2 ∷ 33 ∷ 1 ∷ 34 ∷ 3 ∷ 34 ∷ 4 ∷ 34 ∷ 4 ∷ 32 ∷ 2 ∷ 5 ∷ 1 ∷ 4 ∷ 1 ∷ 34 ∷ 3 ∷ 0 ∷ 13 ∷ 5 ∷ 5 ∷ 5 ∷ 2 ∷ 2 ∷ 1 ∷ 5 ∷ 1 ∷ 5 ∷ 1 ∷ 6 ∷ 1 ∷ 1 ∷ 2 ∷ 4 ∷ 999999 ∷ []) ≡ 0)
+    × (returned 4096 (7 ∷ 1 ∷ 0 ∷ 30 ∷ 17 ∷ 17 ∷ 18 ∷ 1 ∷ 2 ∷ 18 ∷ 4 ∷ 2 ∷ 22 ∷ 58 ∷ 0 ∷ 17 ∷ 18 ∷ 1 ∷ 1 ∷ 23 ∷ 0 ∷ 22 ∷ 53 ∷ 0 ∷ 21 ∷ 21 ∷ 26 ∷ 6 ∷ 23 ∷ 0 ∷ 23 ∷ 0 ∷ 2 ∷ 2 ∷ 0 ∷ 0 ∷ []) ≡ 6)
+unfolding returned arrows host-computes
 desk-sizes = (refl, refl, refl, refl)
