@@ -74,7 +74,7 @@ def blocks(text):
 
 def parts_of(found):
     """The parts of a type between its outer arrows, implicit ones left out."""
-    parts, depth, last = [[]], 0, ""
+    parts, depth = [[]], 0
     for token in found:
         depth += (token.text in PAIRS) - (token.text in PAIRS.values())
         if token.text == "→" and depth == 0:

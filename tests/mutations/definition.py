@@ -34,21 +34,14 @@ from definition_edits import KINDS, edits
 from run import table
 
 ROOT = pathlib.Path(__file__).resolve().parent.parent.parent
-sys.path.insert(0, str(ROOT / "tests"))
+sys.path[:0] = [str(ROOT / "tests"), str(ROOT / "tests/recorded")]
+from computed import HEAD, theorem  # noqa: E402
 from desk import answers  # noqa: E402
 
 RECORDED = ["tests/recorded/guards.txt", "tests/recorded/answers.txt", "tests/differences/questions.txt"]
 VERDICTS = ["no type", "answers", "cases", "laws", "survives", "slow", "none"]
 ERROR = re.compile(r"/(specs|proofs)/(\w+)\.antt:\d+:\d+: error: `([^`]+)`")
 MOST_KB = 6_000_000
-HEAD = """use mathlib.Core.Path.{_≡_, refl}
-use Prim.Native.Nat.{ℕ}
-use mathlib.Core.List.{List, [], _∷_}
-use Rattle.definition.specs.Reply.{Reply, reply, reply-computes}
-
-unfoldable flat : Reply → List ℕ
-flat r = r .code ∷ r .at ∷ r .len ∷ r .units ∷ r .report
-"""
 
 
 # ---- The recorded answers, in blocks: the first is small and shows most of what there is
@@ -93,16 +86,10 @@ class Line:
         self.number, self.line, self.guard = number, line, guard
         self.cost, self.features = cost(line), features(line)
 
-    def theorem(self):
-        sizes, question, numbers, report = (part.split() for part in self.line)
-        wanted = " ∷ ".join([*numbers, *report, "[]"])
-        asked = f"reply {' '.join(sizes)} ({' ∷ '.join([*question, '[]'])})"
-        return f"\nanswer{self.number} : flat ({asked}) ≡ {wanted}\nunfolding flat reply-computes\nanswer{self.number} = refl\n"
-
 
 def recorded():
-    files = [ROOT / name for name in RECORDED if (ROOT / name).is_file()]
-    guards = set(answers(files[:1])) if files[0].name == "guards.txt" else set()
+    files = [ROOT / name for name in RECORDED]
+    guards = set(answers(files[:1]))
     return [Line(number, line, line in guards) for number, line in enumerate(answers(files), 1)]
 
 
@@ -142,9 +129,7 @@ class Judges:
         self.by_name = {f"answer{line.number}": line for part in parts for line in part}
         self.computed, self.laws, self.kept = scratch / "definition", scratch / "repository", scratch / "kept"
         self.prepare()
-        # Cases as part of the definition's own crate
-        cases = (ROOT / "crates/laws/proofs/Cases.antt").read_text()
-        self.cases = cases.replace("Rattle.definition.specs", "Rattle.definition.specs")
+        self.cases = (ROOT / "crates/laws/proofs/Cases.antt").read_text()
         self.reached = self.used_by("Reply")
         for module in texts:
             self.put(module, texts[module])
@@ -183,8 +168,9 @@ class Judges:
         if stage == "laws":
             return ask(["rt", "check", "laws", "alike"], self.laws, limit)
         lines = [] if stage == "cases" else self.parts[stage] + (self.parts[0] if stage == 1 else [])
-        text = self.cases if stage == "cases" else HEAD + "".join(line.theorem() for line in lines)
-        (self.computed / "proofs/Computed.antt").write_text(text)
+        text = HEAD.format(first=1, last=len(lines)) + "".join(theorem(line.number, line.line) for line in lines) if lines else self.cases
+        # what is computed stands in the definition's own crate
+        (self.computed / "proofs/Computed.antt").write_text(text.replace("Rattle.definition.specs", "Rattle.definition.specs"))
         return ask(["rt", "check", str(self.computed), *(["--incremental", str(self.kept)] if stage == 0 else [])], self.computed, limit)
 
     def judge(self, edit):
