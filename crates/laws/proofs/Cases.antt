@@ -1,4 +1,5 @@
--- The fifteen questions of document 01 with their replies, as one table under one theorem, and the edges that it states.
+-- What is computed from the definition: the fifteen questions of document 01 with their replies, as one table under one theorem; its edges;
+-- what no question shows; memory after each code; the telephone host.
 use mathlib.Core.Path.{_≡_, refl}
 use mathlib.Core.Bool.{Bool, true, false, not, _&&_}
 use Prim.Native.Nat.{ℕ, zero, suc, _+_, _*_, _≤_, _<_, min}
@@ -73,8 +74,8 @@ pub fifteen : map (λ c. seen (asked c) (c .2)) cases ≡ map (λ c. c .2) cases
 unfolding cases asked seen reply-computes
 fifteen = refl
 
--- "Edges": names 999,999 and 1,000,000; one word of room less; refusals 1, 2, 3 in that order (laws, Endless, has the solution that leads
--- back to itself)
+-- Document 01's edges 999,999 and 1,000,000 (the third, a solution that leads back to itself, is in Endless); one word of room less; 1, 2, 3
+-- in that order
 pub edges :
     (reply 384 16384 4096 (7 ∷ 0 ∷ 0 ∷ 2 ∷ 16 ∷ 999_999 ∷ 0 ∷ 0 ∷ [])
     ≡ record { code = 11; at = 999_999; len = 2; units = 1; report = 0 ∷ 0 ∷ [] })
