@@ -64,9 +64,9 @@ def blocks(text):
         if bare and not bare.startswith("--"):
             if depth == 0:
                 inside = 2 if bare.endswith("mutual") else 0
-            if depth in (0, inside) and not bare.endswith("mutual"):
-                spans.append([offset, offset])
-            if spans:
+            if not bare.endswith("mutual"):
+                if depth in (0, inside):
+                    spans.append([offset, offset])
                 spans[-1][1] = offset + len(line)
         offset += len(line)
     return [found for found in (tokens(text, *span) for span in spans) if found]

@@ -75,7 +75,7 @@ unfolding cases asked seen reply-computes
 fifteen = refl
 
 -- Document 01's edges 999,999 and 1,000,000 (the third, a solution that leads back to itself, is in Endless); one word of room less; 1, 2, 3
--- in that order
+-- in that order; 2,048 and 2,049 words
 pub edges :
     (reply 384 16384 4096 (7 ∷ 0 ∷ 0 ∷ 2 ∷ 16 ∷ 999_999 ∷ 0 ∷ 0 ∷ [])
     ≡ record { code = 11; at = 999_999; len = 2; units = 1; report = 0 ∷ 0 ∷ [] })
@@ -86,8 +86,10 @@ pub edges :
     × (reply 0 0 0 [] ≡ refusal 1 0 0)
     × (reply 8193 300000 0 [] ≡ refusal 1 0 0)
     × (reply 1 4128 0 [] ≡ refusal 3 0 0)
+    × (reply 1 4128 0 (replicate 2048 0) ≡ refusal 4 0 0)
+    × (reply 1 4128 0 (replicate 2049 0) ≡ refusal 3 0 0)
 unfolding reply-computes
-edges = (refl, refl, refl, refl, refl, refl, refl)
+edges = (refl, refl, refl, refl, refl, refl, refl, refl, refl)
 
 -- A report of more than 4,294,967,295 words is 7 with that length, however long the slice is; one of just so many that the slice can
 -- hold is written. (No list so long can be computed.)
