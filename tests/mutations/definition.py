@@ -4,7 +4,7 @@
 usage: definition.py [--count N --seed S] [--file NAME] [--again LOG..] [--quick] [--scratch DIR] [--minutes M]
        definition.py --list             counts all edits, by file and kind
 
-Edits crates/definition/specs in a copy (DIR, which is made anew; else a temporary one). Without --count all edits are tried, in the
+Edits crates/definition/specs in a copy (DIR, which is new or was made here; else a temporary one). Without --count all edits are tried, in the
 files' order; with it N of them, one of every definition and kind in turn, in an order that S fixes. --file takes those of one file.
 --again counts as there what the outputs LOG of earlier runs have as no type or answers, and does not try it again. --quick leaves out
 two thirds of the recorded answers, the costly ones. M ends the run. What notices an edit, in the order in which it is asked:
@@ -42,6 +42,8 @@ RECORDED = ["tests/recorded/guards.txt", "tests/recorded/answers.txt", "tests/di
 VERDICTS = ["no type", "answers", "cases", "laws", "survives", "slow", "none"]
 ERROR = re.compile(r"/(specs|proofs)/(\w+)\.antt:\d+:\d+: error: `([^`]+)`")
 MOST_KB = 6_000_000
+# a folder without this file was not made here, and is left alone
+MADE_HERE = ".made-by-definition.py"
 
 
 # ---- The recorded answers, in blocks: the first is small and shows most of what there is
@@ -289,8 +291,9 @@ def main():
     given = options()
     texts, found = edits(ROOT / "crates/definition/specs")
     said = names(found, texts)
-    if given.file not in (None, *texts) or not all(log.is_file() for log in given.again):
-        print(f"usage: definition.py: --file is one of {' '.join(texts)}, --again has files", file=sys.stderr)
+    ours = not given.scratch or not given.scratch.exists() or (given.scratch / MADE_HERE).is_file()
+    if given.file not in (None, *texts) or not all(log.is_file() for log in given.again) or not ours:
+        print(f"usage: definition.py: --file is one of {' '.join(texts)}, --again has files, --scratch is new or was made here", file=sys.stderr)
         sys.exit(2)
     found = [edit for edit in found if given.file in (None, edit.path)]
     if given.list:
@@ -301,6 +304,8 @@ def main():
     parts = blocks(recorded())
     with tempfile.TemporaryDirectory() as room:
         scratch = (given.scratch or pathlib.Path(room)).resolve()
+        scratch.mkdir(parents=True, exist_ok=True)
+        (scratch / MADE_HERE).touch()
         judges = Judges(scratch, texts, parts[:2] if given.quick else parts)
         tell(before + run(judges, chosen, said, given.minutes), said)
 

@@ -190,6 +190,8 @@ def main():
         return table("crate", crates, list(KINDS), collections.Counter((mutant.crate, mutant.kind) for mutant in found))
     with tempfile.TemporaryDirectory() as room:
         scratch = (options.scratch or pathlib.Path(room)).resolve()
+        if (scratch / ".git").exists():
+            parser.error(f"--scratch: {scratch} is a repository, and its crates would be written over")
         prepare(scratch)
         tell(run(scratch, sample(found, options.count, options.seed), options.limit, options.minutes))
 
