@@ -7,6 +7,7 @@ use mathlib.Core.List.{List, [], _∷_, _++_, append-nil, append-assoc}
 use lib.ListN.{length, take, drop}
 use lib.Seq.{take-at, drop-at}
 use lib.Dec.{T, leb, ltb, eqb, leb→le, ltb→lt, eqb→eq, le→leb, lt→ltb, eqb-refl}
+use mir.Facts.{and-yes, yes-and}
 use Rattle.definition.specs.Syntax.{pick}
 use Rattle.definition.specs.Question.{Read, got, fault, Question, readQuestion, question-computes}
 use Rattle.alike.specs.Alike.{Label, the, variable, typeName, half, truth, section, IsTy, IsExpr, IsEntry, IsCtx, IsQuestion, OneToOne, Pairing, InQuestions, Each, none, more, AlikeQuestions, WellFormed}
@@ -264,14 +265,6 @@ deciding-computes = tt
 
 -- ## What it says
 
-both : (b c : Bool) → T (b && c) → T b × T c
-both true c t = (tt, t)
-both false c t = absurd t
-
-and : (b c : Bool) → T b → T c → T (b && c)
-and true c t u = u
-and false c t u = absurd t
-
 -- a pair of a list
 data In (a b : ℕ) : List (ℕ × ℕ) → Type 0 where
   here : {p : ℕ × ℕ} {l : List (ℕ × ℕ)} → p .0 ≡ a → p .1 ≡ b → In a b (p ∷ l)
@@ -279,13 +272,13 @@ data In (a b : ℕ) : List (ℕ × ℕ) → Type 0 where
 
 everyIn : (f : ℕ × ℕ → Bool) {a b : ℕ} {l : List (ℕ × ℕ)} → T (every f l) → In a b l → T (f (a, b))
 unfolding every
-everyIn f {l = p ∷ l} t (here e e′) = rw (← e, ← e′) (both (f p) (every f l) t .0)
-everyIn f {l = p ∷ l} t (there i) = everyIn f (both (f p) (every f l) t .1) i
+everyIn f {l = p ∷ l} t (here e e′) = rw (← e, ← e′) (and-yes (f p) (every f l) t .0)
+everyIn f {l = p ∷ l} t (there i) = everyIn f (and-yes (f p) (every f l) t .1) i
 
 inEvery : (f : ℕ × ℕ → Bool) (l : List (ℕ × ℕ)) → ((a b : ℕ) → In a b l → T (f (a, b))) → T (every f l)
 unfolding every
 inEvery f [] h = tt
-inEvery f (p ∷ l) h = and (f p) (every f l) (h (p .0) (p .1) (here refl refl)) (inEvery f l (λ a b i. h a b (there i)))
+inEvery f (p ∷ l) h = yes-and (f p) (every f l) (h (p .0) (p .1) (here refl refl)) (inEvery f l (λ a b i. h a b (there i)))
 
 thence : (b c : Bool) → T (Bool·beq b c) → (T b → T c) × (T c → T b)
 thence true true t = (λ u. u, λ u. u)
@@ -324,15 +317,15 @@ ofPairs l o h =
 wordOf : (P : Pairing) (k : Label) (w w′ : ℕ) → T (fits k w w′) → (T (isVariable k) → P .variables w w′) → (T (isTypeName k) → P .types w w′)
     → InQuestions P k w w′
 unfolding fits isVariable isTypeName
-wordOf P (the n) w w′ t v y = let (e, e′) = both (eqb w n) (eqb w′ n) t in rw (eqb→eq w n e, eqb→eq w′ n e′) InQuestions.same
+wordOf P (the n) w w′ t v y = let (e, e′) = and-yes (eqb w n) (eqb w′ n) t in rw (eqb→eq w n e, eqb→eq w′ n e′) InQuestions.same
 wordOf P variable w w′ t v y =
-    let (e, e′) = both (ltb w 1_000_000) (ltb w′ 1_000_000) t in
+    let (e, e′) = and-yes (ltb w 1_000_000) (ltb w′ 1_000_000) t in
     InQuestions.variables (record { paired = v tt; low = ltb→lt w 1_000_000 e; low′ = ltb→lt w′ 1_000_000 e′ })
 wordOf P typeName w w′ t v y =
-    let (e, e′) = both (ltb w 1_000_000) (ltb w′ 1_000_000) t in
+    let (e, e′) = and-yes (ltb w 1_000_000) (ltb w′ 1_000_000) t in
     InQuestions.typeNames (record { paired = y tt; low = ltb→lt w 1_000_000 e; low′ = ltb→lt w′ 1_000_000 e′ })
 wordOf P half w w′ t v y = InQuestions.halves
-wordOf P truth w w′ t v y = let (e, e′) = both (leb w 1) (leb w′ 1) t in InQuestions.truths (leb→le w 1 e) (leb→le w′ 1 e′)
+wordOf P truth w w′ t v y = let (e, e′) = and-yes (leb w 1) (leb w′ 1) t in InQuestions.truths (leb→le w 1 e) (leb→le w′ 1 e′)
 
 first : {w w′ : ℕ} (l : List (ℕ × ℕ)) (b : Bool) → T b → In w w′ (pick b ((w, w′) ∷ l) l)
 unfolding pick
@@ -354,7 +347,7 @@ eachOf P [] (w ∷ u) u′ t v y = absurd t
 eachOf P (k ∷ s) [] u′ t v y = absurd t
 eachOf P (k ∷ s) (w ∷ u) [] t v y = absurd t
 eachOf P (k ∷ s) (w ∷ u) (w′ ∷ u′) t v y =
-    let (l, r) = both (fits k w w′) (fit s u u′) t in
+    let (l, r) = and-yes (fits k w w′) (fit s u u′) t in
     more
     (wordOf P k w w′ l (λ h. v w w′ (first _ (isVariable k) h)) (λ h. y w w′ (first _ (isTypeName k) h)))
     (eachOf P s u u′ r (λ b c i. v b c (later _ (isVariable k) i)) (λ b c i. y b c (later _ (isTypeName k) i)))
@@ -362,16 +355,16 @@ eachOf P (k ∷ s) (w ∷ u) (w′ ∷ u′) t v y =
 module _ {P : Pairing} where
   fitsOf : {k : Label} {w w′ : ℕ} → InQuestions P k w w′ → T (fits k w w′)
   unfolding fits
-  fitsOf (InQuestions.same {n}) = and (eqb n n) (eqb n n) (eqb-refl n) (eqb-refl n)
-  fitsOf (InQuestions.variables {x} {x′} h) = and (ltb x 1_000_000) (ltb x′ 1_000_000) (lt→ltb x 1_000_000 (h .low)) (lt→ltb x′ 1_000_000 (h .low′))
-  fitsOf (InQuestions.typeNames {a} {a′} h) = and (ltb a 1_000_000) (ltb a′ 1_000_000) (lt→ltb a 1_000_000 (h .low)) (lt→ltb a′ 1_000_000 (h .low′))
+  fitsOf (InQuestions.same {n}) = yes-and (eqb n n) (eqb n n) (eqb-refl n) (eqb-refl n)
+  fitsOf (InQuestions.variables {x} {x′} h) = yes-and (ltb x 1_000_000) (ltb x′ 1_000_000) (lt→ltb x 1_000_000 (h .low)) (lt→ltb x′ 1_000_000 (h .low′))
+  fitsOf (InQuestions.typeNames {a} {a′} h) = yes-and (ltb a 1_000_000) (ltb a′ 1_000_000) (lt→ltb a 1_000_000 (h .low)) (lt→ltb a′ 1_000_000 (h .low′))
   fitsOf InQuestions.halves = tt
-  fitsOf (InQuestions.truths {w} {w′} h h′) = and (leb w 1) (leb w′ 1) (le→leb w 1 h) (le→leb w′ 1 h′)
+  fitsOf (InQuestions.truths {w} {w′} h h′) = yes-and (leb w 1) (leb w′ 1) (le→leb w 1 h) (le→leb w′ 1 h′)
 
   fitOf : {s : List Label} {u u′ : List ℕ} → Each (InQuestions P) s u u′ → T (fit s u u′)
   unfolding fit
   fitOf none = tt
-  fitOf (more {k} {w} {w′} {s} {u} {u′} x e) = and (fits k w w′) (fit s u u′) (fitsOf x) (fitOf e)
+  fitOf (more {k} {w} {w′} {s} {u} {u′} x e) = yes-and (fits k w w′) (fit s u u′) (fitsOf x) (fitOf e)
 
   variablesIn : {s : List Label} {u u′ : List ℕ} {b c : ℕ} → Each (InQuestions P) s u u′ → In b c (names isVariable s u u′) → P .variables b c
   unfolding names isVariable pick
@@ -407,9 +400,9 @@ sound : (u u′ : List ℕ) → T (areAlike u u′) → (P : Pairing) × AlikeQu
 unfolding areAlike
 sound u u′ t =
     let s : List Label = labelsOf u in
-    let (r, t₁) = both (isRead (readQuestion u)) _ t in
-    let (f, t₂) = both (fit s u u′) _ t₁ in
-    let (v, y) = both (oneToOne (names isVariable s u u′)) _ t₂ in
+    let (r, t₁) = and-yes (isRead (readQuestion u)) _ t in
+    let (f, t₂) = and-yes (fit s u u′) _ t₁ in
+    let (v, y) = and-yes (oneToOne (names isVariable s u u′)) _ t₂ in
     let P : Pairing = record {
       variables = Pairs (names isVariable s u u′);
       types = Pairs (names isTypeName s u u′);
@@ -423,9 +416,9 @@ complete : (u u′ : List ℕ) (P : Pairing) → AlikeQuestions P u u′ → T (
 unfolding areAlike
 complete u u′ P h =
     let e : labelsOf u ≡ h .labels = labelled (h .format) (h .words) in
-    and (isRead (readQuestion u)) _ (ofRead (well-formed h .0))
-    (rw e (and (fit (h .labels) u u′) _ (fitOf (h .words))
-    (and (oneToOne (names isVariable (h .labels) u u′)) _
+    yes-and (isRead (readQuestion u)) _ (ofRead (well-formed h .0))
+    (rw e (yes-and (fit (h .labels) u u′) _ (fitOf (h .words))
+    (yes-and (oneToOne (names isVariable (h .labels) u u′)) _
     (ofPairs _ (P .variablesPair) (λ b c i. variablesIn (h .words) i))
     (ofPairs _ (P .typesPair) (λ b c i. typesIn (h .words) i)))))
 

@@ -9,7 +9,7 @@ use Rattle.definition.specs.Reply.{reply, reply-computes}
 use Rattle.laws.proofs.Cases.{Says, wholly, begins, asked, seen}
 use Rattle.alike.specs.Alike.{Pairing, typeName, IsExpr, IsQuestion, Named, written, fresh, InReplies, InQuestions.same, halves, none, more, AlikeQuestions}
 use Rattle.alike.proofs.Demand3.{no-literal}
-use Rattle.alike.proofs.Deciding.{areAlike, decided, deciding-computes}
+use Rattle.alike.proofs.Deciding.{areAlike, Decided, decided, deciding-computes}
 
 -- ## The table
 
@@ -17,8 +17,15 @@ use Rattle.alike.proofs.Deciding.{areAlike, decided, deciding-computes}
 abbrev pub Asked : Type 0
 Asked = List ℕ × Says
 
-pub data Pair : Type 0 where
-  alike apart : Asked → Asked → Pair
+-- whether two are alike, and both
+abbrev pub Pair : Type 0
+Pair = Bool × Asked × Asked
+
+abbrev pub alike : Asked → Asked → Pair
+alike q q′ = (true, q, q′)
+
+abbrev pub apart : Asked → Asked → Pair
+apart q q′ = (false, q, q′)
 
 -- as much of a question's reply as is said, computed
 abbrev pub begun : Asked → Says
@@ -26,8 +33,7 @@ begun q = seen (asked (384, q .0, q .1)) (q .1)
 
 -- alike under some pairing, or under none
 abbrev pub Shown : Pair → Type 1
-Shown (alike q q′) = ((P : Pairing) × AlikeQuestions P (q .0) (q′ .0)) × (begun q ≡ q .1) × (begun q′ ≡ q′ .1)
-Shown (apart q q′) = ((P : Pairing) → ¬ AlikeQuestions P (q .0) (q′ .0)) × (begun q ≡ q .1) × (begun q′ ≡ q′ .1)
+Shown (b, q, q′) = Decided b (q .0) (q′ .0) × (begun q ≡ q .1) × (begun q′ ≡ q′ .1)
 
 pub data All (F : Pair → Type 1) : List Pair → Type 1 where
   noPair : All F []
@@ -155,17 +161,14 @@ pairs =
 
 -- what is computed of a pair, and what the table says of it
 computed : Pair → Bool × Says × Says
-computed (alike q q′) = (areAlike (q .0) (q′ .0), begun q, begun q′)
-computed (apart q q′) = (areAlike (q .0) (q′ .0), begun q, begun q′)
+computed (b, q, q′) = (areAlike (q .0) (q′ .0), begun q, begun q′)
 
 claimed : Pair → Bool × Says × Says
-claimed (alike q q′) = (true, q .1, q′ .1)
-claimed (apart q q′) = (false, q .1, q′ .1)
+claimed (b, q, q′) = (b, q .1, q′ .1)
 
 shown : (p : Pair) → computed p ≡ claimed p → Shown p
 unfolding computed claimed
-shown (alike q q′) e = (rw (ap (λ c. c .0) e) at (decided (q .0) (q′ .0)), ap (λ c. c .1) e, ap (λ c. c .2) e)
-shown (apart q q′) e = (rw (ap (λ c. c .0) e) at (decided (q .0) (q′ .0)), ap (λ c. c .1) e, ap (λ c. c .2) e)
+shown (b, q, q′) e = (rw (ap (λ c. c .0) e) at (decided (q .0) (q′ .0)), ap (λ c. c .1) e, ap (λ c. c .2) e)
 
 every : (l : List Pair) → map computed l ≡ map claimed l → All Shown l
 every [] e = noPair
