@@ -1,4 +1,4 @@
--- InfIf.
+-- InfIf: what is known after each premise, and what follows.
 use mathlib.Core.Path.{_≡_, refl}
 use mathlib.Core.List.{List}
 use Prim.Native.Nat.{ℕ, _+_, _*_, _<_}
@@ -23,88 +23,146 @@ use Rattle.judging.proofs.Asking.{infer-asked}
 use Rattle.judging.proofs.Steps.{NotDone}
 use Rattle.rules.specs.Taking.{InferPre}
 use Rattle.rules.specs.Going.{TwoIn, PlainOut}
-use Rattle.rules.proofs.Forms.{If}
+use Rattle.rules.proofs.Forms as forms
 use Rattle.rules.proofs.Ways.{Way, otherwise, back, turn, finish}
 use Rattle.inference.specs.Rules.{relate, Related}
 use Rattle.inference.proofs.Starting.{outcome, begin-infer, shape, after-expr, expr-next, in-table}
 use Rattle.inference.proofs.Related.{regroup}
 use Rattle.inference.proofs.Premise.{At, Premise, ask-infer, ask-check, Returns, returns}
 
-module _ (m : Mode) {q w : List ℕ} {s : State} {g : Span} {ex : ℕ} (pre : InferPre q w s g ex 25) where
-  pub ifs : {j : Judgement} (k : At (pre .rule) j) → If q ex (infer-asked ex k .e)
+-- ## As far as the rule has come
+
+-- it is asked, and the table has told where its branches stand; t is the cycle's measure
+pub record If (t : ℕ) : Type 0 where
+  pub m : Mode
+  pub q : List ℕ
+  pub w : List ℕ
+  pub s : State
+  pub g : Span
+  pub ex : ℕ
+  pub p₁ : ℕ
+  pub p₂ : ℕ
+  pub pre : InferPre q w s g ex 25
+  pub falls : 3 * s .left + 1 ≡ t
+  pub second : p₁ ≡ getD w (16 + (ex + 1)) 0
+  pub third : p₂ ≡ getD w (16 + p₁) 0
+
+-- its condition was checked
+pub record Checked (t : ℕ) : Type 0 where
+  pub on : If t
+  pub w : List ℕ
+  pub z : Step
+  pub r : Answer
+  pub call : Judged (on .m) (on .q) (on .w) w (on .s) (on .g) (checkAsk (on .ex + 1) 2049) z
+  pub done : z ≡ Done r
+
+-- its first branch was inferred
+pub record Inferred (t : ℕ) : Type 0 where
+  pub on : Checked t
+  pub w : List ℕ
+  pub z : Step
+  pub r : Answer
+  pub call : Judged (on .on .m) (on .on .q) (on .w) w (on .r .st) (on .r .g) (inferAsk (on .on .p₁)) z
+  pub done : z ≡ Done r
+
+-- and its second
+pub record Both (t : ℕ) : Type 0 where
+  pub on : Inferred t
+  pub w : List ℕ
+  pub z : Step
+  pub r : Answer
+  pub call : Judged (on .on .on .m) (on .on .on .q) (on .w) w (on .r .st) (on .r .g) (inferAsk (on .on .on .p₂)) z
+  pub done : z ≡ Done r
+
+-- the rule as it was asked
+abbrev pub asked : {t : ℕ} → Both t → If t
+asked b = b .on .on .on
+
+-- ## Its condition
+
+module _ {q w : List ℕ} {s : State} {g : Span} {ex : ℕ} (pre : InferPre q w s g ex 25) where
+  pub ifs : {j : Judgement} (k : At (pre .rule) j) → forms.If q ex (infer-asked ex k .e)
   ifs k = shape pre k
 
-  pub if-way : {j : Judgement} (k : At (pre .rule) j)
-      → Way q w w s s leaf (20 + 28 * g .n) (outcome m s j)
-      (judge (mode m) (check (infer-asked ex k .Γ) (ifs k .f) bool)
-      >>= λ r₁. judge (mode m) (infer (r₁ .1) (ifs k .d))
-      >>= λ r₂. judge (mode m) (infer (r₂ .1) (ifs k .d₂))
-      >>= λ r₃. branch (m .«applies_branches») (r₃ .1) (r₂ .0)
-      >>= λ A. branch (m .«applies_branches») (r₃ .1) (r₃ .0)
-      >>= λ B. judge (mode m) (subtype (r₃ .1) A B)
+  pub second-at : {p₁ : ℕ} → p₁ ≡ getD w (16 + (ex + 1)) 0 → {j : Judgement} (k : At (pre .rule) j) → ExprAt q p₁ (ifs k .d)
+  second-at h k = expr-next (pre .rule .room .base) h (ifs k .first) (ifs k .second)
+
+  pub if-place : {p₁ : ℕ} → p₁ ≡ getD w (16 + (ex + 1)) 0 → p₁ < 2048
+  if-place h = expr-code (second-at h (pre .rule .asks)) .inside
+
+  pub if-table₂ : {p₁ : ℕ} → p₁ ≡ getD w (16 + (ex + 1)) 0 → 16 + p₁ < length w
+  if-table₂ h = in-table (pre .rule .room) (if-place h)
+
+module _ {t : ℕ} (i : If t) where
+  third-at : {j : Judgement} (k : At (i .pre .rule) j) → ExprAt (i .q) (i .p₂) (ifs (i .pre) k .d₂)
+  third-at k = rw (
+    after-expr (i .pre .rule .room .base) (i .third) (second-at (i .pre) (i .second) k),
+    after-expr (i .pre .rule .room .base) (i .second) (ifs (i .pre) k .first),
+  ) (ifs (i .pre) k .third)
+
+  pub if-way : {j : Judgement} (k : At (i .pre .rule) j)
+      → Way (i .q) (i .w) (i .w) (i .s) (i .s) leaf (20 + 28 * i .g .n) (outcome (i .m) (i .s) j)
+      (judge (mode (i .m)) (check (infer-asked (i .ex) k .Γ) (ifs (i .pre) k .f) bool)
+      >>= λ r₁. judge (mode (i .m)) (infer (r₁ .1) (ifs (i .pre) k .d))
+      >>= λ r₂. judge (mode (i .m)) (infer (r₂ .1) (ifs (i .pre) k .d₂))
+      >>= λ r₃. branch (i .m .«applies_branches») (r₃ .1) (r₂ .0)
+      >>= λ A. branch (i .m .«applies_branches») (r₃ .1) (r₃ .0)
+      >>= λ B. judge (mode (i .m)) (subtype (r₃ .1) A B)
       >>= λ r₄. give (Syntax.InfIf, r₂ .0, r₄ .1, r₁ .2 & r₂ .2 & r₃ .2 & r₄ .2 & leaf))
   unfolding inferRule infIf
-  if-way k = begin-infer m (pre .rule) (infer-asked ex k .is) (ifs k .is) refl
+  if-way k = begin-infer (i .m) (i .pre .rule) (infer-asked (i .ex) k .is) (ifs (i .pre) k .is) refl
 
-  pub if-asks : Premise m (pre .rule) _ _ (λ j k. if-way k) g (checkAsk (ex + 1) 2049)
-  if-asks = record { at = λ j k. ask-check (infer-asked ex k .run) (ifs k .first) (bool-den (pre .rule .room .base)) }
+  pub if-asks : Premise (i .m) (i .pre .rule) _ _ (λ j k. if-way k) (i .g) (checkAsk (i .ex + 1) 2049)
+  if-asks = record { at = λ j k. ask-check (infer-asked (i .ex) k .run) (ifs (i .pre) k .first) (bool-den (i .pre .rule .room .base)) }
 
-  module _ {p₁ : ℕ} (h₁ : p₁ ≡ getD w (16 + (ex + 1)) 0) where
-    if-second : {j : Judgement} (k : At (pre .rule) j) → ExprAt q p₁ (ifs k .d)
-    if-second k = expr-next (pre .rule .room .base) h₁ (ifs k .first) (ifs k .second)
+-- ## Its branches
 
-    pub if-place : p₁ < 2048
-    if-place = expr-code (if-second (pre .rule .asks)) .inside
+module _ {t : ℕ} (c : Checked t) where
+  pub if-back : {j : Judgement} (k : At (c .on .pre .rule) j) → Returns (if-asks (c .on)) (c .call) k (c .r)
+  if-back k = returns (if-asks (c .on)) (c .call) (c .done) k
 
-    pub if-table₂ : 16 + p₁ < length w
-    if-table₂ = in-table (pre .rule .room) if-place
+  pub if-asks₂ : Premise (c .on .m) (c .on .pre .rule) _ _ (λ j k. if-back k .way) (c .r .g) (inferAsk (c .on .p₁))
+  if-asks₂ = record { at = λ j k. ask-infer (if-back k .run) (second-at (c .on .pre) (c .on .second) k) }
 
-    module _ {p₂ : ℕ} (h₂ : p₂ ≡ getD w (16 + p₁) 0) where
-      if-third : {j : Judgement} (k : At (pre .rule) j) → ExprAt q p₂ (ifs k .d₂)
-      if-third k = rw (after-expr (pre .rule .room .base) h₂ (if-second k), after-expr (pre .rule .room .base) h₁ (ifs k .first)) (ifs k .third)
+module _ {t : ℕ} (d : Inferred t) where
+  pub if-back₂ : {j : Judgement} (k : At (d .on .on .pre .rule) j) → Returns (if-asks₂ (d .on)) (d .call) k (d .r)
+  if-back₂ k = returns (if-asks₂ (d .on)) (d .call) (d .done) k
 
-      module _ {w₁ : List ℕ} {z₁ : Step} {r₁ : Answer} (call₁ : Judged m q w w₁ s g (checkAsk (ex + 1) 2049) z₁) (d₁ : z₁ ≡ Done r₁) where
-        pub if-back : {j : Judgement} (k : At (pre .rule) j) → Returns if-asks call₁ k r₁
-        if-back k = returns if-asks call₁ d₁ k
+  pub if-asks₃ : Premise (d .on .on .m) (d .on .on .pre .rule) _ _ (λ j k. if-back₂ k .way) (d .r .g) (inferAsk (d .on .on .p₂))
+  if-asks₃ = record { at = λ j k. ask-infer (if-back₂ k .run) (third-at (d .on .on) k) }
 
-        pub if-asks₂ : Premise m (pre .rule) _ _ (λ j k. if-back k .way) (r₁ .g) (inferAsk p₁)
-        if-asks₂ = record { at = λ j k. ask-infer (if-back k .run) (if-second k) }
+-- ## The second branch's type below the first's
 
-        module _ {w₂ : List ℕ} {z₂ : Step} {r₂ : Answer} (call₂ : Judged m q w₁ w₂ (r₁ .st) (r₁ .g) (inferAsk p₁) z₂) (d₂ : z₂ ≡ Done r₂) where
-          pub if-back₂ : {j : Judgement} (k : At (pre .rule) j) → Returns if-asks₂ call₂ k r₂
-          if-back₂ k = returns if-asks₂ call₂ d₂ k
+module _ {t : ℕ} (b : Both t) where
+  pub if-back₃ : {j : Judgement} (k : At (asked b .pre .rule) j) → Returns (if-asks₃ (b .on)) (b .call) k (b .r)
+  if-back₃ k = returns (if-asks₃ (b .on)) (b .call) (b .done) k
 
-          pub if-asks₃ : Premise m (pre .rule) _ _ (λ j k. if-back₂ k .way) (r₂ .g) (inferAsk p₂)
-          if-asks₃ = record { at = λ j k. ask-infer (if-back₂ k .run) (if-third k) }
+  pub if-two : TwoIn (asked b .q) (b .w) (b .r .st) (b .r .g) (b .on .r .ty) (b .r .ty)
+  if-two = let k = asked b .pre .rule .asks in let u = if-back₃ k in
+      record { two = record { spare = _; room = u .way .room; A = _; B = _; left = u .stays (if-back₂ (b .on) k .den); right = u .den }; Γ = _; run = u .run }
 
-          module _ {w₃ : List ℕ} {z₃ : Step} {r₃ : Answer} (call₃ : Judged m q w₂ w₃ (r₂ .st) (r₂ .g) (inferAsk p₂) z₃) (d₃ : z₃ ≡ Done r₃) where
-            pub if-back₃ : {j : Judgement} (k : At (pre .rule) j) → Returns if-asks₃ call₃ k r₃
-            if-back₃ k = returns if-asks₃ call₃ d₃ k
+  module _ {w′ : List ℕ} {z : Step} (call : Related (asked b .m .«applies_branches») (asked b .q) (b .w) w′ (b .r .st) (b .r .g) (b .on .r .ty) (b .r .ty) z) where
+    if-way₄ : {j : Judgement} (k : At (asked b .pre .rule) j)
+        → Way (asked b .q) (asked b .w) (b .w) (asked b .s) (b .r .st) (if-back (b .on .on) k .t & if-back₂ (b .on) k .t & if-back₃ k .t & leaf)
+        (4 * b .r .g .n + 4) (outcome (asked b .m) (asked b .s) j)
+        (relate (asked b .m) (asked b .m .«applies_branches») (if-back₃ k .Δ) (if-back₂ (b .on) k .C) (if-back₃ k .C)
+        >>= λ r₄. give (Syntax.InfIf, if-back₂ (b .on) k .C, r₄ .1, if-back (b .on .on) k .t & if-back₂ (b .on) k .t & if-back₃ k .t & r₄ .2 & leaf))
+    if-way₄ k = turn (if-back₃ k .way) (regroup _ _ _ _)
 
-            pub if-two : TwoIn q w₃ (r₃ .st) (r₃ .g) (r₂ .ty) (r₃ .ty)
-            if-two = let k = pre .rule .asks in let b = if-back₃ k in
-                record { two = record { spare = _; room = b .way .room; A = _; B = _; left = b .stays (if-back₂ k .den); right = b .den }; Γ = _; run = b .run }
+    if-runs : {j : Judgement} (k : At (asked b .pre .rule) j)
+        → RunsJ (asked b .q) (b .w) w′ (b .r .st) z
+        (relate (asked b .m) (asked b .m .«applies_branches») (if-back₃ k .Δ) (if-back₂ (b .on) k .C) (if-back₃ k .C) (b .r .st .left) (b .r .st .fresh))
+    if-runs k = let u = if-back₃ k in
+        call .run (asked b .m) (u .Δ) (if-back₂ (b .on) k .C) (u .C) (u .run) (u .stays (if-back₂ (b .on) k .den)) (u .den)
 
-            module _ {w₄ : List ℕ} {z₄ : Step} (call₄ : Related (m .«applies_branches») q w₃ w₄ (r₃ .st) (r₃ .g) (r₂ .ty) (r₃ .ty) z₄) where
-              if-way₄ : {j : Judgement} (k : At (pre .rule) j)
-                  → Way q w w₃ s (r₃ .st) (if-back k .t & if-back₂ k .t & if-back₃ k .t & leaf) (4 * r₃ .g .n + 4)
-                  (outcome m s j)
-                  (relate m (m .«applies_branches») (if-back₃ k .Δ) (if-back₂ k .C) (if-back₃ k .C)
-                  >>= λ r₄. give (Syntax.InfIf, if-back₂ k .C, r₄ .1, if-back k .t & if-back₂ k .t & if-back₃ k .t & r₄ .2 & leaf))
-              if-way₄ k = turn (if-back₃ k .way) (regroup _ _ _ _)
+    pub if-else₄ : NotDone z → Fires (asked b .m) (asked b .q) (asked b .w) w′ (asked b .s) (asked b .g) (inferAsk (asked b .ex)) z
+    if-else₄ nd = record { run = λ j k. otherwise _ _ (if-way₄ k) (if-runs k) nd }
 
-              if-runs : {j : Judgement} (k : At (pre .rule) j)
-                  → RunsJ q w₃ w₄ (r₃ .st) z₄ (relate m (m .«applies_branches») (if-back₃ k .Δ) (if-back₂ k .C) (if-back₃ k .C) (r₃ .st .left) (r₃ .st .fresh))
-              if-runs k = let b = if-back₃ k in call₄ .run m (b .Δ) (if-back₂ k .C) (b .C) (b .run) (b .stays (if-back₂ k .den)) (b .den)
-
-              pub if-else₄ : NotDone z₄ → Fires m q w w₄ s g (inferAsk ex) z₄
-              if-else₄ nd = record { run = λ j k. otherwise _ _ (if-way₄ k) (if-runs k) nd }
-
-              pub if-done : {r₄ : Answer} {o : Step} → z₄ ≡ Done r₄
-                  → PlainOut (r₄ .st) (r₄ .g) (r₂ .ty) 7 4 o → Fires m q w w₄ s g (inferAsk ex) o
-              unfolding ruleNumber children
-              if-done d₄ fin = record {
-                run = λ j k.
-                    let b = back _ _ (if-way₄ k) (if-runs k) d₄ in
-                    finish Syntax.InfIf (fin .finished q w₄) (b .run) (b .stays (if-back₃ k .stays (if-back₂ k .den))) (b .way) (omega arith) refl refl (omega arith);
-              }
+    pub if-done : {r : Answer} {o : Step} → z ≡ Done r → PlainOut (r .st) (r .g) (b .on .r .ty) 7 4 o
+        → Fires (asked b .m) (asked b .q) (asked b .w) w′ (asked b .s) (asked b .g) (inferAsk (asked b .ex)) o
+    unfolding ruleNumber children
+    if-done d fin = record {
+      run = λ j k.
+          let u = back _ _ (if-way₄ k) (if-runs k) d in
+          finish Syntax.InfIf (fin .finished (asked b .q) w′) (u .run) (u .stays (if-back₃ k .stays (if-back₂ (b .on) k .den))) (u .way) (omega arith) refl refl (omega arith);
+    }

@@ -42,107 +42,164 @@ use Rattle.inference.specs.Rules.{infSides, Operates}
 use Rattle.inference.proofs.Starting.{outcome, begin-infer, shape, expr-next}
 use Rattle.inference.proofs.Premise.{At, Asked, Premise, ask-infer, ask-check, ask-app, Returns, returns}
 
+-- ## As far as such a rule has come
+
+-- it is asked, at an expression of kind k; t is the cycle's measure
+pub record Begun (k t : ℕ) : Type 0 where
+  pub m : Mode
+  pub q : List ℕ
+  pub w : List ℕ
+  pub s : State
+  pub g : Span
+  pub ex : ℕ
+  pub pre : InferPre q w s g ex k
+  pub falls : 3 * s .left + 1 ≡ t
+
+-- its first part stands i words on, and the table has told where the second does
+pub record Placed (k i t : ℕ) : Type 0 where
+  pub on : Begun k t
+  pub p : ℕ
+  pub second : p ≡ getD (on .w) (16 + (on .ex + i)) 0
+
+-- the first part was inferred
+pub record First (k i t : ℕ) : Type 0 where
+  pub on : Placed k i t
+  pub w : List ℕ
+  pub z : Step
+  pub r : Answer
+  pub call : Judged (on .on .m) (on .on .q) (on .on .w) w (on .on .s) (on .on .g) (inferAsk (on .on .ex + i)) z
+  pub done : z ≡ Done r
+
+-- InfApp: the context was applied to the function's type
+pub record Headed (t : ℕ) : Type 0 where
+  pub on : First 17 1 t
+  pub w : List ℕ
+  pub v : Made
+  pub st : State
+  pub ty : ℕ
+  pub call : Applied (on .on .on .q) (on .w) w (on .r .st) (on .r .g) (on .r .ty) v
+  pub done : v ≡ made.Done st ty
+
+-- InfLet: the name entered the context
+pub record Bound (t : ℕ) : Type 0 where
+  pub on : First 24 2 t
+  pub w : List ℕ
+  pub x : tmvar.TmVar
+  pub o : Opened
+  pub name : x .0 ≡ getD (on .on .on .q) (on .on .on .ex + 1) 0
+  pub call : Pushed (on .w) w (on .r .st) (on .r .g) (kVar (tm x)) (on .r .ty) o
+
+-- how the rule begins, and how it ends
+module _ {k t : ℕ} (i : Begun k t) where
+  abbrev Starts : Judgement → M Fired → Type 0
+  Starts j f = Way (i .q) (i .w) (i .w) (i .s) (i .s) leaf (20 + 28 * i .g .n) (outcome (i .m) (i .s) j) f
+
+  abbrev Ends : List ℕ → Step → Type 0
+  Ends w′ z = Fires (i .m) (i .q) (i .w) w′ (i .s) (i .g) (inferAsk (i .ex)) z
+
 -- ## InfApp
 
-module _ (m : Mode) {q w : List ℕ} {s : State} {g : Span} {ex : ℕ} (pre : InferPre q w s g ex 17) where
-  pub app : {j : Judgement} (k : At (pre .rule) j) → App q ex (infer-asked ex k .e)
-  app k = shape pre k
+module _ {t : ℕ} (i : Begun 17 t) where
+  pub app : {j : Judgement} (k : At (i .pre .rule) j) → App (i .q) (i .ex) (infer-asked (i .ex) k .e)
+  app k = shape (i .pre) k
 
-  pub app-way : {j : Judgement} (k : At (pre .rule) j)
-      → Way q w w s s leaf (20 + 28 * g .n) (outcome m s j)
-      (judge (mode m) (infer (infer-asked ex k .Γ) (app k .f)) >>= λ r. apply (r .1) (r .0)
-      >>= λ A. judge (mode m) (inferApp (r .1) (app k .d) A) >>= λ u. give (Syntax.InfApp, u .0, u .1, r .2 & u .2 & leaf))
+  pub app-way : {j : Judgement} (k : At (i .pre .rule) j)
+      → Starts i j (judge (mode (i .m)) (infer (infer-asked (i .ex) k .Γ) (app k .f)) >>= λ r. apply (r .1) (r .0)
+      >>= λ A. judge (mode (i .m)) (inferApp (r .1) (app k .d) A) >>= λ u. give (Syntax.InfApp, u .0, u .1, r .2 & u .2 & leaf))
   unfolding inferRule infApp
-  app-way k = begin-infer m (pre .rule) (infer-asked ex k .is) (app k .is) refl
+  app-way k = begin-infer (i .m) (i .pre .rule) (infer-asked (i .ex) k .is) (app k .is) refl
 
-  pub app-asks : Premise m (pre .rule) _ _ (λ j k. app-way k) g (inferAsk (ex + 1))
-  app-asks = record { at = λ j k. ask-infer (infer-asked ex k .run) (app k .first) }
+  pub app-asks : Premise (i .m) (i .pre .rule) _ _ (λ j k. app-way k) (i .g) (inferAsk (i .ex + 1))
+  app-asks = record { at = λ j k. ask-infer (infer-asked (i .ex) k .run) (app k .first) }
 
-  module _ {w₁ : List ℕ} {z : Step} (call : Judged m q w w₁ s g (inferAsk (ex + 1)) z) {r : Answer} (d : z ≡ Done r) where
-    pub app-back : {j : Judgement} (k : At (pre .rule) j) → Returns app-asks call k r
-    app-back k = returns app-asks call d k
+module _ {t : ℕ} (c : First 17 1 t) where
+  pub app-back : {j : Judgement} (k : At (c .on .on .pre .rule) j) → Returns (app-asks (c .on .on)) (c .call) k (c .r)
+  app-back k = returns (app-asks (c .on .on)) (c .call) (c .done) k
 
-    pub app-apply : ApplyPre q w₁ (r .st) (r .g) (r .ty)
-    app-apply = let b = app-back (pre .rule .asks) in apply-pre (b .way .room) (b .run) (b .den)
+  pub app-apply : ApplyPre (c .on .on .q) (c .w) (c .r .st) (c .r .g) (c .r .ty)
+  app-apply = let b = app-back (c .on .on .pre .rule .asks) in apply-pre (b .way .room) (b .run) (b .den)
 
-    module _ {w₂ : List ℕ} {v : Made} (ap : Applied q w₁ w₂ (r .st) (r .g) (r .ty) v) where
-      pub app-spent : v ≡ made.Spent → Fires m q w w₂ s g (inferAsk ex) Spent
-      app-spent h = record { run = λ j k. let b = app-back k in apply-spent _ (b .way) ap (b .run) (b .den) h }
+  pub app-spent : {w₂ : List ℕ} {v : Made} → Applied (c .on .on .q) (c .w) w₂ (c .r .st) (c .r .g) (c .r .ty) v → v ≡ made.Spent
+      → Ends (c .on .on) w₂ Spent
+  app-spent ap h = record { run = λ j k. let b = app-back k in apply-spent _ (b .way) ap (b .run) (b .den) h }
 
-      module _ {p : ℕ} (n : p ≡ getD w (16 + (ex + 1)) 0) {s₂ : State} {t : ℕ} (h : v ≡ made.Done s₂ t) where
-        pub app-applied : {j : Judgement} (k : At (pre .rule) j) → AppliedTo _ (app-back k .way) ap (app-back k .run) (app-back k .den) s₂ t
-        app-applied k = let b = app-back k in apply-done _ (b .way) ap (b .run) (b .den) h
+module _ {t : ℕ} (h : Headed t) where
+  pub app-applied : {j : Judgement} (k : At (h .on .on .on .pre .rule) j)
+      → let b = app-back (h .on) k in AppliedTo _ (b .way) (h .call) (b .run) (b .den) (h .st) (h .ty)
+  app-applied k = let b = app-back (h .on) k in apply-done _ (b .way) (h .call) (b .run) (b .den) (h .done)
 
-        pub app-asks₂ : Premise m (pre .rule) _ _ (λ j k. app-applied k .way) (r .g) (appAsk t p)
-        app-asks₂ = record { at = λ j k. let u = app-applied k in ask-app (u .run) (expr-next (pre .rule .room .base) n (app k .first) (app k .second)) (u .den) }
+  pub app-asks₂ : let i = h .on .on .on in Premise (i .m) (i .pre .rule) _ _ (λ j k. app-applied k .way) (h .on .r .g) (appAsk (h .ty) (h .on .on .p))
+  app-asks₂ = record {
+    at = λ j k.
+        let i = h .on .on .on in let u = app-applied k in
+        ask-app (u .run) (expr-next (i .pre .rule .room .base) (h .on .on .second) (app i k .first) (app i k .second)) (u .den);
+  }
 
-        module _ {w₃ : List ℕ} {y : Step} (call₂ : Judged m q w₂ w₃ s₂ (r .g) (appAsk t p) y) where
-          pub app-done : {u : Answer} {o : Step} → y ≡ Done u
-              → PlainOut (u .st) (u .g) (u .ty) 5 2 o → Fires m q w w₃ s g (inferAsk ex) o
-          unfolding ruleNumber children
-          app-done d₂ fin = record {
-            run = λ j k.
-                let b = returns app-asks₂ call₂ d₂ k in
-                finish Syntax.InfApp (fin .finished q w₃) (b .run) (b .den) (b .way) (omega arith) refl refl (omega arith);
-          }
+  pub app-done : {w₃ : List ℕ} {y o : Step} {u : Answer}
+      → let i = h .on .on .on in Judged (i .m) (i .q) (h .w) w₃ (h .st) (h .on .r .g) (appAsk (h .ty) (h .on .on .p)) y
+      → y ≡ Done u → PlainOut (u .st) (u .g) (u .ty) 5 2 o → Ends i w₃ o
+  unfolding ruleNumber children
+  app-done call d fin = record {
+    run = λ j k.
+        let b = returns app-asks₂ call d k in
+        finish Syntax.InfApp (fin .finished _ _) (b .run) (b .den) (b .way) (omega arith) refl refl (omega arith);
+  }
 
 -- ## InfLet
 
-module _ (m : Mode) {q w : List ℕ} {s : State} {g : Span} {ex : ℕ} (pre : InferPre q w s g ex 24) where
-  pub lets : {j : Judgement} (k : At (pre .rule) j) → Let q ex (infer-asked ex k .e)
-  lets k = shape pre k
+module _ {t : ℕ} (i : Begun 24 t) where
+  pub lets : {j : Judgement} (k : At (i .pre .rule) j) → Let (i .q) (i .ex) (infer-asked (i .ex) k .e)
+  lets k = shape (i .pre) k
 
-  pub let-name : ex + 1 < length q
-  let-name = lets (pre .rule .asks) .name .within
+  pub let-name : i .ex + 1 < length (i .q)
+  let-name = lets (i .pre .rule .asks) .name .within
 
-  pub let-way : {j : Judgement} (k : At (pre .rule) j)
-      → Way q w w s s leaf (20 + 28 * g .n) (outcome m s j)
-      (judge (mode m) (infer (infer-asked ex k .Γ) (lets k .f)) >>= λ r. judge (mode m) (infer (r .1 ▹ varBnd (lets k .x) (r .0)) (lets k .d))
+  pub let-way : {j : Judgement} (k : At (i .pre .rule) j)
+      → Starts i j (judge (mode (i .m)) (infer (infer-asked (i .ex) k .Γ) (lets k .f))
+      >>= λ r. judge (mode (i .m)) (infer (r .1 ▹ varBnd (lets k .x) (r .0)) (lets k .d))
       >>= λ u. give (Syntax.InfLet, u .0, solvedAndRight (kVar (lets k .x)) (u .1), r .2 & u .2 & leaf))
   unfolding inferRule infLet
-  let-way k = begin-infer m (pre .rule) (infer-asked ex k .is) (lets k .is) refl
+  let-way k = begin-infer (i .m) (i .pre .rule) (infer-asked (i .ex) k .is) (lets k .is) refl
 
-  pub let-asks : Premise m (pre .rule) _ _ (λ j k. let-way k) g (inferAsk (ex + 2))
-  let-asks = record { at = λ j k. ask-infer (infer-asked ex k .run) (lets k .first) }
+  pub let-asks : Premise (i .m) (i .pre .rule) _ _ (λ j k. let-way k) (i .g) (inferAsk (i .ex + 2))
+  let-asks = record { at = λ j k. ask-infer (infer-asked (i .ex) k .run) (lets k .first) }
 
-  module _ {w₁ : List ℕ} {z : Step} (call : Judged m q w w₁ s g (inferAsk (ex + 2)) z) {r : Answer} (d : z ≡ Done r) where
-    pub let-back : {j : Judgement} (k : At (pre .rule) j) → Returns let-asks call k r
-    let-back k = returns let-asks call d k
+module _ {t : ℕ} (c : First 24 2 t) where
+  pub let-back : {j : Judgement} (k : At (c .on .on .pre .rule) j) → Returns (let-asks (c .on .on)) (c .call) k (c .r)
+  let-back k = returns (let-asks (c .on .on)) (c .call) (c .done) k
 
-    pub let-space : Space w₁ (r .st) (r .g) 1 × (r .ty < 2 ^ 32)
-    let-space = let b = let-back (pre .rule .asks) in
-        (room-space (b .way .room) (r .g) 1 (b .run) (omega arith), ref-small (b .way .room) (b .den))
+  pub let-space : Space (c .w) (c .r .st) (c .r .g) 1 × (c .r .ty < 2 ^ 32)
+  let-space = let b = let-back (c .on .on .pre .rule .asks) in
+      (room-space (b .way .room) (c .r .g) 1 (b .run) (omega arith), ref-small (b .way .room) (b .den))
 
-    module _ {x : tmvar.TmVar} {p : ℕ} (n : x .0 ≡ getD q (ex + 1) 0) (h : p ≡ getD w (16 + (ex + 2)) 0) {w₂ : List ℕ} {o : Opened}
-        (i : Pushed w₁ w₂ (r .st) (r .g) (kVar (tm x)) (r .ty) o) where
-      let-var : {j : Judgement} (k : At (pre .rule) j) → tm x ≡ lets k .x
-      let-var k = rw (n ∙ lets k .name .is) refl
+module _ {t : ℕ} (n : Bound t) where
+  let-var : {j : Judgement} (k : At (n .on .on .on .pre .rule) j) → tm (n .x) ≡ lets (n .on .on .on) k .x
+  let-var k = rw (n .name ∙ lets (n .on .on .on) k .name .is) refl
 
-      pub let-way₂ : {j : Judgement} (k : At (pre .rule) j)
-          → Way q w w₂ s (o .st) (let-back k .t & leaf) 0 (outcome m s j)
-          (judge (mode m) (infer (let-back k .Δ ▹ varBnd (lets k .x) (let-back k .C)) (lets k .d))
-          >>= λ u. give (Syntax.InfLet, u .0, solvedAndRight (kVar (lets k .x)) (u .1), let-back k .t & u .2 & leaf))
-      let-way₂ k = grown (let-back k .way) 0 (i .grown) (omega arith)
+  pub let-way₂ : {j : Judgement} (k : At (n .on .on .on .pre .rule) j)
+      → let i = n .on .on .on in let b = let-back (n .on) k in let v = lets i k in
+      Way (i .q) (i .w) (n .w) (i .s) (n .o .st) (b .t & leaf) 0 (outcome (i .m) (i .s) j)
+      (judge (mode (i .m)) (infer (b .Δ ▹ varBnd (v .x) (b .C)) (v .d))
+      >>= λ u. give (Syntax.InfLet, u .0, solvedAndRight (kVar (v .x)) (u .1), b .t & u .2 & leaf))
+  let-way₂ k = grown (let-back (n .on) k .way) 0 (n .call .grown) (omega arith)
 
-      pub let-asks₂ : Premise m (pre .rule) _ _ (λ j k. let-way₂ k) (o .g) (inferAsk p)
-      let-asks₂ = record {
-        at = λ j k.
-            let b = let-back k in
-            ask-infer (rw (let-var k) at (i .run (b .run) (makes-var (tm x) (b .den)))) (expr-next (pre .rule .room .base) h (lets k .first) (lets k .second));
-      }
+  pub let-asks₂ : let i = n .on .on .on in Premise (i .m) (i .pre .rule) _ _ (λ j k. let-way₂ k) (n .o .g) (inferAsk (n .on .on .p))
+  let-asks₂ = record {
+    at = λ j k.
+        let i = n .on .on .on in let b = let-back (n .on) k in
+        ask-infer (rw (let-var k) at (n .call .run (b .run) (makes-var (tm (n .x)) (b .den))))
+        (expr-next (i .pre .rule .room .base) (n .on .on .second) (lets i k .first) (lets i k .second));
+  }
 
-      module _ {w₃ : List ℕ} {y : Step} (call₂ : Judged m q w₂ w₃ (o .st) (o .g) (inferAsk p) y) {u : Answer} (d₂ : y ≡ Done u) where
-        pub let-back₂ : {j : Judgement} (k : At (pre .rule) j) → Returns let-asks₂ call₂ k u
-        let-back₂ k = returns let-asks₂ call₂ d₂ k
-
-        pub let-done : {w₄ : List ℕ} {v : Step}
-            → KeepOut true w₃ w₄ u (kVar (tm x)) (u .ty) 6 2 v → Fires m q w w₄ s g (inferAsk ex) v
-        unfolding ruleNumber children kept
-        let-done fin = record {
-          run = λ j k.
-              let b = let-back₂ k in
-              finish Syntax.InfLet (rw (let-var k) at (fin .finished q)) (b .run) (b .den) (b .way) (omega arith) refl refl (omega arith);
-        }
+  pub let-done : {w₃ w₄ : List ℕ} {y o : Step} {u : Answer}
+      → let i = n .on .on .on in Judged (i .m) (i .q) (n .w) w₃ (n .o .st) (n .o .g) (inferAsk (n .on .on .p)) y
+      → y ≡ Done u → KeepOut true w₃ w₄ u (kVar (tm (n .x))) (u .ty) 6 2 o → Ends i w₄ o
+  unfolding ruleNumber children kept
+  let-done call d fin = record {
+    run = λ j k.
+        let b = returns let-asks₂ call d k in
+        finish Syntax.InfLet (rw (let-var k) at (fin .finished (n .on .on .on .q))) (b .run) (b .den) (b .way) (omega arith) refl refl (omega arith);
+  }
 
 -- ## Operators
 
@@ -165,48 +222,76 @@ right-den : {b : Bool} {q w : List ℕ} {t x y u : ℕ} {X Y : Ty} → Picks b x
 unfolding pick
 right-den h d e = ⊎-elim (λ i. rw (i .0, i .1) d) (λ i. rw (i .0, i .1) e) h
 
-module _ (m : Mode) {q w : List ℕ} {s : State} {g : Span} {ex : ℕ} (pre : InferPre q w s g ex 26) where
-  pub op : {j : Judgement} (k : At (pre .rule) j) → BinOp q ex (infer-asked ex k .e)
-  op k = shape pre k
+-- its rule is known
+pub record Operator (t : ℕ) : Type 0 where
+  pub on : Placed 26 2 t
+  pub n : ℕ
+  pub o : Sides
+  pub name : n ≡ getD (on .on .q) (on .on .ex + 1) 0
+  pub by : Operates n o
 
-  pub op-word : ex + 1 < length q
-  op-word = op (pre .rule .asks) .op .within
+-- how its left side is asked, with what comes of it
+abbrev pub Sided : {t : ℕ} → Operator t → List ℕ → Step → Type 0
+Sided c w z = let i = c .on .on in Judged (i .m) (i .q) (i .w) w (i .s) (i .g) (leftAsk (c .o .0) (i .ex + 2) (c .o .1)) z
 
-  module _ {n : ℕ} {o : Sides} (h : n ≡ getD q (ex + 1) 0) (by : Operates n o) where
-    op-side : Den q w (s .top) (o .1) (by .A)
-    op-side = by .side (pre .rule .room .base)
+-- its left side came back
+pub record Left (t : ℕ) : Type 0 where
+  pub on : Operator t
+  pub w : List ℕ
+  pub z : Step
+  pub r : Answer
+  pub call : Sided on w z
+  pub done : z ≡ Done r
 
-    pub op-way : {j : Judgement} (k : At (pre .rule) j)
-        → Way q w w s s leaf (20 + 28 * g .n) (outcome m s j)
-        (infSides (judge (mode m)) (o .0) (by .r) (by .A) (by .C) (infer-asked ex k .Γ) (op k .f) (op k .d))
-    unfolding inferRule
-    op-way k =
-        let v = op k in
-        let i : n ≡ v .o = h ∙ v .op .is in
-        begin-infer m (pre .rule) (infer-asked ex k .is) (v .is) (rw (← i) (by .is (omega (arith, v .some)) (judge (mode m)) (infer-asked ex k .Γ) (v .f) (v .d)))
+-- the type for its right side is chosen
+pub record Aimed (t : ℕ) : Type 0 where
+  pub on : Left t
+  pub ty : ℕ
+  pub picks : Picks (on .on .o .0) (on .r .ty) (on .on .o .1) ty
 
-    pub op-asks : Premise m (pre .rule) _ _ (λ j k. op-way k) g (leftAsk (o .0) (ex + 2) (o .1))
-    op-asks = record { at = λ j k. left-asks (o .0) (infer-asked ex k .run) (op k .first) op-side }
+module _ {t : ℕ} (i : Begun 26 t) where
+  pub op : {j : Judgement} (k : At (i .pre .rule) j) → BinOp (i .q) (i .ex) (infer-asked (i .ex) k .e)
+  op k = shape (i .pre) k
 
-    module _ {w₁ : List ℕ} {z : Step} (call : Judged m q w w₁ s g (leftAsk (o .0) (ex + 2) (o .1)) z) where
-      module _ {r : Answer} (d : z ≡ Done r) {p t : ℕ} (i : p ≡ getD w (16 + (ex + 2)) 0)
-          (u : Picks (o .0) (r .ty) (o .1) t) where
-        pub op-back : {j : Judgement} (k : At (pre .rule) j) → Returns op-asks call k r
-        op-back k = returns op-asks call d k
+  pub op-word : i .ex + 1 < length (i .q)
+  op-word = op (i .pre .rule .asks) .op .within
 
-        pub op-asks₂ : Premise m (pre .rule) _ _ (λ j k. op-back k .way) (r .g) (checkAsk p t)
-        op-asks₂ = record {
-          at = λ j k.
-              let b = op-back k in
-              ask-check (b .run) (expr-next (pre .rule .room .base) i (op k .first) (op k .second)) (right-den u (b .den) (b .stays op-side));
-        }
+module _ {t : ℕ} (c : Operator t) where
+  op-side : Den (c .on .on .q) (c .on .on .w) (c .on .on .s .top) (c .o .1) (c .by .A)
+  op-side = c .by .side (c .on .on .pre .rule .room .base)
 
-        module _ {w₂ : List ℕ} {y : Step} (call₂ : Judged m q w₁ w₂ (r .st) (r .g) (checkAsk p t) y) where
-          pub op-done : {v : Answer} {x : Step} → y ≡ Done v
-              → PlainOut (v .st) (v .g) (o .2) (o .3) 2 x → Fires m q w w₂ s g (inferAsk ex) x
-          unfolding children
-          op-done d₂ fin = record {
-            run = λ j k.
-                let b = returns op-asks₂ call₂ d₂ k in
-                finish (by .r) (fin .finished q w₂) (b .run) (by .gives (b .way .room .base)) (b .way) (omega arith) (by .number) refl (omega arith);
-          }
+  pub op-way : {j : Judgement} (k : At (c .on .on .pre .rule) j)
+      → let i = c .on .on in
+      Starts i j (infSides (judge (mode (i .m))) (c .o .0) (c .by .r) (c .by .A) (c .by .C) (infer-asked (i .ex) k .Γ) (op i k .f) (op i k .d))
+  unfolding inferRule
+  op-way k =
+      let i = c .on .on in let v = op i k in let a = infer-asked (i .ex) k in
+      let e : c .n ≡ v .o = c .name ∙ v .op .is in
+      begin-infer (i .m) (i .pre .rule) (a .is) (v .is) (rw (← e) (c .by .is (omega (arith, v .some)) (judge (mode (i .m))) (a .Γ) (v .f) (v .d)))
+
+  pub op-asks : let i = c .on .on in Premise (i .m) (i .pre .rule) _ _ (λ j k. op-way k) (i .g) (leftAsk (c .o .0) (i .ex + 2) (c .o .1))
+  op-asks = record { at = λ j k. left-asks (c .o .0) (infer-asked (c .on .on .ex) k .run) (op (c .on .on) k .first) op-side }
+
+module _ {t : ℕ} (l : Left t) where
+  pub op-back : {j : Judgement} (k : At (l .on .on .on .pre .rule) j) → Returns (op-asks (l .on)) (l .call) k (l .r)
+  op-back k = returns (op-asks (l .on)) (l .call) (l .done) k
+
+module _ {t : ℕ} (a : Aimed t) where
+  pub op-asks₂ : let l = a .on in let i = l .on .on .on in
+      Premise (i .m) (i .pre .rule) _ _ (λ j k. op-back l k .way) (l .r .g) (checkAsk (l .on .on .p) (a .ty))
+  op-asks₂ = record {
+    at = λ j k.
+        let c = a .on .on in let b = op-back (a .on) k in let v = op (c .on .on) k in
+        ask-check (b .run) (expr-next (c .on .on .pre .rule .room .base) (c .on .second) (v .first) (v .second))
+        (right-den (a .picks) (b .den) (b .stays (op-side c)));
+  }
+
+  pub op-done : {w₂ : List ℕ} {y x : Step} {v : Answer}
+      → let l = a .on in let i = l .on .on .on in Judged (i .m) (i .q) (l .w) w₂ (l .r .st) (l .r .g) (checkAsk (l .on .on .p) (a .ty)) y
+      → y ≡ Done v → PlainOut (v .st) (v .g) (l .on .o .2) (l .on .o .3) 2 x → Ends i w₂ x
+  unfolding children
+  op-done call d fin = record {
+    run = λ j k.
+        let b = returns op-asks₂ call d k in let by = a .on .on .by in
+        finish (by .r) (fin .finished _ _) (b .run) (by .gives (b .way .room .base)) (b .way) (omega arith) (by .number) refl (omega arith);
+  }

@@ -4,7 +4,7 @@ use mathlib.Core.List.{List}
 use Prim.Native.Nat.{ℕ, _+_, _-_, _*_, _≤_, _<_}
 use native.Mathlib.Omega.{arith}
 use Rattle.definition.specs.Syntax.{Ty, arrow, forall}
-use Rattle.definition.specs.Run.{Out, done, stop, M, give}
+use Rattle.definition.specs.Run.{Out, M, give}
 use Rattle.layout.specs.Names.{ty}
 use Rattle.layout.specs.Words.{Keep}
 use Rattle.layout.specs.Denotes.{Den}
@@ -14,9 +14,9 @@ use Rattle.layout.specs.declared.State.{State}
 use Rattle.layout.specs.declared.Made.{Made}
 use Rattle.layout.specs.declared.Made.the-variants.{Done, Spent}
 use Rattle.layout.proofs.Words.{keep-refl}
-use Rattle.types.specs.Reading.{Held, Tagged, Named, LeftOf, RightOf, BodyOf}
+use Rattle.types.specs.Reading.{Held, HeldAs, HeldNamed, Tagged, Named, LeftOf, RightOf, BodyOf}
 use Rattle.types.specs.Making.{ArrowRoom, ForallRoom}
-use Rattle.types.proofs.Held.{room-held}
+use Rattle.types.proofs.Held.{room-held, held-as, held-named}
 use Rattle.types.proofs.Cases.{by-arrow, by-forall}
 use Rattle.substitution.specs.declared.Begun.{Begun}
 use Rattle.substitution.specs.declared.Begun.the-variants as begun
@@ -57,10 +57,6 @@ began {q} {w} {s} {p} {r} {k} h e = go (rw e at h) refl
         record { some = l; is = cc; tag = rw same at t }
     go (unpaid l) f = let z : _≡_ {A = ℕ} 0 1 = cc in absurd (omega arith)
 
--- the budget left falls
-pub fewer : {q w : List ℕ} {s p : State} {r k : ℕ} → Began q w s r p k → p .left < s .left
-fewer b = rw (b .is) (omega (arith, b .some))
-
 none-left : {q w : List ℕ} {s : State} {r : ℕ} {z : Begun} → Begins q w s r z → z ≡ begun.Spent → s .left ≡ 0
 none-left {q} {w} {s} {r} h e = go (rw e at h) refl
   where
@@ -81,27 +77,103 @@ module _ {X : Type 0} {G : X → List ℕ → ℕ → Type 0} {q w : List ℕ} {
   pub held : Asks G q w s r → Held q w (s .top) r
   held h = room-held (h .room) (h .den)
 
-  -- the same is asked for another reference: once a unit is paid, and later on
-  asks-paid : {k : ℕ} {T : Ty} → 1 ≤ s .left → Asks G q w s r → Den q w (s .top) k T → Asks G q w (pay s) k
-  asks-paid some h d = record { spare = h .spare + 32; room = room-paid some (h .room); x = h .x; given = h .given; type = _; den = d }
-
-  asks-on : {w′ : List ℕ} {s′ : State} {n k : ℕ} {T : Ty} {m : X → Ty → M Ty} → Way G m → Passed w w′ s s′ n → Asks G q w s r
-      → Den q w′ (s′ .top) k T → Asks G q w′ s′ k
-  asks-on way p h d = record {
-    spare = _;
-    room = room-on p (h .room);
-    x = h .x;
-    given = way .stays (h .x) (p .keep) (p .up) (h .given);
-    type = _;
-    den = d;
+  pub spent-at-once : {m : X → Ty → M Ty} {z : Begun} → Way G m → Begins q w s r z → z ≡ begun.Spent → Does G m q w w s r Spent
+  spent-at-once way h e = record {
+    makes = λ x g T d. rw (equations.unpaid (s .left) (s .fresh) (way .paid x T) (none-left h e)) (spent (keep-refl _ _ w));
   }
 
-  -- the room there is then, for a new record among others
-  room-then : {w′ : List ℕ} {s′ : State} {n : ℕ} → 1 ≤ s .left → (h : Asks G q w s r) → Passed w w′ (pay s) s′ n
-      → Room q w′ s′ (h .spare + 32 + 28 * n)
-  room-then some h p = room-on p (room-paid some (h .room))
+-- ## A call that has begun
 
--- ## Calls without parts
+-- it asks, and has paid one unit, which leaves p, and read the code k; n is the cycle's measure
+pub record Call (X : Type 0) (n : ℕ) : Type 1 where
+  pub G : X → List ℕ → ℕ → Type 0
+  pub m : X → Ty → M Ty
+  pub way : Way G m
+  pub q : List ℕ
+  pub w : List ℕ
+  pub s : State
+  pub r : ℕ
+  pub p : State
+  pub k : ℕ
+  pub asks : Asks G q w s r
+  pub falls : s .left ≡ n
+  pub began : Began q w s r p k
+
+-- so it is where the code was read
+abbrev pub begin : {X : Type 0} {G : X → List ℕ → ℕ → Type 0} {m : X → Ty → M Ty} {q w : List ℕ} {s p : State} {r k n : ℕ} {z : Begun}
+    → Way G m → Asks G q w s r → s .left ≡ n → Begins q w s r z → z ≡ begun.At p k → Call X n
+begin way h f b e = record { G = _; m = _; way = way; q = _; w = _; s = _; r = _; p = _; k = _; asks = h; falls = f; began = began b e }
+
+-- a call on l, from w and s, has made the type r, at w′ and s′
+pub record Gone {X : Type 0} (G : X → List ℕ → ℕ → Type 0) (m : X → Ty → M Ty) (q w : List ℕ) (s : State) (l : ℕ) : Type 0 where
+  pub w′ : List ℕ
+  pub s′ : State
+  pub r : ℕ
+  pub does : Does G m q w w′ s l (Done s′ r)
+
+abbrev pub gone : {X : Type 0} {G : X → List ℕ → ℕ → Type 0} {m : X → Ty → M Ty} {q w w′ : List ℕ} {s s′ : State} {l r : ℕ} {z : Made}
+    → Does G m q w w′ s l z → z ≡ Done s′ r → Gone G m q w s l
+gone h e = record { w′ = _; s′ = _; r = _; does = rw e at h }
+
+module _ {X : Type 0} {n : ℕ} (i : Call X n) where
+  -- l denotes T; the call ends so; a call on the part l ends so, or has made a type
+  abbrev pub Says : ℕ → Ty → Type 0
+  Says l T = Den (i .q) (i .w) (i .s .top) l T
+
+  abbrev pub Ends : List ℕ → Made → Type 0
+  Ends w′ z = Does (i .G) (i .m) (i .q) (i .w) w′ (i .s) (i .r) z
+
+  abbrev pub On : ℕ → List ℕ → Made → Type 0
+  On l w′ z = Does (i .G) (i .m) (i .q) (i .w) w′ (i .p) l z
+
+  abbrev pub Part : ℕ → Type 0
+  Part l = Gone (i .G) (i .m) (i .q) (i .w) (i .p) l
+
+  -- what the call asks, and the same for any x and type
+  abbrev pub Asked : Type 0
+  Asked = Asks (i .G) (i .q) (i .w) (i .s) (i .r)
+
+  abbrev for : (x : X) → i .G x (i .w) (i .s .top) → (T : Ty) → Says (i .r) T → Asked
+  for x g T d = record { spare = _; room = i .asks .room; x = x; given = g; type = T; den = d }
+
+  -- the budget left falls
+  pub fewer : i .p .left < n
+  fewer = rw (i .began .is) (omega (arith, i .began .some, i .falls))
+
+  -- its type has this code; it is a Var, an ETVar or a Forall
+  pub coded : (j : ℕ) → i .k ≡ j → HeldAs (i .q) (i .w) (i .s .top) (i .r) j
+  coded j e = held-as (held (i .asks)) (i .began .tag) j e
+
+  pub named : 3 ≤ i .k → (i .k ≡ 5 → ⊥) → HeldNamed (i .q) (i .w) (i .s .top) (i .r)
+  named l f = held-named (held (i .asks)) (i .began .tag) l f
+
+  -- the room there is then, for a new record among others
+  room-then : {w′ : List ℕ} {s′ : State} {j : ℕ} → Passed (i .w) w′ (pay (i .s)) s′ j → Room (i .q) w′ s′ (i .asks .spare + 32 + 28 * j)
+  room-then p = room-on p (room-paid (i .began .some) (i .asks .room))
+
+  -- the same is asked for a part: once a unit is paid, and later on
+  asks-on : {w′ : List ℕ} {s′ : State} {j l : ℕ} {A : Ty} → Passed (i .w) w′ (pay (i .s)) s′ j → Says l A → Asks (i .G) (i .q) w′ s′ l
+  asks-on p d = record {
+    spare = _;
+    room = room-then p;
+    x = i .asks .x;
+    given = i .way .stays (i .asks .x) (p .keep) (p .up) (i .asks .given);
+    type = _;
+    den = den-on p d;
+  }
+
+  pub part-asks : {l : ℕ} {A : Ty} → Says l A → Asks (i .G) (i .q) (i .w) (i .p) l
+  part-asks d = rw (i .began .is) (asks-on (here (i .w) (pay (i .s))) d)
+
+  part-makes : {l : ℕ} {w₁ : List ℕ} {z₁ : Made} {A : Ty} → On l w₁ z₁ → (a : Asked) → Says l A
+      → Makes (i .q) (i .w) w₁ (pay (i .s)) z₁ (i .m (a .x) A (i .s .left - 1) (i .s .fresh))
+  part-makes call a d = (rw (i .began .is) at call) .makes (a .x) (a .given) _ d
+
+  part-reached : {l : ℕ} {A : Ty} (g : Part l) (a : Asked) → Says l A
+      → Reached (i .q) (i .w) (g .w′) (pay (i .s)) (g .s′) (g .r) (i .m (a .x) A (i .s .left - 1) (i .s .fresh))
+  part-reached g a d = reached (part-makes (g .does) a d) refl
+
+-- ## Calls without parts, and one that goes on
 
 -- at once the type that u denotes
 pub record Gives (q w : List ℕ) (t u : ℕ) (m : M Ty) : Type 0 where
@@ -115,48 +187,40 @@ pub record Leads (q w : List ℕ) (t u : ℕ) (m : Ty → M Ty) (T : Ty) : Type 
   pub is : Paid (m T) (m type)
   pub den : Den q w t u type
 
-module _ {X : Type 0} {G : X → List ℕ → ℕ → Type 0} {m : X → Ty → M Ty} {q w : List ℕ} {s : State} {r : ℕ} where
-  pub spent-at-once : {z : Begun} → Way G m → Begins q w s r z → z ≡ begun.Spent → Does G m q w w s r Spent
-  spent-at-once way h e = record {
-    makes = λ x g T d. rw (equations.unpaid (s .left) (s .fresh) (way .paid x T) (none-left h e)) (spent (keep-refl _ _ w));
-  }
+pub given-at-once : {X : Type 0} {n u : ℕ} (i : Call X n)
+    → ((x : X) → i .G x (i .w) (i .s .top) → (T : Ty) → Says i (i .r) T → Gives (i .q) (i .w) (i .s .top) u (i .m x T))
+    → Ends i (i .w) (Done (i .p) u)
+unfolding give
+given-at-once i f = record {
+  makes = λ x g T d.
+      let v = f x g T d in
+      rw (i .began .is, once-paid (i .s .left) (i .s .fresh) (v .is) (i .began .some))
+      (made (kept (i .began .some) (here (i .w) (pay (i .s)))) (v .den));
+}
 
-  pub given-at-once : {p : State} {k u : ℕ} → Began q w s r p k
-      → ((x : X) → G x w (s .top) → (T : Ty) → Den q w (s .top) r T → Gives q w (s .top) u (m x T))
-      → Does G m q w w s r (Done p u)
-  unfolding give
-  given-at-once b f = record {
-    makes = λ x g T d.
-        let v = f x g T d in
-        rw (b .is, once-paid (s .left) (s .fresh) (v .is) (b .some)) (made (kept (b .some) (here w (pay s))) (v .den));
-  }
-
--- ## A call on a part
+-- the call goes on with what u denotes
+pub record Led (X : Type 0) (n : ℕ) : Type 1 where
+  pub on : Call X n
+  pub u : ℕ
+  pub leads : (x : X) → on .G x (on .w) (on .s .top) → (T : Ty) → Says on (on .r) T → Leads (on .q) (on .w) (on .s .top) u (on .m x) T
 
 -- what is made once a unit is paid is made
 paid-makes : {q w w′ : List ℕ} {s : State} {z : Made} {R : Out Ty} → 1 ≤ s .left → Makes q w w′ (pay s) z R → Makes q w w′ s z R
 paid-makes some (made p d) = made (kept some p) d
 paid-makes some (spent k) = spent k
 
-module _ {X : Type 0} {G : X → List ℕ → ℕ → Type 0} {q w : List ℕ} {s p : State} {r k : ℕ} (b : Began q w s r p k) where
-  pub part-asks : {l : ℕ} {A : Ty} → Asks G q w s r → Den q w (s .top) l A → Asks G q w p l
-  part-asks h d = rw (b .is) (asks-paid (b .some) h d)
+module _ {X : Type 0} {n : ℕ} (f : Led X n) where
+  pub follows : Asks (f .on .G) (f .on .q) (f .on .w) (f .on .p) (f .u)
+  follows = let a = f .on .asks in part-asks (f .on) (f .leads (a .x) (a .given) (a .type) (a .den) .den)
 
-  module _ {m : X → Ty → M Ty} {w₁ : List ℕ} {z₁ : Made} {l : ℕ} (call : Does G m q w w₁ p l z₁) where
-    part-makes : (x : X) → G x w (s .top) → (A : Ty) → Den q w (s .top) l A → Makes q w w₁ (pay s) z₁ (m x A (s .left - 1) (s .fresh))
-    part-makes = (rw (b .is) at call) .makes
-
-    part-reached : {s₁ : State} {l₁ : ℕ} → z₁ ≡ Done s₁ l₁ → (x : X) → G x w (s .top) → (A : Ty) → Den q w (s .top) l A
-        → Reached q w w₁ (pay s) s₁ l₁ (m x A (s .left - 1) (s .fresh))
-    part-reached d₁ x c A d = reached (part-makes x c A d) d₁
-
-    -- a type that is followed to another, which l denotes
-    pub followed : ((x : X) → G x w (s .top) → (T : Ty) → Den q w (s .top) r T → Leads q w (s .top) l (m x) T) → Does G m q w w₁ s r z₁
-    followed f = record {
-      makes = λ x c T d.
-          let v = f x c T d in
-          rw (once-paid (s .left) (s .fresh) (v .is) (b .some)) (paid-makes (b .some) (part-makes x c (v .type) (v .den)));
-    }
+  pub followed : {w₁ : List ℕ} {z₁ : Made} → On (f .on) (f .u) w₁ z₁ → Ends (f .on) w₁ z₁
+  followed call = record {
+    makes = λ x c T d.
+        let i = f .on in
+        let v = f .leads x c T d in
+        rw (once-paid (i .s .left) (i .s .fresh) (v .is) (i .began .some))
+        (paid-makes (i .began .some) (part-makes i call (for i x c T d) (v .den)));
+  }
 
 -- ## An Arrow
 
@@ -173,74 +237,106 @@ pub halves : {q w : List ℕ} {t r k l u : ℕ} → Tagged q w t r k → k ≡ 5
 halves {q} {w} {t} {l = l} {u = u} c e f g =
     by-arrow (Halves q w t l u) c e (λ A B d. record { A = A; B = B; is = refl; left = f .is A B d .den; right = g .is A B d .den })
 
-module _ {X : Type 0} {G : X → List ℕ → ℕ → Type 0} {m : X → Ty → M Ty} (way : Way G m) {q w : List ℕ} {s p : State} {r k l u : ℕ}
-    (b : Began q w s r p k) (parts : (T : Ty) → Den q w (s .top) r T → Halves q w (s .top) l u T)
-    {w₁ : List ℕ} {z₁ : Made} (call₁ : Does G m q w w₁ p l z₁) where
-  pub left-spent : z₁ ≡ Spent → Does G m q w w₁ s r Spent
-  left-spent e = record {
+-- the call is on an Arrow, whose halves were read
+pub record Arrow (X : Type 0) (n : ℕ) : Type 1 where
+  pub on : Call X n
+  pub l : ℕ
+  pub u : ℕ
+  pub parts : (T : Ty) → Says on (on .r) T → Halves (on .q) (on .w) (on .s .top) l u T
+
+-- its left half is made
+pub record Left (X : Type 0) (n : ℕ) : Type 1 where
+  pub on : Arrow X n
+  pub made : Part (on .on) (on .l)
+
+-- and its right half
+pub record Both (X : Type 0) (n : ℕ) : Type 1 where
+  pub on : Left X n
+  pub made : Gone (on .on .on .G) (on .on .on .m) (on .on .on .q) (on .made .w′) (on .made .s′) (on .on .u)
+
+module _ {X : Type 0} {n : ℕ} (h : Arrow X n) where
+  -- the halves of the type that is asked for
+  abbrev half : (a : Asked (h .on)) → Halves (h .on .q) (h .on .w) (h .on .s .top) (h .l) (h .u) (a .type)
+  half a = h .parts (a .type) (a .den)
+
+  pub left-asks : Asks (h .on .G) (h .on .q) (h .on .w) (h .on .p) (h .l)
+  left-asks = part-asks (h .on) (half (h .on .asks) .left)
+
+  pub left-spent : {w₁ : List ℕ} {z₁ : Made} → On (h .on) (h .l) w₁ z₁ → z₁ ≡ Spent → Ends (h .on) w₁ Spent
+  left-spent call e = record {
     makes = λ x c T d.
-        let v = parts T d in
-        let n = ended (part-makes b call₁ x c (v .A) (v .left)) e in
-        rw (v .is, arrow-stop (m x) (v .A) (v .B) (s .left) (s .fresh) (way .arrows x (v .A) (v .B)) (b .some) (n .is)) (spent (n .keep));
+        let i = h .on in
+        let v = h .parts T d in
+        let y = ended (part-makes i call (for i x c T d) (v .left)) e in
+        rw (v .is, arrow-stop (i .m x) _ _ (i .s .left) (i .s .fresh) (i .way .arrows x (v .A) (v .B)) (i .began .some) (y .is)) (spent (y .keep));
   }
 
-  module _ {s₁ : State} {l₁ : ℕ} (d₁ : z₁ ≡ Done s₁ l₁) where
-    left-reached : (x : X) → G x w (s .top) → (T : Ty) (d : Den q w (s .top) r T)
-        → Reached q w w₁ (pay s) s₁ l₁ (m x (parts T d .A) (s .left - 1) (s .fresh))
-    left-reached x c T d = part-reached b call₁ d₁ x c (parts T d .A) (parts T d .left)
+module _ {X : Type 0} {n : ℕ} (h : Left X n) where
+  -- the call
+  abbrev i : Call X n
+  i = h .on .on
 
-    pub left-fewer : Asks G q w s r → s₁ .left < p .left
-    left-fewer h = rw (b .is) (omega (arith, left-reached (h .x) (h .given) (h .type) (h .den) .passed .paid))
+  left-reached : (a : Asked i) → Reached (i .q) (i .w) (h .made .w′) (pay (i .s)) (h .made .s′) (h .made .r)
+      (i .m (a .x) (half (h .on) a .A) (i .s .left - 1) (i .s .fresh))
+  left-reached a = part-reached i (h .made) a (half (h .on) a .left)
 
-    pub right-asks : Asks G q w s r → Asks G q w₁ s₁ u
-    right-asks h =
-        let right = parts (h .type) (h .den) .right in
-        let y = left-reached (h .x) (h .given) (h .type) (h .den) .passed in
-        asks-on way y (asks-paid (b .some) h right) (den-on y right)
+  pub left-fewer : h .made .s′ .left < n
+  left-fewer = omega (arith, left-reached (i .asks) .passed .paid, i .began .some, i .falls)
 
-    module _ {w₂ : List ℕ} {z₂ : Made} (call₂ : Does G m q w₁ w₂ s₁ u z₂) where
-      right-makes : (x : X) → G x w (s .top) → (T : Ty) (d : Den q w (s .top) r T)
-          → Makes q w₁ w₂ s₁ z₂ (m x (parts T d .B) (s₁ .left) (s₁ .fresh))
-      right-makes x c T d =
-          let y = left-reached x c T d .passed in
-          call₂ .makes x (way .stays x (y .keep) (y .up) c) (parts T d .B) (den-on y (parts T d .right))
+  pub right-asks : Asks (i .G) (i .q) (h .made .w′) (h .made .s′) (h .on .u)
+  right-asks = asks-on i (left-reached (i .asks) .passed) (half (h .on) (i .asks) .right)
 
-      pub right-spent : z₂ ≡ Spent → Does G m q w w₂ s r Spent
-      right-spent e = record {
-        makes = λ x c T d.
-            let v = parts T d in
-            let y = left-reached x c T d in
-            let n = ended (right-makes x c T d) e in
-            let is : m x (arrow (v .A) (v .B)) (s .left) (s .fresh) ≡ stop =
-            arrow-stop-late (m x) (v .A) (v .B) (s .left) (s .fresh) (way .arrows x (v .A) (v .B)) (b .some) (y .is) (y .passed .fresh) (n .is) in
-            rw (v .is, is) (spent (keep-on (y .passed) (n .keep)));
+  module _ {w₂ : List ℕ} {z₂ : Made} (call : Does (i .G) (i .m) (i .q) (h .made .w′) w₂ (h .made .s′) (h .on .u) z₂) where
+    right-makes : (a : Asked i) → Makes (i .q) (h .made .w′) w₂ (h .made .s′) z₂
+        (i .m (a .x) (half (h .on) a .B) (h .made .s′ .left) (h .made .s′ .fresh))
+    right-makes a = let y = left-reached a .passed in
+        call .makes (a .x) (i .way .stays (a .x) (y .keep) (y .up) (a .given)) (half (h .on) a .B) (den-on y (half (h .on) a .right))
+
+    pub right-spent : z₂ ≡ Spent → Ends i w₂ Spent
+    right-spent e = record {
+      makes = λ x c T d.
+          let v = h .on .parts T d in
+          let y = left-reached (for i x c T d) in
+          let o = ended (right-makes (for i x c T d)) e in
+          let eq = i .way .arrows x (v .A) (v .B) in
+          rw (v .is, arrow-stop-late (i .m x) _ _ (i .s .left) (i .s .fresh) eq (i .began .some) (y .is) (y .passed .fresh) (o .is))
+          (spent (keep-on (y .passed) (o .keep)));
+    }
+
+module _ {X : Type 0} {n : ℕ} (b : Both X n) where
+  -- the call
+  abbrev j : Call X n
+  j = b .on .on .on
+
+  right-reached : (a : Asked j) → Reached (j .q) (b .on .made .w′) (b .made .w′) (b .on .made .s′) (b .made .s′) (b .made .r)
+      (j .m (a .x) (half (b .on .on) a .B) (b .on .made .s′ .left) (b .on .made .s′ .fresh))
+  right-reached a = reached (right-makes (b .on) (b .made .does) a) refl
+
+  both-passed : (a : Asked j) → Passed (j .w) (b .made .w′) (pay (j .s)) (b .made .s′) 2
+  both-passed a = then (left-reached (b .on) a .passed) (right-reached a .passed)
+
+  pub arrow-asks : ArrowRoom (j .q) (b .made .w′) (b .made .s′ .top) (b .on .made .r) (b .made .r)
+  arrow-asks =
+      let o = right-reached (j .asks) in
+      let room = room-then j (both-passed (j .asks)) in
+      record {
+        room = omega (arith, room .fits, room .low);
+        left = room-held room (den-on (o .passed) (left-reached (b .on) (j .asks) .den));
+        right = room-held room (o .den);
       }
 
-      module _ {s₂ : State} {u₂ : ℕ} (d₂ : z₂ ≡ Done s₂ u₂) where
-        pub arrow-asks : Asks G q w s r → ArrowRoom q w₂ (s₂ .top) l₁ u₂
-        arrow-asks h =
-            let y = left-reached (h .x) (h .given) (h .type) (h .den) in
-            let n = reached (right-makes (h .x) (h .given) (h .type) (h .den)) d₂ in
-            let room = room-then (b .some) h (then (y .passed) (n .passed)) in
-            record {
-              room = omega (arith, room .fits, room .low);
-              left = room-held room (den-on (n .passed) (y .den));
-              right = room-held room (n .den);
-            }
-
-        pub arrow-does : {w₃ : List ℕ} {z₃ : Made} → Asks G q w s r → ArrowMade q w₂ w₃ s₂ l₁ u₂ z₃ → Does G m q w w₃ s r z₃
-        arrow-does h j = record {
-          makes = λ x c T d.
-              let v = parts T d in
-              let y = left-reached x c T d in
-              let n = reached (right-makes x c T d) d₂ in
-              let p = then (y .passed) (n .passed) in
-              let is : m x (arrow (v .A) (v .B)) (s .left) (s .fresh) ≡ done (arrow (y .type) (n .type)) (s₂ .left) (s .fresh) =
-              arrow-done (m x) (v .A) (v .B) (s .left) (s .fresh) (way .arrows x (v .A) (v .B)) (b .some) (y .is) (y .passed .fresh) (n .is) in
-              rw (j .is, v .is, is)
-              (made (grown (b .some) p (j .put .keep) (omega (arith, room-then (b .some) h p .fits)))
-              (j .put .den (y .type) (n .type) (den-on (n .passed) (y .den)) (n .den)));
-        }
+  pub arrow-does : {w₃ : List ℕ} {z₃ : Made} → ArrowMade (j .q) (b .made .w′) w₃ (b .made .s′) (b .on .made .r) (b .made .r) z₃ → Ends j w₃ z₃
+  arrow-does f = record {
+    makes = λ x c T d.
+        let a = for j x c T d in
+        let v = half (b .on .on) a in
+        let y = left-reached (b .on) a in
+        let o = right-reached a in
+        let eq = j .way .arrows x (v .A) (v .B) in
+        rw (f .is, v .is, arrow-done (j .m x) _ _ (j .s .left) (j .s .fresh) eq (j .began .some) (y .is) (y .passed .fresh) (o .is))
+        (made (grown (j .began .some) (both-passed a) (f .put .keep) (omega (arith, room-then j (both-passed a) .fits)))
+        (f .put .den (y .type) (o .type) (den-on (o .passed) (y .den)) (o .den)));
+  }
 
 -- ## A Forall
 
@@ -255,36 +351,52 @@ pub body : {q w : List ℕ} {t r k u : ℕ} {a : TyVar} → Tagged q w t r k →
 body {q} {w} {t} {u = u} {a = a} c e n f =
     by-forall (Body q w t a u) c e (λ b A d. record { A = A; is = ap (λ e. forall e A) (sym (n .of-forall b A d)); den = f .is b A d .den })
 
-module _ {X : Type 0} {G : X → List ℕ → ℕ → Type 0} {m : X → Ty → M Ty} {q w : List ℕ} {s p : State} {r k u : ℕ} {a : TyVar}
-    (eq : (x : X) (A : Ty) → Paid (m x (forall (ty a) A)) (onForall (m x) (ty a) A))
-    (b : Began q w s r p k) (parts : (T : Ty) → Den q w (s .top) r T → Body q w (s .top) a u T)
-    {w₁ : List ℕ} {z₁ : Made} (call₁ : Does G m q w w₁ p u z₁) where
-  pub body-spent : z₁ ≡ Spent → Does G m q w w₁ s r Spent
-  body-spent e = record {
+-- the call is on a Forall, whose name and body were read, and which m takes apart
+pub record Forall (X : Type 0) (n : ℕ) : Type 1 where
+  pub on : Call X n
+  pub a : TyVar
+  pub u : ℕ
+  pub parts : (T : Ty) → Says on (on .r) T → Body (on .q) (on .w) (on .s .top) a u T
+  pub opens : (x : X) (A : Ty) → Paid (on .m x (forall (ty a) A)) (onForall (on .m x) (ty a) A)
+
+-- its body is made
+pub record Under (X : Type 0) (n : ℕ) : Type 1 where
+  pub on : Forall X n
+  pub made : Part (on .on) (on .u)
+
+module _ {X : Type 0} {n : ℕ} (f : Forall X n) where
+  pub body-asks : Asks (f .on .G) (f .on .q) (f .on .w) (f .on .p) (f .u)
+  body-asks = part-asks (f .on) (f .parts (f .on .asks .type) (f .on .asks .den) .den)
+
+  pub body-spent : {w₁ : List ℕ} {z₁ : Made} → On (f .on) (f .u) w₁ z₁ → z₁ ≡ Spent → Ends (f .on) w₁ Spent
+  body-spent call e = record {
     makes = λ x c T d.
-        let v = parts T d in
-        let n = ended (part-makes b call₁ x c (v .A) (v .den)) e in
-        rw (v .is, forall-stop (m x) (ty a) (v .A) (s .left) (s .fresh) (eq x (v .A)) (b .some) (n .is)) (spent (n .keep));
+        let i = f .on in
+        let v = f .parts T d in
+        let y = ended (part-makes i call (for i x c T d) (v .den)) e in
+        rw (v .is, forall-stop (i .m x) _ _ (i .s .left) (i .s .fresh) (f .opens x (v .A)) (i .began .some) (y .is)) (spent (y .keep));
   }
 
-  module _ {s₁ : State} {u₁ : ℕ} (d₁ : z₁ ≡ Done s₁ u₁) where
-    body-reached : (x : X) → G x w (s .top) → (T : Ty) (d : Den q w (s .top) r T)
-        → Reached q w w₁ (pay s) s₁ u₁ (m x (parts T d .A) (s .left - 1) (s .fresh))
-    body-reached x c T d = part-reached b call₁ d₁ x c (parts T d .A) (parts T d .den)
+module _ {X : Type 0} {n : ℕ} (b : Under X n) where
+  -- the call
+  abbrev k : Call X n
+  k = b .on .on
 
-    pub forall-asks : Asks G q w s r → ForallRoom q w₁ (s₁ .top) u₁
-    forall-asks h =
-        let y = body-reached (h .x) (h .given) (h .type) (h .den) in
-        let room = room-then (b .some) h (y .passed) in
-        record { room = omega (arith, room .fits, room .low); body = room-held room (y .den) }
+  body-reached : (a : Asked k) → Reached (k .q) (k .w) (b .made .w′) (pay (k .s)) (b .made .s′) (b .made .r)
+      (k .m (a .x) (b .on .parts (a .type) (a .den) .A) (k .s .left - 1) (k .s .fresh))
+  body-reached a = part-reached k (b .made) a (b .on .parts (a .type) (a .den) .den)
 
-    pub forall-does : {w₂ : List ℕ} {z₂ : Made} → Asks G q w s r → ForallMade q w₁ w₂ s₁ a u₁ z₂ → Does G m q w w₂ s r z₂
-    forall-does h j = record {
-      makes = λ x c T d.
-          let v = parts T d in
-          let y = body-reached x c T d in
-          let is : m x (forall (ty a) (v .A)) (s .left) (s .fresh) ≡ done (forall (ty a) (y .type)) (s₁ .left) (s .fresh) =
-          forall-done (m x) (ty a) (v .A) (s .left) (s .fresh) (eq x (v .A)) (b .some) (y .is) in
-          rw (j .is, v .is, is)
-          (made (grown (b .some) (y .passed) (j .put .keep) (omega (arith, room-then (b .some) h (y .passed) .fits))) (j .put .den (y .type) (y .den)));
-    }
+  pub forall-asks : ForallRoom (k .q) (b .made .w′) (b .made .s′ .top) (b .made .r)
+  forall-asks =
+      let y = body-reached (k .asks) in
+      let room = room-then k (y .passed) in
+      record { room = omega (arith, room .fits, room .low); body = room-held room (y .den) }
+
+  pub forall-does : {w₂ : List ℕ} {z₂ : Made} → ForallMade (k .q) (b .made .w′) w₂ (b .made .s′) (b .on .a) (b .made .r) z₂ → Ends k w₂ z₂
+  forall-does f = record {
+    makes = λ x c T d.
+        let v = b .on .parts T d in
+        let y = body-reached (for k x c T d) in
+        rw (f .is, v .is, forall-done (k .m x) _ _ (k .s .left) (k .s .fresh) (b .on .opens x (v .A)) (k .began .some) (y .is))
+        (made (grown (k .began .some) (y .passed) (f .put .keep) (omega (arith, room-then k (y .passed) .fits))) (f .put .den (y .type) (y .den)));
+  }

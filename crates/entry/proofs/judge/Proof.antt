@@ -8,134 +8,71 @@ use borrow.Author.Needs.{needs}
 use Rattle.entry.proofs.judge.Statement.{statement}
 use Rattle.entry.proofs.judge.Tie as tie
 
-mode-of-requires : tie.Need-mode-of-requires
-mode-of-requires c κs = search needs
-
 infer-requires : tie.Need-infer-requires
-infer-requires c κs =
-    let c₁ = c .before in let c₅ = c₁ .before .before .before .before in
-    kind-pre (c₅ .pre) 1 (c₁ .match .keys1) (asks-1 (c₅ .pre .run)) (λ p. small-infer _ (p .0))
+infer-requires c κs = kind-pre (search) 1 (search) (asks-1 (c .before .before .before .before .before .pre .run)) (λ p. small-infer _ (p .0))
 
 check-requires : tie.Need-check-requires
 check-requires c κs =
-    let c₁ = c .before in let c₅ = c₁ .before .before .before .before in
-    kind-pre (c₅ .pre) 2 (c₁ .match .keys2) (asks-2 (c₅ .pre .run)) (λ p. small-check _ _ (p .0) (omega (arith, p .2)))
+    let at-start = c .before .before .before .before .before in
+    kind-pre (search) 2 (search) (asks-2 (at-start .pre .run)) (λ p. small-check _ _ (p .0) (omega (arith, p .2)))
 
 infer-app-requires : tie.Need-infer-app-requires
 infer-app-requires c κs =
-    let c₁ = c .before in let c₅ = c₁ .before .before .before .before in
-    kind-pre (c₅ .pre) 3 (c₁ .match .keys3) (asks-3 (c₅ .pre .run)) (λ p. small-app _ _ (omega (arith, p .1)) (p .0))
+    let at-start = c .before .before .before .before .before in
+    kind-pre (search) 3 (search) (asks-3 (at-start .pre .run)) (λ p. small-app _ _ (omega (arith, p .1)) (p .0))
 
 subtype-requires : tie.Need-subtype-requires
 subtype-requires c κs =
-    let c₁ = c .before in let c₅ = c₁ .before .before .before .before in
-    kind-pre (c₅ .pre) 4 (c₁ .match .keys4) (asks-4 (c₅ .pre .run)) (λ p. small-sub (omega (arith, p .1)) (omega (arith, p .2)))
+    let at-start = c .before .before .before .before .before in
+    kind-pre (search) 4 (search) (asks-4 (at-start .pre .run)) (λ p. small-sub (omega (arith, p .1)) (omega (arith, p .2)))
 
 inst-l-requires : tie.Need-inst-l-requires
 inst-l-requires c κs =
-    let c₁ = c .before in let c₅ = c₁ .before .before .before .before in
-    kind-pre (c₅ .pre) 5 (c₁ .match .keys5) (asks-5 (c₅ .pre .run)) (λ p. small-inst onL (omega (arith, p .1)) (omega (arith, p .2)))
+    let at-start = c .before .before .before .before .before in
+    kind-pre (search) 5 (search) (asks-5 (at-start .pre .run)) (λ p. small-inst onL (omega (arith, p .1)) (omega (arith, p .2)))
 
 inst-r-requires : tie.Need-inst-r-requires
 inst-r-requires c κs =
-    let c₁ = c .before in let c₅ = c₁ .before .before .before .before in
-    kind-pre (c₅ .pre) 6 (c₁ .match .keys6) (asks-6 (c₅ .pre .run)) (λ p. small-inst onR (omega (arith, p .2)) (omega (arith, p .1)))
+    let at-start = c .before .before .before .before .before in
+    kind-pre (search) 6 (search) (asks-6 (at-start .pre .run)) (λ p. small-inst onR (omega (arith, p .2)) (omega (arith, p .1)))
 
 infer-requires-2 : tie.Need-infer-requires-2
 infer-requires-2 c κs =
-    let c₁ = c .before in let c₅ = c₁ .before .before .before .before in
-    kind-pre (c₅ .pre) 7 (kind-seven (c₅ .pre) (c₁ .match .rest)) (asks-7 (c₅ .pre .run)) (λ p. small-infer _ (p .0))
+    let at-start = c .before .before .before .before .before in
+    kind-pre (search) 7 (search kind-seven) (asks-7 (at-start .pre .run)) (λ p. small-infer _ (p .0))
 
 resolve-requires : tie.Need-resolve-requires
 resolve-requires c κs =
-    let c₃ = c .before .before .before in let c₅ = c₃ .before .before in let c₆ = c₅ .before in let c₉ = c₆ .before .before .before in
-    resolve-pre (c₉ .pre) 7 (kind-seven (c₉ .pre) (c₅ .match .rest)) (asks-7 (c₉ .pre .run)) (c₆ .mode-of .ensures) (c₃ .infer2 .ensures)
-
-same-length : tie.Need-same-length
-same-length c = search needs
-
-returns : tie.Need-returns
-returns c =
-    let c₂ = c .before .before in let c₄ = c₂ .before .before in let c₅ = c₄ .before in let c₈ = c₅ .before .before .before in
-    kind-answers (c₈ .pre) 1 (c₄ .match .keys1) (asks-1 (c₈ .pre .run)) (c₅ .mode-of .ensures) (c₂ .infer .ensures) refl
-
-same-length-2 : tie.Need-same-length-2
-same-length-2 c = search needs
-
-returns-2 : tie.Need-returns-2
-returns-2 c =
-    let c₂ = c .before .before in let c₄ = c₂ .before .before in let c₅ = c₄ .before in let c₈ = c₅ .before .before .before in
-    kind-answers (c₈ .pre) 2 (c₄ .match .keys2) (asks-2 (c₈ .pre .run)) (c₅ .mode-of .ensures) (c₂ .check .ensures) refl
-
-same-length-3 : tie.Need-same-length-3
-same-length-3 c = search needs
-
-returns-3 : tie.Need-returns-3
-returns-3 c =
-    let c₂ = c .before .before in let c₄ = c₂ .before .before in let c₅ = c₄ .before in let c₈ = c₅ .before .before .before in
-    kind-answers (c₈ .pre) 3 (c₄ .match .keys3) (asks-3 (c₈ .pre .run)) (c₅ .mode-of .ensures) (c₂ .infer-app .ensures) refl
-
-same-length-4 : tie.Need-same-length-4
-same-length-4 c = search needs
+    let at-infer2 = c .before .before .before in let at-match = at-infer2 .before .before in let at-mode-of = at-match .before in
+    let at-start = at-mode-of .before .before .before in
+    resolve-pre (at-start .pre) 7 (kind-seven (at-start .pre) (at-match .match .rest)) (asks-7 (at-start .pre .run)) (at-mode-of .mode-of .ensures)
+    (at-infer2 .infer2 .ensures)
 
 returns-4 : tie.Need-returns-4
 returns-4 c =
-    let c₂ = c .before .before in let c₄ = c₂ .before .before in let c₅ = c₄ .before in let c₈ = c₅ .before .before .before in
-    kind-answers (c₈ .pre) 4 (c₄ .match .keys4) (asks-4 (c₈ .pre .run)) (c₅ .mode-of .ensures) (c₂ .subtype .ensures .in-mode (c₅ .mode-of .result))
-    refl
-
-same-length-5 : tie.Need-same-length-5
-same-length-5 c = search needs
+    let at-subtype = c .before .before in let at-mode-of = at-subtype .before .before .before in
+    kind-answers (search) 4 (search) (search asks-4) (search) (at-subtype .subtype .ensures .in-mode (at-mode-of .mode-of .result)) refl
 
 returns-5 : tie.Need-returns-5
 returns-5 c =
-    let c₂ = c .before .before in let c₄ = c₂ .before .before in let c₅ = c₄ .before in let c₈ = c₅ .before .before .before in
-    kind-answers (c₈ .pre) 5 (c₄ .match .keys5) (asks-5 (c₈ .pre .run)) (c₅ .mode-of .ensures) (c₂ .inst-l .ensures .in-mode (c₅ .mode-of .result))
-    refl
-
-same-length-6 : tie.Need-same-length-6
-same-length-6 c = search needs
+    let at-inst-l = c .before .before in let at-mode-of = at-inst-l .before .before .before in
+    kind-answers (search) 5 (search) (search asks-5) (search) (at-inst-l .inst-l .ensures .in-mode (at-mode-of .mode-of .result)) refl
 
 returns-6 : tie.Need-returns-6
 returns-6 c =
-    let c₂ = c .before .before in let c₄ = c₂ .before .before in let c₅ = c₄ .before in let c₈ = c₅ .before .before .before in
-    kind-answers (c₈ .pre) 6 (c₄ .match .keys6) (asks-6 (c₈ .pre .run)) (c₅ .mode-of .ensures) (c₂ .inst-r .ensures .in-mode (c₅ .mode-of .result))
-    refl
-
-same-length-7 : tie.Need-same-length-7
-same-length-7 c = search needs
+    let at-inst-r = c .before .before in let at-mode-of = at-inst-r .before .before .before in
+    kind-answers (search) 6 (search) (search asks-6) (search) (at-inst-r .inst-r .ensures .in-mode (at-mode-of .mode-of .result)) refl
 
 returns-7 : tie.Need-returns-7
 returns-7 c =
-    let c₂ = c .before .before in let c₆ = c₂ .before .before .before .before in let c₈ = c₆ .before .before in let c₉ = c₈ .before in
-    let c₁₂ = c₉ .before .before .before in
-    kind7-answers (c₁₂ .pre) 7 (kind-seven (c₁₂ .pre) (c₈ .match .rest)) (asks-7 (c₁₂ .pre .run)) (c₉ .mode-of .ensures) (c₆ .infer2 .ensures) refl
-    (sym (c₂ .resolve .kept .1 .0)) (c₂ .resolve .ensures)
+    let at-resolve = c .before .before in let at-infer2 = at-resolve .before .before .before .before in let at-match = at-infer2 .before .before in
+    let at-mode-of = at-match .before in let at-start = at-mode-of .before .before .before in
+    kind7-answers (at-start .pre) 7 (kind-seven (at-start .pre) (at-match .match .rest)) (asks-7 (at-start .pre .run)) (at-mode-of .mode-of .ensures)
+    (at-infer2 .infer2 .ensures) refl (sym (at-resolve .resolve .kept .1 .0)) (at-resolve .resolve .ensures)
 
 pub judge-spec : {M : Type 1} → statement M
 judge-spec =
-    tie.close
-    (tie.spec
-    mode-of-requires
-    infer-requires
-    check-requires
-    infer-app-requires
-    subtype-requires
-    inst-l-requires
-    inst-r-requires
-    infer-requires-2
-    resolve-requires
-    same-length
-    returns
-    same-length-2
-    returns-2
-    same-length-3
-    returns-3
-    same-length-4
-    returns-4
-    same-length-5
-    returns-5
-    same-length-6
-    returns-6
-    same-length-7
-    returns-7)
+    tie.close (tie.spec (λ c κs. search needs) infer-requires check-requires infer-app-requires subtype-requires inst-l-requires inst-r-requires
+    infer-requires-2 resolve-requires (λ c. search needs) (λ c. search (kind-answers, asks-1)) (λ c. search needs)
+    (λ c. search (kind-answers, asks-2)) (λ c. search needs) (λ c. search (kind-answers, asks-3)) (λ c. search needs) returns-4 (λ c. search needs)
+    returns-5 (λ c. search needs) returns-6 (λ c. search needs) returns-7)

@@ -4,20 +4,8 @@ use borrow.Author.Needs.{needs}
 use Rattle.entry.proofs.told.Statement.{statement}
 use Rattle.entry.proofs.told.Tie as tie
 
-cast-c : tie.Need-cast-c
-cast-c c = search needs
-
-cast-u : tie.Need-cast-u
-cast-u c = search needs
-
-enum-known-z : tie.Need-enum-known-z
-enum-known-z c = search needs
-
 cast-t10 : tie.Need-cast-t10
 cast-t10 c = let h = rw (c .before .z .given .1) at (c .before .before .before .pre .2) in omega arith
-
-enum-known-z-2 : tie.Need-enum-known-z-2
-enum-known-z-2 c = search needs
 
 cast-t11 : tie.Need-cast-t11
 cast-t11 c = let h = rw (c .before .z2 .given .1) at (c .before .before .before .pre .2) in omega arith
@@ -29,6 +17,4 @@ returns-2 : tie.Need-returns-2
 returns-2 c = rw (c .before .z2 .given .1)
 
 pub told-spec : {M : Type 1} → statement M
-told-spec =
-    tie.close
-    (tie.spec cast-c cast-u enum-known-z cast-t10 enum-known-z-2 cast-t11 returns returns-2)
+told-spec = tie.close (tie.spec (λ c. search needs) (λ c. search needs) (λ c. search needs) cast-t10 (λ c. search needs) cast-t11 returns returns-2)

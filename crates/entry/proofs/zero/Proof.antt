@@ -1,6 +1,7 @@
 -- `zero` meets its contract.
+use borrow.Author.Needs.{needs}
 use native.Mathlib.Omega.{arith}
-use mathlib.Core.Path.{_≡_, refl, ap, _∙_}
+use mathlib.Core.Path.{_≡_, ap, _∙_}
 use mathlib.Core.List.{_++_}
 use Prim.Native.Nat.{ℕ, _≤_, _-_}
 use lib.ListN.{length, drop, replicate, length-set}
@@ -15,51 +16,23 @@ Inv-loop words₀ n i₀ words i = (i ≤ n) × (n ≡ length words₀) × (leng
 abbrev μ-loop : tie.MeasureT-loop
 μ-loop words₀ n i₀ words i = n - i
 
-loop-holds : tie.Need-loop-holds Inv-loop μ-loop
-loop-holds c = (omega arith, refl, refl, refl)
-
-mul-words : tie.Need-mul-words Inv-loop μ-loop
-mul-words c = omega arith
-
-slice-write-words : tie.Need-slice-write-words Inv-loop μ-loop
-slice-write-words c = omega arith
-
-add-i : tie.Need-add-i Inv-loop μ-loop
-add-i c = omega arith
-
-loop-less : tie.Need-loop-less Inv-loop μ-loop
-loop-less c = omega arith
-
 loop-again : tie.Need-loop-again Inv-loop μ-loop
 loop-again c =
-    let c₁ = c .before in let c₂ = c₁ .before in (
+    let at-loop = c .before in let at-start = at-loop .before in (
       omega arith,
-      c₁ .loop .inv .1,
-      simp length-set (c₁ .loop .inv .2),
-      rw (c₁ .loop .inv .3)
-          (fill-more (c₁ .loop .i) 0 (c₂ .args .words .now) (omega arith)),
+      at-loop .loop .inv .1,
+      simp length-set (at-loop .loop .inv .2),
+      rw (at-loop .loop .inv .3)
+          (fill-more (at-loop .loop .i) 0 (at-start .args .words .now) (omega arith)),
     )
-
-same-length : tie.Need-same-length Inv-loop μ-loop
-same-length c = c .before .loop .inv .2
 
 returns : tie.Need-returns Inv-loop μ-loop
 returns c =
-    let c₁ = c .before in let c₂ = c₁ .before in
-    let f : c₁ .loop .i ≡ length (c₂ .args .words .now) = omega (arith, c₁ .loop .inv .1) in
-    zero-all (c₂ .args .words .now) _ (c₁ .loop .inv .3 ∙ ap (λ (k : ℕ). replicate k 0 ++ drop k (c₂ .args .words .now)) f)
+    let at-loop = c .before in let at-start = at-loop .before in
+    let f : at-loop .loop .i ≡ length (at-start .args .words .now) = omega (arith, at-loop .loop .inv .1) in zero-all (at-start .args .words .now) _
+    (at-loop .loop .inv .3 ∙ ap (λ (k : ℕ). replicate k 0 ++ drop k (at-start .args .words .now)) f)
 
 pub zero-spec : {M : Type 1} → statement M
 zero-spec =
-    tie.close
-    (tie.spec
-    Inv-loop
-    μ-loop
-    loop-holds
-    mul-words
-    slice-write-words
-    add-i
-    loop-less
-    loop-again
-    same-length
-    returns)
+    tie.close (tie.spec Inv-loop μ-loop (λ c. search needs) (λ c. omega arith) (λ c. omega arith) (λ c. omega arith) (λ c. omega arith) loop-again
+    (λ c. search needs) returns)

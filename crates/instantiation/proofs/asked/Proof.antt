@@ -3,17 +3,5 @@ use borrow.Author.Needs.{needs}
 use Rattle.instantiation.proofs.asked.Statement.{statement}
 use Rattle.instantiation.proofs.asked.Tie as tie
 
-enum-told : tie.Need-enum-told
-enum-told c = search needs
-
-enum-told-2 : tie.Need-enum-told-2
-enum-told-2 c = search needs
-
-returns : tie.Need-returns
-returns c = rw (c .enum-told .given .1)
-
-returns-2 : tie.Need-returns-2
-returns-2 c = rw (c .enum-told2 .given .1)
-
 pub asked-spec : {M : Type 1} → statement M
-asked-spec = tie.close (tie.spec enum-told enum-told-2 returns returns-2)
+asked-spec = tie.close (tie.spec (λ c. search needs) (λ c. search needs) (λ c. rw (c .enum-told .given .1)) (λ c. rw (c .enum-told2 .given .1)))

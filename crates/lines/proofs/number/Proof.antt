@@ -10,23 +10,20 @@ digits-requires c κs = omega (arith, decimal-length 9 (c .before .before .args 
 
 slice-write-out : tie.Need-slice-write-out
 slice-write-out c =
-    let c₅ = c .before .before .before .before .before in
-    omega (arith, decimal-length 9 (c₅ .args .x) (omega (arith, c₅ .good)))
+    let at-start = c .before .before .before .before .before in
+    omega (arith, decimal-length 9 (at-start .args .x) (omega (arith, at-start .good)))
 
 add-result : tie.Need-add-result
 add-result c =
-    let c₅ = c .before .before .before .before .before in
-    omega (arith, decimal-length 9 (c₅ .args .x) (omega (arith, c₅ .good)))
-
-same-length : tie.Need-same-length
-same-length c = search needs
+    let at-start = c .before .before .before .before .before in
+    omega (arith, decimal-length 9 (at-start .args .x) (omega (arith, at-start .good)))
 
 returns : tie.Need-returns
 returns c =
-    let c₂ = c .before .before in let c₅ = c₂ .before .before .before in (
-      wrote-byte _ _ (c₂ .digits .ensures) (omega (arith, decimal-length 9 (c₅ .args .x) (omega (arith, c₅ .good)))),
-      omega (arith, decimal-length 9 (c₅ .args .x) (omega (arith, c₅ .good))),
+    let at-digits = c .before .before in let at-start = at-digits .before .before .before in (
+      wrote-byte _ _ (at-digits .digits .ensures) (omega (arith, decimal-length 9 (at-start .args .x) (omega (arith, at-start .good)))),
+      omega (arith, decimal-length 9 (at-start .args .x) (omega (arith, at-start .good))),
     )
 
 pub number-spec : {M : Type 1} → statement M
-number-spec = tie.close (tie.spec digits-requires slice-write-out add-result same-length returns)
+number-spec = tie.close (tie.spec digits-requires slice-write-out add-result (λ c. search needs) returns)

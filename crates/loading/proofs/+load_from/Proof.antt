@@ -24,156 +24,8 @@ abbrev load-from-below : ℕ → In 2 load-from-kinds.ps
 load-from-below t =
     and 2 load-from-kinds.ps (falls 2 load-from-kinds.ps _<_ μ-load-from t) load-from.Pre
 
-load-from-returns : (t : ℕ) → load-from-lts.Need-returns (
-  word-reads.Asked,
-  word-reads.Learnt,
-  rest-of-reads.Asked,
-  rest-of-reads.Learnt,
-  put4-reads.Asked,
-  put4-reads.Learnt,
-  load-from-below t,
-  load-from.Post,
-) (load-from-at t) load-from.Post
-load-from-returns t c = loaded-none _ _ _ _ _ (c .if1 .taken)
-
-load-from-word-requires : (t : ℕ) → load-from-lts.Need-word-requires (
-  word-reads.Asked,
-  word-reads.Learnt,
-  rest-of-reads.Asked,
-  rest-of-reads.Learnt,
-  put4-reads.Asked,
-  put4-reads.Learnt,
-  load-from-below t,
-  load-from.Post,
-) (load-from-at t) load-from.Post
-load-from-word-requires t c κs = begins (c .if1 .left) (c .before .before .before .pre .1 .list) .entry .kind .within
-
-load-from-add-word : (t : ℕ) → load-from-lts.Need-add-word (
-  word-reads.Asked,
-  word-reads.Learnt,
-  rest-of-reads.Asked,
-  rest-of-reads.Learnt,
-  put4-reads.Asked,
-  put4-reads.Learnt,
-  load-from-below t,
-  load-from.Post,
-) (load-from-at t) load-from.Post
-load-from-add-word t c = omega (arith, begins (c .before .if1 .left) (c .before .before .before .before .pre .1 .list) .entry .kind .inside)
-
-load-from-word-requires-2 : (t : ℕ) → load-from-lts.Need-word-requires-2 (
-  word-reads.Asked,
-  word-reads.Learnt,
-  rest-of-reads.Asked,
-  rest-of-reads.Learnt,
-  put4-reads.Asked,
-  put4-reads.Learnt,
-  load-from-below t,
-  load-from.Post,
-) (load-from-at t) load-from.Post
-load-from-word-requires-2 t c κs = begins (c .before .if1 .left) (c .before .before .before .before .pre .1 .list) .entry .name .within
-
-load-from-rest-of-requires : (t : ℕ) → load-from-lts.Need-rest-of-requires (
-  word-reads.Asked,
-  word-reads.Learnt,
-  rest-of-reads.Asked,
-  rest-of-reads.Learnt,
-  put4-reads.Asked,
-  put4-reads.Learnt,
-  load-from-below t,
-  load-from.Post,
-) (load-from-at t) load-from.Post
-load-from-rest-of-requires t c κs =
-    let c₂ = c .before .before in let c₃ = c₂ .before in let c₆ = c₃ .before .before .before in
-    rw (c₂ .word .ensures .0) (reads (c₆ .pre .1 .base) (omega (arith, c₆ .pre .1 .room)) (begins (c₃ .if1 .left) (c₆ .pre .1 .list) .entry))
-
-load-from-put4-requires : (t : ℕ) → load-from-lts.Need-put4-requires (
-  word-reads.Asked,
-  word-reads.Learnt,
-  rest-of-reads.Asked,
-  rest-of-reads.Learnt,
-  put4-reads.Asked,
-  put4-reads.Learnt,
-  load-from-below t,
-  load-from.Post,
-) (load-from-at t) load-from.Post
-load-from-put4-requires t c κs =
-    let c₁ = c .before in let c₃ = c₁ .before .before in let c₄ = c₃ .before in let c₅ = c₄ .before in let c₈ = c₅ .before .before .before in
-    (omega (arith, c₅ .if1 .left, c₈ .pre .1 .room), c₄ .word .ensures .1, c₃ .word2 .ensures .1, c₁ .rest-of .ensures .small, omega arith)
-
-load-from-add-load-from : (t : ℕ) → load-from-lts.Need-add-load-from (
-  word-reads.Asked,
-  word-reads.Learnt,
-  rest-of-reads.Asked,
-  rest-of-reads.Learnt,
-  put4-reads.Asked,
-  put4-reads.Learnt,
-  load-from-below t,
-  load-from.Post,
-) (load-from-at t) load-from.Post
-load-from-add-load-from t c =
-    let c₁₂ = c .before .before .before .before .before .before .before .before .before .before .before .before in
-    omega (arith, c₁₂ .pre .1 .room, c₁₂ .pre .1 .cap)
-
-load-from-sub-load-from : (t : ℕ) → load-from-lts.Need-sub-load-from (
-  word-reads.Asked,
-  word-reads.Learnt,
-  rest-of-reads.Asked,
-  rest-of-reads.Learnt,
-  put4-reads.Asked,
-  put4-reads.Learnt,
-  load-from-below t,
-  load-from.Post,
-) (load-from-at t) load-from.Post
-load-from-sub-load-from t c = omega (arith, c .before .before .before .before .before .before .before .before .before .if1 .left)
-
-load-from-load-from-requires : (t : ℕ) → load-from-lts.Need-load-from-requires (
-  word-reads.Asked,
-  word-reads.Learnt,
-  rest-of-reads.Asked,
-  rest-of-reads.Learnt,
-  put4-reads.Asked,
-  put4-reads.Learnt,
-  load-from-below t,
-  load-from.Post,
-) (load-from-at t) load-from.Post
-load-from-load-from-requires t c κs =
-    let c₃ = c .before .before .before in let c₅ = c₃ .before .before in let c₇ = c₅ .before .before in let c₈ = c₇ .before in let c₉ = c₈ .before in
-    let c₁₂ = c₉ .before .before .before in (
-      omega (arith, c₁₂ .pre .0, c₉ .if1 .left),
-      next-reads (c₁₂ .pre .1) (c₉ .if1 .left) (rw (c₈ .word .ensures .0) at (c₅ .rest-of .ensures))
-          (rw (c₈ .word .ensures .0, c₇ .word2 .ensures .0) at (c₃ .put4 .ensures)),
-    )
-
-load-from-same-length : (t : ℕ) → load-from-lts.Need-same-length (
-  word-reads.Asked,
-  word-reads.Learnt,
-  rest-of-reads.Asked,
-  rest-of-reads.Learnt,
-  put4-reads.Asked,
-  put4-reads.Learnt,
-  load-from-below t,
-  load-from.Post,
-) (load-from-at t) load-from.Post
-load-from-same-length t c = search needs
-
-load-from-returns-2 : (t : ℕ) → load-from-lts.Need-returns-2 (
-  word-reads.Asked,
-  word-reads.Learnt,
-  rest-of-reads.Asked,
-  rest-of-reads.Learnt,
-  put4-reads.Asked,
-  put4-reads.Learnt,
-  load-from-below t,
-  load-from.Post,
-) (load-from-at t) load-from.Post
-load-from-returns-2 t c =
-    let c₂ = c .before .before in let c₆ = c₂ .before .before .before .before in let c₈ = c₆ .before .before in let c₁₀ = c₈ .before .before in
-    let c₁₁ = c₁₀ .before in let c₁₂ = c₁₁ .before in let c₁₅ = c₁₂ .before .before .before in
-    loaded-some (c₁₅ .pre .1) (c₁₂ .if1 .left) (rw (c₁₁ .word .ensures .0) at (c₈ .rest-of .ensures))
-    (rw (c₁₁ .word .ensures .0, c₁₀ .word2 .ensures .0) at (c₆ .put4 .ensures)) (c₂ .load-from .ensures)
-
-pub +load-from-spec : {M : Type 1} → statement M
-+load-from-spec = close μ-load-from λ t. load-from-lts.spec (
+abbrev load-from-claims : ℕ → load-from-lts.Claims
+load-from-claims t = (
   word-reads.Asked,
   word-reads.Learnt,
   rest-of-reads.Asked,
@@ -183,16 +35,45 @@ pub +load-from-spec : {M : Type 1} → statement M
   load-from-below t,
   load-from.Post,
 )
-    (load-from-at t)
-    load-from.Post
-    (load-from-returns t)
-    (load-from-word-requires t)
-    (load-from-add-word t)
-    (load-from-word-requires-2 t)
-    (load-from-rest-of-requires t)
-    (load-from-put4-requires t)
-    (load-from-add-load-from t)
-    (load-from-sub-load-from t)
-    (load-from-load-from-requires t)
-    (load-from-same-length t)
-    (load-from-returns-2 t)
+
+load-from-word-requires : (t : ℕ) → load-from-lts.Need-word-requires (load-from-claims t) (load-from-at t) load-from.Post
+load-from-word-requires t c κs = begins (search) (c .before .before .before .pre .1 .list) .entry .kind .within
+
+load-from-add-word : (t : ℕ) → load-from-lts.Need-add-word (load-from-claims t) (load-from-at t) load-from.Post
+load-from-add-word t c = omega (arith, begins (c .before .if1 .left) (c .before .before .before .before .pre .1 .list) .entry .kind .inside)
+
+load-from-word-requires-2 : (t : ℕ) → load-from-lts.Need-word-requires-2 (load-from-claims t) (load-from-at t) load-from.Post
+load-from-word-requires-2 t c κs = begins (search) (c .before .before .before .before .pre .1 .list) .entry .name .within
+
+load-from-rest-of-requires : (t : ℕ) → load-from-lts.Need-rest-of-requires (load-from-claims t) (load-from-at t) load-from.Post
+load-from-rest-of-requires t c κs =
+    let at-word = c .before .before in let at-if1 = at-word .before in let at-start = at-if1 .before .before .before in
+    rw (at-word .word .ensures .0) (reads (at-start .pre .1 .base) (omega (arith, at-start .pre .1 .room))
+    (begins (at-if1 .if1 .left) (at-start .pre .1 .list) .entry))
+
+load-from-load-from-requires : (t : ℕ) → load-from-lts.Need-load-from-requires (load-from-claims t) (load-from-at t) load-from.Post
+load-from-load-from-requires t c κs =
+    let at-put4 = c .before .before .before in let at-rest-of = at-put4 .before .before in let at-word2 = at-rest-of .before .before in
+    let at-word = at-word2 .before in let at-if1 = at-word .before in let at-start = at-if1 .before .before .before in (
+      omega (arith, at-start .pre .0, at-if1 .if1 .left),
+      next-reads (at-start .pre .1) (at-if1 .if1 .left)
+          (rw (at-word .word .ensures .0) at (at-rest-of .rest-of .ensures)) (rw (at-word .word .ensures .0, at-word2 .word2 .ensures .0) at
+          (at-put4 .put4 .ensures)),
+    )
+
+load-from-returns-2 : (t : ℕ) → load-from-lts.Need-returns-2 (load-from-claims t) (load-from-at t) load-from.Post
+load-from-returns-2 t c =
+    let at-load-from = c .before .before in let at-put4 = at-load-from .before .before .before .before in let at-rest-of = at-put4 .before .before in
+    let at-word2 = at-rest-of .before .before in let at-word = at-word2 .before in let at-if1 = at-word .before in
+    let at-start = at-if1 .before .before .before in
+    loaded-some (at-start .pre .1) (at-if1 .if1 .left) (rw (at-word .word .ensures .0) at (at-rest-of .rest-of .ensures))
+    (rw (at-word .word .ensures .0, at-word2 .word2 .ensures .0) at (at-put4 .put4 .ensures)) (at-load-from .load-from .ensures)
+
+load-from-closed : {M : Type 1} (t : ℕ) → load-from-lts.Closed (load-from-claims t) (load-from-at t) load-from.Post M
+load-from-closed t =
+    load-from-lts.spec (load-from-claims t) (load-from-at t) load-from.Post (λ c. search loaded-none) (load-from-word-requires t)
+    (load-from-add-word t) (load-from-word-requires-2 t) (load-from-rest-of-requires t) (λ c κs. search needs) (λ c. search needs) (λ c. search needs)
+    (load-from-load-from-requires t) (λ c. search needs) (load-from-returns-2 t)
+
+pub +load-from-spec : {M : Type 1} → statement M
++load-from-spec = close μ-load-from load-from-closed

@@ -4,12 +4,6 @@ use Rattle.reading.specs.Sections.{exact, early, same}
 use Rattle.reading.proofs.whole.Statement.{statement}
 use Rattle.reading.proofs.whole.Tie as tie
 
-enum-known-read : tie.Need-enum-known-read
-enum-known-read c = search needs
-
-enum-known-read-2 : tie.Need-enum-known-read-2
-enum-known-read-2 c = search needs
-
 returns : tie.Need-returns
 returns c = rw (c .before .before .read .given .1, c .if1 .taken) exact
 
@@ -20,4 +14,4 @@ returns-3 : tie.Need-returns-3
 returns-3 c = rw (c .before .read2 .given .1) same
 
 pub whole-spec : {M : Type 1} → statement M
-whole-spec = tie.close (tie.spec enum-known-read enum-known-read-2 returns returns-2 returns-3)
+whole-spec = tie.close (tie.spec (λ c. search needs) (λ c. search needs) returns returns-2 returns-3)

@@ -18,13 +18,7 @@ returns-3 c = rw (c .match .keys3)
 
 returns-4 : tie.Need-returns-4
 unfolding givesType
-returns-4 c =
-    let c₁ = c .before in
-    rw (
-      ne-eqb (c₁ .args .kind) 1 (c .match .rest .0 .0 .1),
-      ne-eqb (c₁ .args .kind) 3 (c .match .rest .0 .1),
-      ne-eqb (c₁ .args .kind) 7 (c .match .rest .1),
-    )
+returns-4 c = search ne-eqb
 
 pub gives-type-spec : {M : Type 1} → statement M
 gives-type-spec = tie.close (tie.spec returns returns-2 returns-3 returns-4)

@@ -4,14 +4,8 @@ use Rattle.report.specs.Reports.{fits, too-long}
 use Rattle.report.proofs.outcome.Statement.{statement}
 use Rattle.report.proofs.outcome.Tie as tie
 
-returns : tie.Need-returns
-returns c = too-long {m = 4294967295} (λ h. omega arith) (omega arith)
-
 returns-2 : tie.Need-returns-2
 returns-2 c = too-long {m = c .before .before .args .n} (λ h. omega arith) (omega arith)
 
-returns-3 : tie.Need-returns-3
-returns-3 c = fits (omega arith) (omega arith)
-
 pub outcome-spec : {M : Type 1} → statement M
-outcome-spec = tie.close (tie.spec returns returns-2 returns-3)
+outcome-spec = tie.close (tie.spec (λ c. too-long {m = 4294967295} (λ h. omega arith) (omega arith)) returns-2 (λ c. search fits))

@@ -5,70 +5,62 @@ use borrow.Author.Needs.{needs}
 use Rattle.report.proofs.write_node.Statement.{statement}
 use Rattle.report.proofs.write_node.Tie as tie
 
-node-at-requires : tie.Need-node-at-requires
-node-at-requires c κs = search needs
-
-write-three-requires : tie.Need-write-three-requires
-write-three-requires c κs =
-    let c₂ = c .before .before in let c₆ = c₂ .before .before .before .before in
-    three-fits (c₂ .node-at .ensures) (c₆ .pre .0) (c₆ .pre .1)
-
 write-after-requires : tie.Need-write-after-requires
 write-after-requires c κs =
-    let c₃ = c .before .before .before in let c₆ = c₃ .before .before .before in let c₁₀ = c₆ .before .before .before .before in
-    input-fits (c₆ .node-at .ensures) (c₁₀ .pre .0) (c₁₀ .pre .1) (c₃ .write-three .ensures)
+    let at-write-three = c .before .before .before in let at-node-at = at-write-three .before .before .before in
+    let at-start = at-node-at .before .before .before .before in
+    input-fits (at-node-at .node-at .ensures) (at-start .pre .0) (at-start .pre .1) (at-write-three .write-three .ensures)
 
 write-section-requires : tie.Need-write-section-requires
 write-section-requires c κs =
-    let c₃ = c .before .before .before in let c₇ = c₃ .before .before .before .before in let c₁₀ = c₇ .before .before .before in
-    let c₁₄ = c₁₀ .before .before .before .before in
-    left-fits (c₁₀ .node-at .ensures) (c₁₄ .pre .0) (c₁₄ .pre .1) (c₇ .write-three .ensures) (c₃ .write-after .ensures)
+    let at-write-after = c .before .before .before in let at-write-three = at-write-after .before .before .before .before in
+    let at-node-at = at-write-three .before .before .before in let at-start = at-node-at .before .before .before .before in
+    left-fits (at-node-at .node-at .ensures) (at-start .pre .0) (at-start .pre .1) (at-write-three .write-three .ensures)
+    (at-write-after .write-after .ensures)
 
 write-section-requires-2 : tie.Need-write-section-requires-2
 write-section-requires-2 c κs =
-    let c₃ = c .before .before .before in let c₇ = c₃ .before .before .before .before in let c₁₁ = c₇ .before .before .before .before in
-    let c₁₄ = c₁₁ .before .before .before in let c₁₈ = c₁₄ .before .before .before .before in
-    right-fits (c₁₄ .node-at .ensures) (c₁₈ .pre .0) (c₁₈ .pre .1) (c₁₁ .write-three .ensures) (c₇ .write-after .ensures) (c₃ .write-section .ensures)
+    let at-write-section = c .before .before .before in let at-write-after = at-write-section .before .before .before .before in
+    let at-write-three = at-write-after .before .before .before .before in let at-node-at = at-write-three .before .before .before in
+    let at-start = at-node-at .before .before .before .before in
+    right-fits (at-node-at .node-at .ensures) (at-start .pre .0) (at-start .pre .1) (at-write-three .write-three .ensures)
+    (at-write-after .write-after .ensures) (at-write-section .write-section .ensures)
 
 write-after-requires-2 : tie.Need-write-after-requires-2
 write-after-requires-2 c κs =
-    let c₃ = c .before .before .before in let c₇ = c₃ .before .before .before .before in let c₁₁ = c₇ .before .before .before .before in
-    let c₁₅ = c₁₁ .before .before .before .before in let c₁₈ = c₁₅ .before .before .before in let c₂₂ = c₁₈ .before .before .before .before in
-    output-fits (c₁₈ .node-at .ensures) (c₂₂ .pre .0) (c₂₂ .pre .1) (c₁₅ .write-three .ensures) (c₁₁ .write-after .ensures)
-    (c₇ .write-section .ensures) (c₃ .write-section2 .ensures)
+    let at-write-section2 = c .before .before .before in let at-write-section = at-write-section2 .before .before .before .before in
+    let at-write-after = at-write-section .before .before .before .before in let at-write-three = at-write-after .before .before .before .before in
+    let at-node-at = at-write-three .before .before .before in let at-start = at-node-at .before .before .before .before in
+    output-fits (at-node-at .node-at .ensures) (at-start .pre .0) (at-start .pre .1) (at-write-three .write-three .ensures)
+    (at-write-after .write-after .ensures) (at-write-section .write-section .ensures) (at-write-section2 .write-section2 .ensures)
 
 write-section-requires-3 : tie.Need-write-section-requires-3
 write-section-requires-3 c κs =
-    let c₃ = c .before .before .before in let c₇ = c₃ .before .before .before .before in let c₁₁ = c₇ .before .before .before .before in
-    let c₁₅ = c₁₁ .before .before .before .before in let c₁₉ = c₁₅ .before .before .before .before in let c₂₂ = c₁₉ .before .before .before in
-    let c₂₆ = c₂₂ .before .before .before .before in
-    result-fits (c₂₂ .node-at .ensures) (c₂₆ .pre .0) (c₂₆ .pre .1) (c₁₉ .write-three .ensures) (c₁₅ .write-after .ensures)
-    (c₁₁ .write-section .ensures) (c₇ .write-section2 .ensures) (c₃ .write-after2 .ensures)
+    let at-write-after2 = c .before .before .before in let at-write-section2 = at-write-after2 .before .before .before .before in
+    let at-write-section = at-write-section2 .before .before .before .before in
+    let at-write-after = at-write-section .before .before .before .before in let at-write-three = at-write-after .before .before .before .before in
+    let at-node-at = at-write-three .before .before .before in let at-start = at-node-at .before .before .before .before in
+    result-fits (at-node-at .node-at .ensures) (at-start .pre .0) (at-start .pre .1) (at-write-three .write-three .ensures)
+    (at-write-after .write-after .ensures) (at-write-section .write-section .ensures) (at-write-section2 .write-section2 .ensures)
+    (at-write-after2 .write-after2 .ensures)
 
 returns : tie.Need-returns
 returns c =
-    let c₂ = c .before .before in let c₆ = c₂ .before .before .before .before in let c₁₀ = c₆ .before .before .before .before in
-    let c₁₄ = c₁₀ .before .before .before .before in let c₁₈ = c₁₄ .before .before .before .before in let c₂₂ = c₁₈ .before .before .before .before in
-    let c₂₅ = c₂₂ .before .before .before in let c₂₉ = c₂₅ .before .before .before .before in
-    node-written (c₂₅ .node-at .ensures) (c₂₉ .pre .0) (c₂₉ .pre .1) (c₂₂ .write-three .ensures) (c₁₈ .write-after .ensures)
-    (c₁₄ .write-section .ensures) (c₁₀ .write-section2 .ensures) (c₆ .write-after2 .ensures) (c₂ .write-section3 .ensures)
+    let at-write-section3 = c .before .before in let at-write-after2 = at-write-section3 .before .before .before .before in
+    let at-write-section2 = at-write-after2 .before .before .before .before in
+    let at-write-section = at-write-section2 .before .before .before .before in
+    let at-write-after = at-write-section .before .before .before .before in let at-write-three = at-write-after .before .before .before .before in
+    let at-node-at = at-write-three .before .before .before in let at-start = at-node-at .before .before .before .before in
+    node-written (at-node-at .node-at .ensures) (at-start .pre .0) (at-start .pre .1) (at-write-three .write-three .ensures)
+    (at-write-after .write-after .ensures) (at-write-section .write-section .ensures) (at-write-section2 .write-section2 .ensures)
+    (at-write-after2 .write-after2 .ensures) (at-write-section3 .write-section3 .ensures)
 
 same-length : tie.Need-same-length
 same-length c =
-    let c₁₅ = c .before .before .before .before .before .before .before .before .before .before .before .before .before .before .before in
-    let c₂₉ = c₁₅ .before .before .before .before .before .before .before .before .before .before .before .before .before .before in
-    writes-length (c₂₉ .pre .0) (returns c .writes)
+    let at-start = c .before .before .before .before .before .before .before .before .before .before .before .before .before .before .before .before .before .before .before .before .before .before .before .before .before .before .before .before .before in
+    writes-length (at-start .pre .0) (returns c .writes)
 
 pub write-node-spec : {M : Type 1} → statement M
 write-node-spec =
-    tie.close
-    (tie.spec
-    node-at-requires
-    write-three-requires
-    write-after-requires
-    write-section-requires
-    write-section-requires-2
-    write-after-requires-2
-    write-section-requires-3
-    same-length
-    returns)
+    tie.close (tie.spec (λ c κs. search needs) (λ c κs. search three-fits) write-after-requires write-section-requires write-section-requires-2
+    write-after-requires-2 write-section-requires-3 same-length returns)

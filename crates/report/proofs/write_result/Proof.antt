@@ -5,35 +5,18 @@ use borrow.Author.Needs.{needs}
 use Rattle.report.proofs.write_result.Statement.{statement}
 use Rattle.report.proofs.write_result.Tie as tie
 
-write-section-requires : tie.Need-write-section-requires
-write-section-requires c κs = writable-first (c .before .before .before .before .before .before .pre)
-
 write-context-requires : tie.Need-write-context-requires
 write-context-requires c κs =
-    let c₃ = c .before .before .before in let c₁₀ = c₃ .before .before .before .before .before .before .before in
-    writable-first (writable-next (c₁₀ .pre) (c₃ .write-section .ensures))
+    let at-write-section = c .before .before .before in let at-start = at-write-section .before .before .before .before .before .before .before in
+    writable-first (writable-next (at-start .pre) (at-write-section .write-section .ensures))
 
 write-tree-requires : tie.Need-write-tree-requires
 write-tree-requires c κs =
-    let c₃ = c .before .before .before in let c₇ = c₃ .before .before .before .before in
-    let c₁₄ = c₇ .before .before .before .before .before .before .before in
-    let x₁ = writable-next (c₁₄ .pre) (c₇ .write-section .ensures) in
-    (writable-next x₁ (c₃ .write-context .ensures), stands-written (writable-first x₁) (c₃ .write-context .ensures))
-
-same-length : tie.Need-same-length
-same-length c = search needs
-
-returns : tie.Need-returns
-returns c =
-    let c₂ = c .before .before in let c₆ = c₂ .before .before .before .before in let c₁₀ = c₆ .before .before .before .before in
-    writes-then (c₁₀ .write-section .ensures) (writes-then (c₆ .write-context .ensures) (c₂ .write-tree .ensures))
+    let at-write-context = c .before .before .before in let at-write-section = at-write-context .before .before .before .before in
+    let at-start = at-write-section .before .before .before .before .before .before .before in
+    let x₁ = writable-next (at-start .pre) (at-write-section .write-section .ensures) in
+    (writable-next x₁ (at-write-context .write-context .ensures), stands-written (writable-first x₁) (at-write-context .write-context .ensures))
 
 pub write-result-spec : {M : Type 1} → statement M
 write-result-spec =
-    tie.close
-    (tie.spec
-    write-section-requires
-    write-context-requires
-    write-tree-requires
-    same-length
-    returns)
+    tie.close (tie.spec (λ c κs. search writable-first) write-context-requires write-tree-requires (λ c. search needs) (λ c. search writes-then))

@@ -1,4 +1,5 @@
 -- `write_tree` meets its contract.
+use borrow.Author.Needs.{needs}
 use mathlib.Core.Path.{_∙_, ap}
 use native.Mathlib.Omega.{arith}
 use lib.ListN.{length, length-set}
@@ -18,63 +19,33 @@ Inv-loop q work top low high report₀ at first next₀ m₀ last₀ report next
 abbrev μ-loop : tie.MeasureT-loop
 μ-loop q work top low high report₀ at first next₀ m₀ last₀ report next m last = m
 
-add-first : tie.Need-add-first Inv-loop μ-loop
-add-first c = omega (arith, writable-inner (c .before .before .before .pre .0) .room .small)
-
 loop-holds : tie.Need-loop-holds Inv-loop μ-loop
 loop-holds c = (put-first (writable-inner (c .before .before .before .pre .0)), stands-before (omega arith) (c .before .before .before .pre .1))
 
-sub-m : tie.Need-sub-m Inv-loop μ-loop
-sub-m c = nodes-room (c .loop-test .taken) (c .before .loop .inv .0 .rest .spelled .says)
-
 write-node-requires : tie.Need-write-node-requires Inv-loop μ-loop
 write-node-requires c κs =
-    let c₁ = c .before in let c₂ = c₁ .before in
-    (writable-first (writable-as (nodes-first (c₁ .loop-test .taken)) (c₂ .loop .inv .0 .rest)), c₂ .loop .inv .1)
-
-loop-less : tie.Need-loop-less Inv-loop μ-loop
-loop-less c =
-    let c₅ = c .before .before .before .before .before in let c₆ = c₅ .before in
-    omega (arith, nodes-room (c₅ .loop-test .taken) (c₆ .loop .inv .0 .rest .spelled .says))
-
-loop-again : tie.Need-loop-again Inv-loop μ-loop
-loop-again c =
-    let c₃ = c .before .before .before in let c₅ = c₃ .before .before in let c₆ = c₅ .before in
-    (put-next (nodes-first (c₅ .loop-test .taken)) (c₆ .loop .inv .0) (c₃ .write-node .ensures .writes), c₃ .write-node .ensures .output)
+    let at-loop-test = c .before in let at-loop = at-loop-test .before in
+    (writable-first (writable-as (nodes-first (at-loop-test .loop-test .taken)) (at-loop .loop .inv .0 .rest)), at-loop .loop .inv .1)
 
 sub-count : tie.Need-sub-count Inv-loop μ-loop
 sub-count c =
-    let c₁ = c .before in let c₅ = c₁ .before .before .before .before in
-    omega (arith, counted (c₅ .pre .0) (put-end (nodes-none (c .loop-test .left)) (c₁ .loop .inv .0)) .first)
+    let at-loop = c .before in let at-start = at-loop .before .before .before .before in
+    omega (arith, counted (at-start .pre .0) (put-end (nodes-none (c .loop-test .left)) (at-loop .loop .inv .0)) .first)
 
 put-requires : tie.Need-put-requires Inv-loop μ-loop
 put-requires c κs =
-    let c₁ = c .before in let c₂ = c₁ .before in let c₆ = c₂ .before .before .before .before in
-    let k = counted (c₆ .pre .0) (put-end (nodes-none (c₁ .loop-test .left)) (c₂ .loop .inv .0)) in (k .place, omega (arith, k .small))
+    let at-loop-test = c .before in let at-loop = at-loop-test .before in let at-start = at-loop .before .before .before .before in
+    let k = counted (at-start .pre .0) (put-end (nodes-none (at-loop-test .loop-test .left)) (at-loop .loop .inv .0)) in
+    (k .place, omega (arith, k .small))
 
 same-length : tie.Need-same-length Inv-loop μ-loop
 same-length c =
-    let c₂ = c .before .before in let c₄ = c₂ .before .before in let c₅ = c₄ .before in let c₉ = c₅ .before .before .before .before in
-    ap length (c₂ .put .ensures) ∙ simp length-set (counted (c₉ .pre .0) (put-end (nodes-none (c₄ .loop-test .left)) (c₅ .loop .inv .0)) .long)
-
-returns : tie.Need-returns Inv-loop μ-loop
-returns c =
-    let c₂ = c .before .before in let c₄ = c₂ .before .before in let c₅ = c₄ .before in
-    writes-section (put-end (nodes-none (c₄ .loop-test .left)) (c₅ .loop .inv .0)) (c₂ .put .ensures)
+    let at-put = c .before .before in let at-loop-test = at-put .before .before in let at-loop = at-loop-test .before in
+    let at-start = at-loop .before .before .before .before in
+    ap length (at-put .put .ensures) ∙ simp length-set (counted (at-start .pre .0)
+    (put-end (nodes-none (at-loop-test .loop-test .left)) (at-loop .loop .inv .0)) .long)
 
 pub write-tree-spec : {M : Type 1} → statement M
 write-tree-spec =
-    tie.close
-    (tie.spec
-    Inv-loop
-    μ-loop
-    add-first
-    loop-holds
-    sub-m
-    write-node-requires
-    loop-less
-    loop-again
-    sub-count
-    put-requires
-    same-length
-    returns)
+    tie.close (tie.spec Inv-loop μ-loop (λ c. search needs) loop-holds (λ c. search nodes-room) write-node-requires (λ c. search needs)
+    (λ c. search (put-next, nodes-first)) sub-count put-requires same-length (λ c. search (writes-section, put-end, nodes-none)))

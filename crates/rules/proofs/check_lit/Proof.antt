@@ -3,8 +3,5 @@ use Rattle.rules.proofs.Plain.{check-lit-done}
 use Rattle.rules.proofs.check_lit.Statement.{statement}
 use Rattle.rules.proofs.check_lit.Tie as tie
 
-returns : tie.Need-returns
-returns c = check-lit-done (c .pre .0) (c .pre .1)
-
 pub check-lit-spec : {M : Type 1} → statement M
-check-lit-spec = tie.close (tie.spec returns)
+check-lit-spec = tie.close (tie.spec (λ c. search check-lit-done))

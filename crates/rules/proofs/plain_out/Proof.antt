@@ -3,8 +3,5 @@ use Rattle.rules.proofs.Ends.{words-stand}
 use Rattle.rules.proofs.plain_out.Statement.{statement}
 use Rattle.rules.proofs.plain_out.Tie as tie
 
-returns : tie.Need-returns
-returns c = record { finished = λ q w. words-stand q w _ (λ Γ n. n) }
-
 pub plain-out-spec : {M : Type 1} → statement M
-plain-out-spec = tie.close (tie.spec returns)
+plain-out-spec = tie.close (tie.spec (λ c. search words-stand))

@@ -3,8 +3,5 @@ use Rattle.rules.proofs.Plain.{app-refused}
 use Rattle.rules.proofs.refuse_app.Statement.{statement}
 use Rattle.rules.proofs.refuse_app.Tie as tie
 
-returns : tie.Need-returns
-returns c = app-refused (c .pre)
-
 pub refuse-app-spec : {M : Type 1} → statement M
-refuse-app-spec = tie.close (tie.spec returns)
+refuse-app-spec = tie.close (tie.spec (λ c. search app-refused))

@@ -1,4 +1,5 @@
 -- `part_of` meets its contract: after i turns the bounds are those of section i.
+use borrow.Author.Needs.{needs}
 use mathlib.Core.Path.{_≡_}
 use mathlib.Core.Logic.{inl, inr, ⊎-elim}
 use Prim.Native.Nat.{_-_, _≤_}
@@ -17,48 +18,25 @@ abbrev μ-loop : tie.MeasureT-loop
 
 part-at-requires : tie.Need-part-at-requires Inv-loop μ-loop
 part-at-requires c κs =
-    let c₂ = c .before .before in
-    cut (c₂ .args .report .now) (c₂ .args .len) (c .if1 .n) (⊎-elim (λ u. inl (omega arith, omega arith)) (λ u. inr (omega arith, omega arith))
-    (c .if1 .came)) .0
-
-loop-holds : tie.Need-loop-holds Inv-loop μ-loop
-loop-holds c = (omega arith, first-of _ (c .part-at .ensures .is), c .part-at .ensures .order, c .part-at .ensures .within)
+    let at-start = c .before .before in
+    cut (at-start .args .report .now) (at-start .args .len) (c .if1 .n) (⊎-elim (λ u. inl (omega arith, omega arith))
+    (λ u. inr (omega arith, omega arith)) (c .if1 .came)) .0
 
 part-at-requires-2 : tie.Need-part-at-requires-2 Inv-loop μ-loop
 part-at-requires-2 c κs =
-    let c₃ = c .before .before .before in let c₅ = c₃ .before .before in
-    cut (c₅ .args .report .now) (c₅ .args .len) (c₃ .if1 .n) (⊎-elim (λ u. inl (omega arith, omega arith)) (λ u. inr (omega arith, omega arith))
-    (c₃ .if1 .came)) .0
-
-add-i : tie.Need-add-i Inv-loop μ-loop
-add-i c = omega arith
-
-loop-less : tie.Need-loop-less Inv-loop μ-loop
-loop-less c = omega arith
-
-loop-again : tie.Need-loop-again Inv-loop μ-loop
-loop-again c =
-    let c₂ = c .before .before in
-    (omega arith, next-of _ _ (c₂ .loop .inv .1) (c .part-at2 .ensures .is), c .part-at2 .ensures .order, c .part-at2 .ensures .within)
+    let at-if1 = c .before .before .before in let at-start = at-if1 .before .before in
+    cut (at-start .args .report .now) (at-start .args .len) (at-if1 .if1 .n)
+    (⊎-elim (λ u. inl (omega arith, omega arith)) (λ u. inr (omega arith, omega arith)) (at-if1 .if1 .came)) .0
 
 returns : tie.Need-returns Inv-loop μ-loop
 returns c =
-    let c₁ = c .before in let c₃ = c₁ .before .before in let c₅ = c₃ .before .before in
-    let e : c₁ .loop .i ≡ c₅ .args .k = omega arith in
-    part-of _ _ _ (c₃ .if1 .n) _ (cut (c₅ .args .report .now) (c₅ .args .len) (c₃ .if1 .n)
-    (⊎-elim (λ u. inl (omega arith, omega arith)) (λ u. inr (omega arith, omega arith)) (c₃ .if1 .came))) (rw (← e) (c₁ .loop .inv .1))
-    (c₁ .loop .inv .2) (c₁ .loop .inv .3)
+    let at-loop = c .before in let at-if1 = at-loop .before .before in let at-start = at-if1 .before .before in
+    let e : at-loop .loop .i ≡ at-start .args .k = omega arith in part-of _ _ _ (at-if1 .if1 .n) _
+    (cut (at-start .args .report .now) (at-start .args .len) (at-if1 .if1 .n)
+    (⊎-elim (λ u. inl (omega arith, omega arith)) (λ u. inr (omega arith, omega arith)) (at-if1 .if1 .came))) (rw (← e) (at-loop .loop .inv .1))
+    (at-loop .loop .inv .2) (at-loop .loop .inv .3)
 
 pub part-of-spec : {M : Type 1} → statement M
 part-of-spec =
-    tie.close
-    (tie.spec
-    Inv-loop
-    μ-loop
-    part-at-requires
-    loop-holds
-    part-at-requires-2
-    add-i
-    loop-less
-    loop-again
-    returns)
+    tie.close (tie.spec Inv-loop μ-loop part-at-requires (λ c. search (first-of, needs)) part-at-requires-2 (λ c. omega arith) (λ c. omega arith)
+    (λ c. search (next-of, needs)) returns)

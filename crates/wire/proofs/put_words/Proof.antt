@@ -1,5 +1,5 @@
 -- `put_words` meets its contract.
-use mathlib.Core.Path.{_≡_, refl, sym, ap, _∙_}
+use mathlib.Core.Path.{_≡_, sym, ap, _∙_}
 use mathlib.Core.List.{List}
 use Prim.Native.Nat.{ℕ, _+_, _-_, _*_, _≤_}
 use native.Mathlib.Omega.{arith}
@@ -16,58 +16,25 @@ Inv-loop dst₀ at ws i₀ to₀ dst i to =
 abbrev μ-loop : tie.MeasureT-loop
 μ-loop dst₀ at ws i₀ to₀ dst i to = length ws - i
 
-loop-holds : tie.Need-loop-holds Inv-loop μ-loop
-loop-holds c = (search needs, search needs, search needs, refl)
-
-mul-put-word : tie.Need-mul-put-word Inv-loop μ-loop
-mul-put-word c = search needs
-
-shared-slice-read-put-word : tie.Need-shared-slice-read-put-word Inv-loop μ-loop
-shared-slice-read-put-word c = search needs
-
-put-word-requires : tie.Need-put-word-requires Inv-loop μ-loop
-put-word-requires c κs = search needs
-
-add-i : tie.Need-add-i Inv-loop μ-loop
-add-i c = search needs
-
-add-to : tie.Need-add-to Inv-loop μ-loop
-add-to c = search needs
-
-loop-less : tie.Need-loop-less Inv-loop μ-loop
-loop-less c = search needs
-
 loop-again : tie.Need-loop-again Inv-loop μ-loop
 loop-again c =
-    let c₂ = c .before .before in let c₅ = c₂ .before .before .before in let c₆ = c₅ .before in let c₉ = c₆ .before .before .before in (
+    let at-put-word = c .before .before in let at-loop-test = at-put-word .before .before .before in let at-loop = at-loop-test .before in
+    let at-start = at-loop .before .before .before in (
       omega arith,
       omega arith,
-      c₂ .put-word .kept .0 ∙ c₆ .loop .inv .2,
-      c₆ .loop .inv .3 ∙ put-step _ _ _ _ (c₅ .loop-test .taken) ∙ ap (λ (l : List ℕ). putWords l (c₆ .loop .to + 4)
-          (drop (c₆ .loop .i + 1) (c₉ .args .ws .now))) (sym (c₂ .put-word .ensures)),
+      at-put-word .put-word .kept .0 ∙ at-loop .loop .inv .2,
+      at-loop .loop .inv .3 ∙ put-step _ _ _ _ (at-loop-test .loop-test .taken) ∙ ap
+          (λ (l : List ℕ). putWords l (at-loop .loop .to + 4) (drop (at-loop .loop .i + 1) (at-start .args .ws .now)))
+          (sym (at-put-word .put-word .ensures)),
     )
-
-same-length : tie.Need-same-length Inv-loop μ-loop
-same-length c = c .before .loop .inv .2
 
 returns : tie.Need-returns Inv-loop μ-loop
 returns c =
-    let c₁ = c .before in let c₄ = c₁ .before .before .before in
-    sym (c₁ .loop .inv .3 ∙ put-end _ _ _ _ (c .loop-test .left)) ∙ put-words (c₄ .args .ws .now) (c₄ .args .dst .now) (c₄ .args .at) (c₄ .pre)
+    let at-loop = c .before in let at-start = at-loop .before .before .before in
+    sym (at-loop .loop .inv .3 ∙ put-end _ _ _ _ (c .loop-test .left)) ∙ put-words (at-start .args .ws .now) (at-start .args .dst .now)
+    (at-start .args .at) (at-start .pre)
 
 pub put-words-spec : {M : Type 1} → statement M
 put-words-spec =
-    tie.close
-    (tie.spec
-    Inv-loop
-    μ-loop
-    loop-holds
-    mul-put-word
-    shared-slice-read-put-word
-    put-word-requires
-    add-i
-    add-to
-    loop-less
-    loop-again
-    same-length
-    returns)
+    tie.close (tie.spec Inv-loop μ-loop (λ c. search needs) (λ c. search needs) (λ c. search needs) (λ c κs. search needs) (λ c. search needs)
+    (λ c. search needs) (λ c. search needs) loop-again (λ c. search needs) returns)

@@ -7,40 +7,19 @@ use borrow.Author.Needs.{needs}
 use Rattle.writing.proofs.entry_length.Statement.{statement}
 use Rattle.writing.proofs.entry_length.Tie as tie
 
-word-requires : tie.Need-word-requires
-word-requires c κs = search needs
-
-add-word : tie.Need-add-word
-add-word c = search needs
-
-word-requires-2 : tie.Need-word-requires-2
-word-requires-2 c κs = search needs
-
-holds-type-requires : tie.Need-holds-type-requires
-holds-type-requires c κs = search needs
-
 part-length-requires : tie.Need-part-length-requires
 part-length-requires c κs =
-    let c₁ = c .before in let c₂ = c₁ .before in let c₅ = c₂ .before .before .before in
-    spelled-second (spelled-as (entry-parts (c₂ .word .ensures .0) refl (c₁ .word2 .ensures .0) (c .holds-type .ensures)) (c₅ .pre))
-
-sum-requires : tie.Need-sum-requires
-sum-requires c κs = search needs
+    let at-word2 = c .before in let at-word = at-word2 .before in let at-start = at-word .before .before .before in
+    spelled-second (spelled-as (entry-parts (at-word .word .ensures .0) refl (at-word2 .word2 .ensures .0) (c .holds-type .ensures)) (at-start .pre))
 
 returns : tie.Need-returns
 returns c =
-    let c₁ = c .before in let c₂ = c₁ .before in let c₃ = c₂ .before in let c₄ = c₃ .before in
-    long-as (entry-parts (c₄ .word .ensures .0) refl (c₃ .word2 .ensures .0) (c₂ .holds-type .ensures))
-    (long-after _ (c₁ .part-length .ensures) (omega arith) (c .sum .ensures))
+    let at-part-length = c .before in let at-holds-type = at-part-length .before in let at-word2 = at-holds-type .before in
+    let at-word = at-word2 .before in
+    long-as (entry-parts (at-word .word .ensures .0) refl (at-word2 .word2 .ensures .0) (at-holds-type .holds-type .ensures))
+    (long-after _ (at-part-length .part-length .ensures) (omega arith) (c .sum .ensures))
 
 pub entry-length-spec : {M : Type 1} → statement M
 entry-length-spec =
-    tie.close
-    (tie.spec
-    word-requires
-    add-word
-    word-requires-2
-    holds-type-requires
-    part-length-requires
-    sum-requires
-    returns)
+    tie.close (tie.spec (λ c κs. search needs) (λ c. search needs) (λ c κs. search needs) (λ c κs. search needs) part-length-requires
+    (λ c κs. search needs) returns)

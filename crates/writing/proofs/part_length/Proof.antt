@@ -10,8 +10,5 @@ type-length-requires c κs = type-held (spelled-as (then-filled (c .if1 .taken))
 returns : tie.Need-returns
 returns c = long-as (then-filled (c .before .if1 .taken)) (long-type (c .type-length .ensures))
 
-returns-2 : tie.Need-returns-2
-returns-2 c = long-unused 4294967295 (c .if1 .left)
-
 pub part-length-spec : {M : Type 1} → statement M
-part-length-spec = tie.close (tie.spec type-length-requires returns returns-2)
+part-length-spec = tie.close (tie.spec type-length-requires returns (λ c. search long-unused))

@@ -1,4 +1,5 @@
 -- `write_context` meets its contract.
+use borrow.Author.Needs.{needs}
 use mathlib.Core.Path.{_∙_, ap}
 use native.Mathlib.Omega.{arith}
 use lib.ListN.{length, length-set}
@@ -16,66 +17,29 @@ Inv-loop q work top report₀ at first next₀ i₀ left₀ report next i left =
 abbrev μ-loop : tie.MeasureT-loop
 μ-loop q work top report₀ at first next₀ i₀ left₀ report next i left = left
 
-add-first : tie.Need-add-first Inv-loop μ-loop
-add-first c = omega (arith, writable-inner (c .before .before .before .pre) .room .small)
-
-loop-holds : tie.Need-loop-holds Inv-loop μ-loop
-loop-holds c = put-first (writable-inner (c .before .before .before .pre))
-
 write-entry-requires : tie.Need-write-entry-requires Inv-loop μ-loop
 write-entry-requires c κs = writable-first (writable-as (entries-first (c .before .loop-test .taken)) (c .before .before .loop .inv .rest))
 
-add-i : tie.Need-add-i Inv-loop μ-loop
-add-i c =
-    let c₄ = c .before .before .before .before in let c₅ = c₄ .before in
-    let x = writable-first (writable-as (entries-first (c₄ .loop-test .taken)) (c₅ .loop .inv .rest)) .spelled in
-    omega (arith, x .says .stands .below, x .ground .fits, x .ground .cap)
-
-sub-left : tie.Need-sub-left Inv-loop μ-loop
-sub-left c = omega (arith, c .before .before .before .before .loop-test .taken)
-
-loop-less : tie.Need-loop-less Inv-loop μ-loop
-loop-less c = omega (arith, c .before .before .before .before .loop-test .taken)
-
-loop-again : tie.Need-loop-again Inv-loop μ-loop
-loop-again c =
-    let c₂ = c .before .before in let c₄ = c₂ .before .before in let c₅ = c₄ .before in
-    put-next (entries-first (c₄ .loop-test .taken)) (c₅ .loop .inv) (c₂ .write-entry .ensures)
-
 sub-count : tie.Need-sub-count Inv-loop μ-loop
 sub-count c =
-    let c₁ = c .before in let c₅ = c₁ .before .before .before .before in
-    omega (arith, counted (c₅ .pre) (put-end (entries-none (c .loop-test .left)) (c₁ .loop .inv)) .first)
+    let at-loop = c .before in let at-start = at-loop .before .before .before .before in
+    omega (arith, counted (at-start .pre) (put-end (entries-none (c .loop-test .left)) (at-loop .loop .inv)) .first)
 
 put-requires : tie.Need-put-requires Inv-loop μ-loop
 put-requires c κs =
-    let c₁ = c .before in let c₂ = c₁ .before in let c₆ = c₂ .before .before .before .before in
-    let k = counted (c₆ .pre) (put-end (entries-none (c₁ .loop-test .left)) (c₂ .loop .inv)) in (k .place, omega (arith, k .small))
+    let at-loop-test = c .before in let at-loop = at-loop-test .before in let at-start = at-loop .before .before .before .before in
+    let k = counted (at-start .pre) (put-end (entries-none (at-loop-test .loop-test .left)) (at-loop .loop .inv)) in
+    (k .place, omega (arith, k .small))
 
 same-length : tie.Need-same-length Inv-loop μ-loop
 same-length c =
-    let c₂ = c .before .before in let c₄ = c₂ .before .before in let c₅ = c₄ .before in let c₉ = c₅ .before .before .before .before in
-    ap length (c₂ .put .ensures) ∙ simp length-set (counted (c₉ .pre) (put-end (entries-none (c₄ .loop-test .left)) (c₅ .loop .inv)) .long)
-
-returns : tie.Need-returns Inv-loop μ-loop
-returns c =
-    let c₂ = c .before .before in let c₄ = c₂ .before .before in let c₅ = c₄ .before in
-    writes-section (put-end (entries-none (c₄ .loop-test .left)) (c₅ .loop .inv)) (c₂ .put .ensures)
+    let at-put = c .before .before in let at-loop-test = at-put .before .before in let at-loop = at-loop-test .before in
+    let at-start = at-loop .before .before .before .before in
+    ap length (at-put .put .ensures) ∙ simp length-set (counted (at-start .pre)
+    (put-end (entries-none (at-loop-test .loop-test .left)) (at-loop .loop .inv)) .long)
 
 pub write-context-spec : {M : Type 1} → statement M
 write-context-spec =
-    tie.close
-    (tie.spec
-    Inv-loop
-    μ-loop
-    add-first
-    loop-holds
-    write-entry-requires
-    add-i
-    sub-left
-    loop-less
-    loop-again
-    sub-count
-    put-requires
-    same-length
-    returns)
+    tie.close (tie.spec Inv-loop μ-loop (λ c. search needs) (λ c. search (put-first, writable-inner)) write-entry-requires (λ c. search needs)
+    (λ c. search needs) (λ c. search needs) (λ c. search (put-next, entries-first)) sub-count put-requires same-length
+    (λ c. search (writes-section, put-end, entries-none)))

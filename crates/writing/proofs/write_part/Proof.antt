@@ -7,14 +7,8 @@ use Rattle.writing.proofs.write_part.Tie as tie
 write-type-requires : tie.Need-write-type-requires
 write-type-requires c κs = writable-as (then-filled (c .before .if1 .taken)) (c .before .before .before .before .before .pre)
 
-same-length : tie.Need-same-length
-same-length c = search needs
-
 returns : tie.Need-returns
 returns c = writes-as (then-filled (c .before .before .before .before .if1 .taken)) (c .before .before .write-type .ensures)
 
-returns-2 : tie.Need-returns-2
-returns-2 c = writes-unused _ _ (c .if1 .left)
-
 pub write-part-spec : {M : Type 1} → statement M
-write-part-spec = tie.close (tie.spec write-type-requires same-length returns returns-2)
+write-part-spec = tie.close (tie.spec write-type-requires (λ c. search needs) returns (λ c. search writes-unused))

@@ -4,21 +4,6 @@ use Rattle.definition.specs.Contexts.{kindOf}
 use Rattle.layout.proofs.Key.kind.Statement.{statement}
 use Rattle.layout.proofs.Key.kind.Tie as tie
 
-enum-told : tie.Need-enum-told
-enum-told c = search needs
-
-enum-told-2 : tie.Need-enum-told-2
-enum-told-2 c = search needs
-
-enum-told-3 : tie.Need-enum-told-3
-enum-told-3 c = search needs
-
-enum-told-4 : tie.Need-enum-told-4
-enum-told-4 c = search needs
-
-enum-told-5 : tie.Need-enum-told-5
-enum-told-5 c = search needs
-
 returns : tie.Need-returns
 unfolding kindOf
 returns c = search needs
@@ -41,15 +26,5 @@ returns-5 c = search needs
 
 pub kind-spec : {M : Type 1} → statement M
 kind-spec =
-    tie.close
-    (tie.spec
-    enum-told
-    enum-told-2
-    enum-told-3
-    enum-told-4
-    enum-told-5
-    returns
-    returns-2
-    returns-3
-    returns-4
-    returns-5)
+    tie.close (tie.spec (λ c. search needs) (λ c. search needs) (λ c. search needs) (λ c. search needs) (λ c. search needs) returns returns-2
+    returns-3 returns-4 returns-5)
