@@ -1,6 +1,8 @@
 """The desk program as a function, after `rt check desk`: a question's words in, its two lines out, or the parts program's six; recorded
 answers to hold them to; and what the tests' scripts share: files as arguments, and the verdict."""
 import collections
+import concurrent.futures
+import os
 import pathlib
 import platform
 import struct
@@ -28,6 +30,12 @@ def ask(words, name="desk"):
     """What the desk program says to a question, or the parts program."""
     packed = struct.pack(f"<{len(words)}I", *words)
     return subprocess.run(program(name), input=packed, stdout=subprocess.PIPE, check=True).stdout.decode()
+
+
+def ask_all(lines, name="desk"):
+    """What the program says to the questions of recorded answers, as many at a time as there are processors."""
+    with concurrent.futures.ThreadPoolExecutor(os.cpu_count()) as pool:
+        return list(pool.map(lambda line: ask([int(word) for word in line.question.split()], name), lines))
 
 
 def recorded(lines):

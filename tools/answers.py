@@ -4,7 +4,12 @@ import re
 WIDTH = 150
 # `name : .. Need-..`, a line `unfolding ..` or none, `name c κs = answer`; the signature may stand on two lines
 ANSWER = re.compile(r"(?:pub )?(?P<name>\S+) :\s+(?P<need>[^=]*?\S*Need-[^=]*?)\n(?P<opens>unfolding [^\n]*\n)?(?P=name)(?P<binds>(?: [^\s=]+)*) =\s+(?P<body>.*)", re.S)
-SPEC = re.compile(r"(?<![^\s(])[^\s(]*\.spec(?=\s)")
+SPEC = re.compile(r"(?<![^\s(])(?P<lead>[^\s(]*)\.spec(?=\s)")
+
+
+def proof_files(folder):
+    """The proof files of functions below crates/ or one crate."""
+    return [file for file in sorted(folder.rglob("*.antt")) if "proofs" in file.parts and (file.name == "Proof.antt" or file.parent.name == "Proof")]
 
 
 def blocks(text):
@@ -52,7 +57,7 @@ def outermost(term):
 def theorem(block):
     """Where the arguments of `spec` stand in a theorem's block, and these; None where there is no theorem."""
     spec = SPEC.search(block)
-    if not spec or ".Need-" in block.split("\n")[0]:
+    if not spec or ANSWER.fullmatch(block):
         return None
     start, depth = spec.end(), 0
     end = next((at for at in range(start, len(block)) if (depth := depth + (block[at] in "({") - (block[at] in ")}")) < 0), len(block))

@@ -6,22 +6,22 @@ from answers import ANSWER, WIDTH, one_line
 
 # at the function's entry
 START = {"pre", "args", "good", "fits", "κs"}
-PATH = re.compile(r"(?<![^\s(,])c(?P<steps>(?: \.before)+)(?! \.before)(?: \.(?P<thing>[^\s.(),;]+))?(?![^\s),;])")
-PLACE = re.compile(r"(?<![^\s(,])(?P<place>at-[^\s(),;]+)(?![^\s),;])")
+PATH = re.compile(r"(?<![^\s(,])c(?P<steps>(?: \.before(?![^\s),;]))+)(?! \.before[\s),;])(?: \.(?P<thing>[^\s.(),;]+))?(?![^\s),;])")
+PLACE = re.compile(r"(?<![^\s(,])(?P<place>at-[^\s(),;]+)(?![^\s),;])(?P<on> \.)?")
 LET = re.compile(r"let (?P<name>at-\S+) = (?P<of>c|at-\S+)(?P<steps>(?: \.before)+) in\s*")
 
 
 def fold(block):
     """The block, with names for the places that its answer uses if the answer is longer than a line."""
     answer = ANSWER.fullmatch(block)
-    if not answer or LET.match(answer["body"]) or len(one_line(block[answer.start("opens") if answer["opens"] else answer.end("need") :])) <= WIDTH:
+    if not answer or LET.search(answer["body"]) or len(one_line(block[answer.end("opens") if answer["opens"] else answer.end("need") :])) <= WIDTH:
         return block
-    names = {}
-    for path in PATH.finditer(answer["body"]):
-        thing = path["thing"]
-        names.setdefault(steps(path), thing and ("at-start" if thing in START else "at-" + thing))
-    if None in names.values() or len(set(names.values())) < len(names):
+    paths = list(PATH.finditer(answer["body"]))
+    names = {steps(path): "at-start" if path["thing"] in START else f"at-{path['thing']}" for path in reversed(paths)}
+    if any(not path["thing"] for path in paths) or len(set(names.values())) < len(names):
         names = {}
+    if not names and max(map(len, block.split("\n"))) <= WIDTH:
+        return block
     body = PATH.sub(lambda path: " .".join([names[steps(path)], path["thing"]]), answer["body"]) if names else answer["body"]
     lines, last = ["   "], ("c", 0)
     for depth in sorted(names):
@@ -38,14 +38,20 @@ def fold(block):
 def unfold(block):
     """The block with its paths written out."""
     answer = ANSWER.fullmatch(block)
-    if not answer or not LET.match(answer["body"]):
+    if not answer or not LET.search(answer["body"]):
         return block
     body, depths = answer["body"], {"c": 0}
-    while let := LET.match(body):
+    while let := LET.search(body):
         depths[let["name"]] = depths[let["of"]] + steps(let)
-        body = body[let.end() :]
-    body = PLACE.sub(lambda found: "c" + " .before" * depths[found["place"]] if found["place"] in depths else found[0], body)
+        body = body[: let.start()] + body[let.end() :]
+    body = PLACE.sub(lambda found: written(found, depths) if found["place"] in depths else found[0], body)
     return block[: answer.start("body")].rstrip() + "\n    " + body
+
+
+def written(found, depths):
+    """The path to a place, in brackets where nothing is taken of it."""
+    path = "c" + " .before" * depths[found["place"]]
+    return path + found["on"] if found["on"] else f"({path})"
 
 
 def steps(found):
@@ -72,5 +78,5 @@ def breaks(line):
     for i, char in enumerate(line):
         depth += (char in "({") - (char in ")}")
         binding = char == "λ" or (binding and char != ".")
-        if char == " " and not binding and line[:i].strip() and line[i + 1] not in ".=" and line[i - 1] not in "=.":
+        if char == " " and not binding and line[:i].strip() and line[i + 1 : i + 2] not in (".", "=") and line[i - 1] not in "=.":
             yield i, depth

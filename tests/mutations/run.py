@@ -43,9 +43,9 @@ PASSED_ON = re.compile(r"was not admitted \(")
 # an error about which obligations there are, not about whether one holds
 SHAPE = re.compile(r"that can be named from here|has no field|components but its type has|needs a function \(or path\) type to bind"
                    r"|is not a (field|function|record)|has no component|too (many|few) arguments"
-                   r"|this λ is checked against|this λ has \d+ binders|is not a function or extension")
+                   r"|this λ is checked against|this λ has \d+ binders")
 # a theorem: an answer in it has no name of its own, so that one at another obligation's place fails like one that does not hold
-THEOREM = re.compile(r"error: `[^`]*-(spec|closed)`: ")
+THEOREM = re.compile(r"error: `(?:[^`]*-)?(?:spec|closed)`: ")
 
 
 def sample(found, count, seed):
@@ -99,15 +99,18 @@ def verdict(status, text, others):
     if status != 1 or "logic=not-proved" not in text:
         return "none", (lines or [""])[-1]
     said = [line for line in lines if re.search(r"\.antt:\d+:\d+: error: |: it is not proved that ", line) and not PASSED_ON.search(line)]
+    if not said:
+        return "none", (lines or [""])[-1]
     moved = others() if any(THEOREM.search(line) for line in said) else False
     shape = [line for line in said if SHAPE.search(line) or moved and THEOREM.search(line)]
     facts = [line for line in said if line not in shape]
-    return ("both" if shape else "fact", facts[0]) if facts else ("shape", (shape or lines)[0])
+    return ("both" if shape else "fact", facts[0]) if facts else ("shape", shape[0])
 
 
 def obligations(scratch, crate):
     """The needs of each function, by name."""
-    subprocess.run(["nice", "-n", "5", "rt", "goals", crate], cwd=scratch, check=False, stdout=subprocess.DEVNULL, stderr=subprocess.DEVNULL)
+    if subprocess.run(["nice", "-n", "5", "rt", "goals", crate], cwd=scratch, stdout=subprocess.DEVNULL, stderr=subprocess.DEVNULL).returncode != 0:
+        sys.exit(f"`rt goals {crate}` fails")
     return {file: needs(file) for file in (scratch / "target/goals" / crate).rglob("Lts*.antt")}
 
 
@@ -203,6 +206,8 @@ def main():
     found = [mutant for mutant in mutants(ROOT) if options.crate in (None, mutant.crate)]
     if options.automatic:
         found = [mutant for mutant in found if (mutant.crate, mutant.function) not in by_hand()]
+    if not found:
+        parser.error("there are no such edits")
     if options.list:
         crates = sorted({mutant.crate for mutant in found})
         return table("crate", crates, list(KINDS), collections.Counter((mutant.crate, mutant.kind) for mutant in found))

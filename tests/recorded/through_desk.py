@@ -4,13 +4,13 @@ import pathlib
 import sys
 
 sys.path.insert(0, str(pathlib.Path(__file__).resolve().parent.parent))
-from desk import answers, ask, files, same_at_the_desk, verdict  # noqa: E402
+from desk import answers, ask_all, files, same_at_the_desk, verdict  # noqa: E402
 
 
 def main():
     lines = answers(files("through_desk.py ANSWERS.."))
     asked = [line for line in lines if same_at_the_desk(line)]
-    differ = [line for line in asked if ask([int(word) for word in line.question.split()]) != f"{line.numbers}\n{line.report}\n"]
+    differ = [line for line, said in zip(asked, ask_all(asked)) if said != f"{line.numbers}\n{line.report}\n"]
     for line in differ:
         print(f"differs: {line.question[:400]}")
     print(f"desk: {len(lines) - len(asked)} recorded answers left out (other sizes decide their reply)")

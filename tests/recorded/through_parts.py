@@ -5,7 +5,7 @@ import pathlib
 import sys
 
 sys.path.insert(0, str(pathlib.Path(__file__).resolve().parent.parent))
-from desk import SIZES, answers, ask, files, same_at_the_desk, verdict  # noqa: E402
+from desk import SIZES, answers, ask_all, files, same_at_the_desk, verdict  # noqa: E402
 
 
 def no_room_at_the_desk(line):
@@ -33,7 +33,7 @@ def six_lines(line):
 def main():
     lines = answers(files("through_parts.py ANSWERS.."))
     asked = [line for line in lines if same_at_the_desk(line) or no_room_at_the_desk(line)]
-    differ = [line for line in asked if ask([int(word) for word in line.question.split()], "parts") != six_lines(line)]
+    differ = [line for line, said in zip(asked, ask_all(asked, "parts")) if said != six_lines(line)]
     for line in differ:
         print(f"differs: {line.question[:400]}")
     print(f"parts: {len(lines) - len(asked)} recorded answers left out (other sizes decide their reply)")
