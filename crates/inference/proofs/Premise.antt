@@ -1,9 +1,8 @@
 -- A premise of a rule: the judgement that is asked on a rule's way, and what follows from it whatever the rule.
-use mathlib.Core.Path.{_≡_, refl, sym}
+use mathlib.Core.Path.{_≡_, refl}
 use mathlib.Core.List.{List}
 use Prim.Native.Nat.{ℕ, _+_, _*_, _<_}
 use native.Mathlib.Omega.{arith}
-use lib.ListN.{length}
 use Rattle.definition.specs.Syntax.{Ty, Expr, Ctx, Judgement, infer, check, inferApp, Trees}
 use Rattle.definition.specs.Run.{Out, M, _>>=_}
 use Rattle.definition.specs.Rules.{Fired, Result, judge}
@@ -75,7 +74,3 @@ module _ {m : Mode} {q w w₁ : List ℕ} {s s₁ : State} {g : Span} {a : Ask} 
 
     pub space-back : {r : Answer} → z ≡ Done r → Space w₂ (r .st) (r .g) 0
     space-back {r} d = let b = returns d (rule .asks) in room-space (b .way .room) (r .g) 0 (b .run) (omega arith)
-
--- work is as long as it was
-pub as-long : {m : Mode} {q w w′ : List ℕ} {s : State} {g : Span} {a : Ask} {z : Step} → RulePre q w s g a → Fires m q w w′ s g a z → length w′ ≡ length w
-as-long rule fires = sym (fires .run _ (rule .asks) .keep .long)

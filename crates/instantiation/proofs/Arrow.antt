@@ -1,14 +1,14 @@
 -- InstLArr and InstRArr, over the side: two judgements, with the context applied between them.
 use mathlib.Core.Path.{_≡_, refl, sym, _∙_, ap}
 use mathlib.Core.List.{List}
-use Prim.Native.Nat.{ℕ, suc, _≤_}
+use Prim.Native.Nat.{ℕ, suc, _+_, _*_, _<_}
 use native.Mathlib.Nat.{le-refl}
 use native.Mathlib.Omega.{arith}
 use Rattle.definition.specs.Syntax as syntax
-use Rattle.definition.specs.Syntax.{Ty, int, arrow, Side, Judgement, inst, ruleNumber, leaf, _&_, children}
-use Rattle.definition.specs.Run.{done, andThen, give}
+use Rattle.definition.specs.Syntax.{Ty, int, etvar, arrow, Side, Judgement, inst, ruleNumber, leaf, _&_, children}
+use Rattle.definition.specs.Run.{Out, done, andThen, give}
 use Rattle.definition.specs.Types.{apply}
-use Rattle.definition.specs.Rules.{other, instArr, split, rule, judge}
+use Rattle.definition.specs.Rules.{Fired, other, instArr, split, rule, judge}
 use Rattle.layout.specs.Denotes.{Den}
 use Rattle.layout.specs.Room.{Room}
 use Rattle.layout.specs.declared.Made.{Made}
@@ -61,136 +61,191 @@ module _ {q w : List ℕ} {s : State} {g : Span} {sd : Side} {a t : ℕ} (pre : 
   pub arr-part : PartPre q w s g
   arr-part = part-pre (pre .pre .room) (pre .pre .names) (askd (pre .pre .asks) .run)
 
+-- ## As far as the rule has come
+
+-- it is asked, its number is n, its type's halves and its unknown's name are read, and the unknown is parted; t is the cycle's measure
+pub record Halved (t : ℕ) : Type 0 where
+  pub q : List ℕ
+  pub w : List ℕ
+  pub s : State
+  pub g : Span
+  pub sd : Side
+  pub a : ℕ
+  pub ty : ℕ
+  pub l : ℕ
+  pub r : ℕ
+  pub x : TyVar
+  pub w₁ : List ℕ
+  pub o : Parted
+  pub od : Side
+  pub n : ℕ
+  pub pre : FormPre sd q w s g a ty 5
+  pub falls : 5 * s .left + 3 ≡ t
+  pub left : LeftOf q w (s .top) ty l
+  pub right : RightOf q w (s .top) ty r
+  pub name : Named q w (s .top) a x
+  pub parts : Parts q w w₁ s g x o
+  pub back : od ≡ other sd
+  pub number : n ≡ ruleNumber (instArr sd)
+
+-- the first half was instantiated
+pub record First (t : ℕ) : Type 0 where
+  pub on : Halved t
+  pub w : List ℕ
+  pub z : Step
+  pub u : Answer
+  pub call : JudgedBoth (on .q) (on .w₁) w (on .o .st) (on .o .g) (instAsk (on .od) (on .o .b) (on .l)) z
+  pub done : z ≡ Done u
+
+-- the context was applied to the second
+pub record Between (t : ℕ) : Type 0 where
+  pub on : First t
+  pub w : List ℕ
+  pub y : Made
+  pub s : State
+  pub ty : ℕ
+  pub call : Applied (on .on .q) (on .w) w (on .u .st) (on .u .g) (on .on .r) y
+  pub done : y ≡ made.Done s ty
+
+-- ## The first half, on the other side
+
+module _ {t : ℕ} (h : Halved t) where
+  -- how the rule may be asked, what it comes to, and how it ends
+  abbrev At : Judgement → Type 0
+  At j = Asks (h .q) (h .w) (h .s .top) (h .g) (instAsk (h .sd) (h .a) (h .ty)) j
+
+  abbrev outcome : Mode → Judgement → Out Fired
+  outcome m j = rule (mode m) (judge (mode m)) j (h .s .left) (h .s .fresh)
+
+  abbrev Ends : List ℕ → Step → Type 0
+  Ends w′ z = FiresBoth (h .q) (h .w) w′ (h .s) (h .g) (instAsk (h .sd) (h .a) (h .ty)) z
+
   -- the two fresh names
   abbrev b₁ : syntax.TyVar
-  b₁ = freshName (s .fresh)
+  b₁ = freshName (h .s .fresh)
 
   abbrev b₂ : syntax.TyVar
-  b₂ = freshName (suc (s .fresh))
+  b₂ = freshName (suc (h .s .fresh))
 
-  module _ {l r : ℕ} {x : TyVar} (lo : LeftOf q w (s .top) t l) (ro : RightOf q w (s .top) t r) (nm : Named q w (s .top) a x) {w₁ : List ℕ} {o : Parted}
-      (in₁ : Parts q w w₁ s g x o) {od : Side} (eo : od ≡ other sd) where
-    -- ## The first half, on the other side
+  abbrev first : {j : Judgement} → At j → Judgement
+  first k = inst (h .od) (split (askd (h .pre) k .x) b₁ b₂ (askd (h .pre) k .Γ)) b₁ (halves (h .pre) k .A)
 
-    asks₁ : {j : Judgement} (k : Asks q w (s .top) g (instAsk sd a t) j)
-        → Asks q w₁ (o .st .top) (o .g) (instAsk od (o .b) l) (inst od (split (askd k .x) b₁ b₂ (askd k .Γ)) b₁ (halves k .A))
-    asks₁ k =
-        asks-inst od (rw (nm .of-etvar (askd k .x) (askd k .unknown)) at (in₁ .run (askd k .Γ) (askd k .run))) (in₁ .first)
-        (den-frame (in₁ .keep) (in₁ .up) (lo .is _ _ (whole k) .den))
+  left₁ : {j : Judgement} (k : At j) → Den (h .q) (h .w₁) (h .o .st .top) (h .l) (halves (h .pre) k .A)
+  left₁ k = den-frame (h .parts .keep) (h .parts .up) (h .left .is _ _ (whole (h .pre) k) .den)
 
-    room₁ : Room q w₁ (o .st) 0
-    room₁ =
-        let f = in₁ .fresh in
-        let e = in₁ .left in
-        built-room (pre .pre .room) 0 (parts-built in₁) (omega arith) (omega (arith, pre .pre .names))
+  asks₁ : {j : Judgement} (k : At j) → Asks (h .q) (h .w₁) (h .o .st .top) (h .o .g) (instAsk (h .od) (h .o .b) (h .l)) (first k)
+  asks₁ k = let v = askd (h .pre) k in
+      asks-inst (h .od) (rw (h .name .of-etvar (v .x) (v .unknown)) at (h .parts .run (v .Γ) (v .run))) (h .parts .first) (left₁ k)
 
-    pub arr-first : JudgePre q w₁ (o .st) (o .g) (instAsk od (o .b) l)
-    arr-first =
-        inst-pre od room₁ (in₁ .run _ (askd (pre .pre .asks) .run)) (in₁ .first)
-        (den-frame (in₁ .keep) (in₁ .up) (lo .is _ _ (whole (pre .pre .asks)) .den))
+  room₁ : Room (h .q) (h .w₁) (h .o .st) 0
+  room₁ = let f = h .parts .fresh in let e = h .parts .left in
+      built-room (h .pre .pre .room) 0 (parts-built (h .parts)) (omega arith) (omega (arith, h .pre .pre .names))
 
-    so₁ : Sofar q w w₁ s (o .st) leaf
-    so₁ = built-on begin (parts-built in₁)
+  pub arr-first : (5 * h .o .st .left + 2 < t) × JudgePre (h .q) (h .w₁) (h .o .st) (h .o .g) (instAsk (h .od) (h .o .b) (h .l))
+  arr-first = let k = h .pre .pre .asks in
+      (omega (arith, h .falls, h .parts .left), inst-pre (h .od) room₁ (h .parts .run _ (askd (h .pre) k .run)) (h .parts .first) (left₁ k))
 
-    says₁ : (m : Mode) {j : Judgement} (k : Asks q w (s .top) g (instAsk sd a t) j) → rule (mode m) (judge (mode m)) j (s .left) (s .fresh)
-        ≡ andThen (judge (mode m) (inst od (split (askd k .x) b₁ b₂ (askd k .Γ)) b₁ (halves k .A)) (o .st .left) (o .st .fresh))
-        (λ u l n. andThen (apply (u .1) (halves k .B) l n)
-        (λ B l n. andThen (judge (mode m) (inst sd (u .1) b₂ B) l n) (λ v. give (instArr sd, int, v .1, u .2 & v .2 & leaf))))
-    says₁ m k =
-        ap (λ (i : Judgement). rule (mode m) (judge (mode m)) i (s .left) (s .fresh))
-        (askd k .is ∙ ap (λ (T : Ty). inst sd (askd k .Γ) (askd k .x) T) (halves k .is))
-        ∙ rw (in₁ .left, in₁ .fresh, eo) (arr-is (mode m) (judge (mode m)) (askd k .Γ) (askd k .x) (s .left) (s .fresh) sd (halves k .A) (halves k .B))
+  so₁ : Sofar (h .q) (h .w) (h .w₁) (h .s) (h .o .st) leaf
+  so₁ = built-on begin (parts-built (h .parts))
 
-    module _ {w₂ : List ℕ} {z : Step} (call₁ : JudgedBoth q w₁ w₂ (o .st) (o .g) (instAsk od (o .b) l) z) where
-      pub arr-else₁ : NotDone z → FiresBoth q w w₂ s g (instAsk sd a t) z
-      arr-else₁ nd = else-fires (λ m j k. record { ts = leaf; so = so₁; i = _; asks = asks₁ k; next = _; says = says₁ m k }) call₁ nd
+  says₁ : (m : Mode) {j : Judgement} (k : At j) → outcome m j
+      ≡ andThen (judge (mode m) (first k) (h .o .st .left) (h .o .st .fresh))
+      (λ u l n. andThen (apply (u .1) (halves (h .pre) k .B) l n)
+      (λ B l n. andThen (judge (mode m) (inst (h .sd) (u .1) b₂ B) l n) (λ v. give (instArr (h .sd), int, v .1, u .2 & v .2 & leaf))))
+  says₁ m k = let v = askd (h .pre) k in let p = halves (h .pre) k in
+      ap (outcome m) (v .is ∙ ap (λ (T : Ty). inst (h .sd) (v .Γ) (v .x) T) (p .is))
+      ∙ rw (h .parts .left, h .parts .fresh, h .back) (arr-is (mode m) (judge (mode m)) (v .Γ) (v .x) (h .s .left) (h .s .fresh) (h .sd) (p .A) (p .B))
 
-      module _ {u : Answer} (d₁ : z ≡ Done u) where
-        c₁ : (m : Mode) {j : Judgement} (k : Asks q w (s .top) g (instAsk sd a t) j)
-            → Came q w₂ (o .st) u (judge (mode m) (inst od (split (askd k .x) b₁ b₂ (askd k .Γ)) b₁ (halves k .A)) (o .st .left) (o .st .fresh))
-        c₁ m k = gave so₁ (call₁ .in-mode m) (asks₁ k) d₁
+  pub arr-else₁ : {w₂ : List ℕ} {z : Step} → JudgedBoth (h .q) (h .w₁) w₂ (h .o .st) (h .o .g) (instAsk (h .od) (h .o .b) (h .l)) z → NotDone z → Ends w₂ z
+  arr-else₁ call nd = else-fires (λ m j k. record { ts = leaf; so = so₁; i = _; asks = asks₁ k; next = _; says = says₁ m k }) call nd
 
-        so₂ : (m : Mode) {j : Judgement} (k : Asks q w (s .top) g (instAsk sd a t) j) → Sofar q w w₂ s (u .st) (c₁ m k .t & leaf)
-        so₂ m k = on so₁ (call₁ .in-mode m) (asks₁ k) (c₁ m k)
+-- ## The context is applied to the second half
 
-        -- what was denoted once the unknown was parted is denoted now
-        den₂ : {n : ℕ} {T : Ty} → Den q w₁ (o .st .top) n T → Den q w₂ (u .st .top) n T
-        den₂ d = den-frame (call₁ .in-mode either .run _ (asks₁ (pre .pre .asks)) .keep) (c₁ either (pre .pre .asks) .land .up) d
+module _ {t : ℕ} (c : First t) where
+  came : (m : Mode) {j : Judgement} (k : At (c .on) j)
+      → Came (c .on .q) (c .w) (c .on .o .st) (c .u) (judge (mode m) (first (c .on) k) (c .on .o .st .left) (c .on .o .st .fresh))
+  came m k = gave (so₁ (c .on)) (c .call .in-mode m) (asks₁ (c .on) k) (c .done)
 
-        right₂ : {j : Judgement} (k : Asks q w (s .top) g (instAsk sd a t) j) → Den q w₂ (u .st .top) r (halves k .B)
-        right₂ k = den₂ (den-frame (in₁ .keep) (in₁ .up) (ro .is _ _ (whole k) .den))
+  so₂ : (m : Mode) {j : Judgement} (k : At (c .on) j) → Sofar (c .on .q) (c .on .w) (c .w) (c .on .s) (c .u .st) (came m k .t & leaf)
+  so₂ m k = on (so₁ (c .on)) (c .call .in-mode m) (asks₁ (c .on) k) (came m k)
 
-        -- ## The context is applied to the second half
+  -- what was denoted once the unknown was parted is denoted now
+  stays : {n : ℕ} {T : Ty} → Den (c .on .q) (c .on .w₁) (c .on .o .st .top) n T → Den (c .on .q) (c .w) (c .u .st .top) n T
+  stays d = let k = c .on .pre .pre .asks in den-frame (c .call .in-mode either .run _ (asks₁ (c .on) k) .keep) (came either k .land .up) d
 
-        pub arr-apply : ApplyPre q w₂ (u .st) (u .g) r
-        arr-apply =
-            let x = c₁ either (pre .pre .asks) .land in
-            record { spare = _; room = x .room; ctx = _; run = x .run; type = _; den = right₂ (pre .pre .asks) }
+  right₂ : {j : Judgement} (k : At (c .on) j) → Den (c .on .q) (c .w) (c .u .st .top) (c .on .r) (halves (c .on .pre) k .B)
+  right₂ k = stays (den-frame (c .on .parts .keep) (c .on .parts .up) (c .on .right .is _ _ (whole (c .on .pre) k) .den))
 
-        says₂ : (m : Mode) {j : Judgement} (k : Asks q w (s .top) g (instAsk sd a t) j) → rule (mode m) (judge (mode m)) j (s .left) (s .fresh)
-            ≡ andThen (apply (c₁ m k .Δ) (halves k .B) (u .st .left) (u .st .fresh))
-            (λ B l n. andThen (judge (mode m) (inst sd (c₁ m k .Δ) b₂ B) l n) (λ v. give (instArr sd, int, v .1, c₁ m k .t & v .2 & leaf)))
-        says₂ m k = says₁ m k ∙ then-done _ (c₁ m k .is)
+  pub arr-apply : ApplyPre (c .on .q) (c .w) (c .u .st) (c .u .g) (c .on .r)
+  arr-apply = let k = c .on .pre .pre .asks in let x = came either k .land in
+      record { spare = _; room = x .room; ctx = _; run = x .run; type = _; den = right₂ k }
 
-        module _ {w₃ : List ℕ} {y : Made} (call : Applied q w₂ w₃ (u .st) (u .g) r y) where
-          makes : (m : Mode) {j : Judgement} (k : Asks q w (s .top) g (instAsk sd a t) j)
-              → Makes q w₂ w₃ (u .st) y (apply (c₁ m k .Δ) (halves k .B) (u .st .left) (u .st .fresh))
-          makes m k = call .makes (c₁ m k .Δ) (c₁ m k .land .run) (halves k .B) (right₂ k)
+  says₂ : (m : Mode) {j : Judgement} (k : At (c .on) j) → outcome (c .on) m j
+      ≡ andThen (apply (came m k .Δ) (halves (c .on .pre) k .B) (c .u .st .left) (c .u .st .fresh))
+      (λ B l n. andThen (judge (mode m) (inst (c .on .sd) (came m k .Δ) (b₂ (c .on)) B) l n)
+      (λ v. give (instArr (c .on .sd), int, v .1, came m k .t & v .2 & leaf)))
+  says₂ m k = says₁ (c .on) m k ∙ then-done _ (came m k .is)
 
-          pub arr-spent : y ≡ made.Spent → FiresBoth q w w₃ s g (instAsk sd a t) Spent
-          arr-spent e = record {
-            in-mode = λ m. record {
-              run = λ j k.
-                  let n = passing.ended (makes m k) e in
-                  stopped (built (u .st) (so₂ m k) (n .keep) (le-refl _) refl (le-refl _)) _ (says₂ m k ∙ then-stop _ (n .is));
-            };
-          }
+  module _ {w₃ : List ℕ} {y : Made} (call : Applied (c .on .q) (c .w) w₃ (c .u .st) (c .u .g) (c .on .r) y) where
+    makes : (m : Mode) {j : Judgement} (k : At (c .on) j)
+        → Makes (c .on .q) (c .w) w₃ (c .u .st) y (apply (came m k .Δ) (halves (c .on .pre) k .B) (c .u .st .left) (c .u .st .fresh))
+    makes m k = call .makes (came m k .Δ) (came m k .land .run) (halves (c .on .pre) k .B) (right₂ k)
 
-          module _ {s₃ : State} {t₃ : ℕ} (d : y ≡ made.Done s₃ t₃) where
-            c₂ : (m : Mode) {j : Judgement} (k : Asks q w (s .top) g (instAsk sd a t) j)
-                → Reached q w₂ w₃ (u .st) s₃ t₃ (apply (c₁ m k .Δ) (halves k .B) (u .st .left) (u .st .fresh))
-            c₂ m k = reached (makes m k) d
+    pub arr-spent : y ≡ made.Spent → Ends (c .on) w₃ Spent
+    arr-spent e = record {
+      in-mode = λ m. record {
+        run = λ j k.
+            let n = passing.ended (makes m k) e in
+            stopped (built (c .u .st) (so₂ m k) (n .keep) (le-refl _) refl (le-refl _)) _ (says₂ m k ∙ then-stop _ (n .is));
+      };
+    }
 
-            -- ## The second half, on this side
+-- ## The second half, on this side
 
-            passed : Passed w₂ w₃ (u .st) s₃ 1
-            passed = c₂ either (pre .pre .asks) .passed
+module _ {t : ℕ} (b : Between t) where
+  -- the rule as it was asked
+  abbrev asked : Halved t
+  asked = b .on .on
 
-            asks₃ : (m : Mode) {j : Judgement} (k : Asks q w (s .top) g (instAsk sd a t) j)
-                → Asks q w₃ (s₃ .top) (u .g) (instAsk sd (o .c) t₃) (inst sd (c₁ m k .Δ) b₂ (c₂ m k .type))
-            asks₃ m k =
-                asks-inst sd (run-frame (passed .keep) (passed .up) (c₁ m k .land .run)) (den-frame (passed .keep) (passed .up) (den₂ (in₁ .second)))
-                (c₂ m k .den)
+  applied : (m : Mode) {j : Judgement} (k : At asked j) → Reached (asked .q) (b .on .w) (b .w) (b .on .u .st) (b .s) (b .ty)
+      (apply (came (b .on) m k .Δ) (halves (asked .pre) k .B) (b .on .u .st .left) (b .on .u .st .fresh))
+  applied m k = reached (makes (b .on) (b .call) m k) (b .done)
 
-            pub arr-second : JudgePre q w₃ s₃ (u .g) (instAsk sd (o .c) t₃)
-            arr-second =
-                let x = c₁ either (pre .pre .asks) .land in
-                inst-pre sd (passing.room-on passed (x .room)) (run-frame (passed .keep) (passed .up) (x .run))
-                (den-frame (passed .keep) (passed .up) (den₂ (in₁ .second))) (c₂ either (pre .pre .asks) .den)
+  passed : Passed (b .on .w) (b .w) (b .on .u .st) (b .s) 1
+  passed = applied either (asked .pre .pre .asks) .passed
 
-            so₃ : (m : Mode) {j : Judgement} (k : Asks q w (s .top) g (instAsk sd a t) j) → Sofar q w w₃ s s₃ (c₁ m k .t & leaf)
-            so₃ m k = built-on (so₂ m k) (passed-built passed)
+  unknown₂ : Den (asked .q) (b .w) (b .s .top) (asked .o .c) (etvar (b₂ asked))
+  unknown₂ = den-frame (passed .keep) (passed .up) (stays (b .on) (asked .parts .second))
 
-            pub arr-falls : s₃ .left ≤ s .left
-            arr-falls = so₃ either (pre .pre .asks) .less
+  asks₂ : (m : Mode) {j : Judgement} (k : At asked j)
+      → Asks (asked .q) (b .w) (b .s .top) (b .on .u .g) (instAsk (asked .sd) (asked .o .c) (b .ty))
+      (inst (asked .sd) (came (b .on) m k .Δ) (b₂ asked) (applied m k .type))
+  asks₂ m k = asks-inst (asked .sd) (run-frame (passed .keep) (passed .up) (came (b .on) m k .land .run)) unknown₂ (applied m k .den)
 
-            says₃ : (m : Mode) {j : Judgement} (k : Asks q w (s .top) g (instAsk sd a t) j) → rule (mode m) (judge (mode m)) j (s .left) (s .fresh)
-                ≡ andThen (judge (mode m) (inst sd (c₁ m k .Δ) b₂ (c₂ m k .type)) (s₃ .left) (s₃ .fresh))
-                (λ v. give (instArr sd, int, v .1, c₁ m k .t & v .2 & leaf))
-            says₃ m k =
-                let f = ap (λ (n : ℕ). done (c₂ m k .type) (s₃ .left) n) (sym (passed .fresh)) in
-                says₂ m k ∙ then-done _ (c₂ m k .is ∙ f)
+  so₃ : (m : Mode) {j : Judgement} (k : At asked j) → Sofar (asked .q) (asked .w) (b .w) (asked .s) (b .s) (came (b .on) m k .t & leaf)
+  so₃ m k = built-on (so₂ (b .on) m k) (passed-built passed)
 
-            module _ {w₄ : List ℕ} {z₂ : Step} (call₂ : JudgedBoth q w₃ w₄ s₃ (u .g) (instAsk sd (o .c) t₃) z₂) where
-              pub arr-else₂ : NotDone z₂ → FiresBoth q w w₄ s g (instAsk sd a t) z₂
-              arr-else₂ nd =
-                  else-fires (λ m j k. record { ts = _; so = so₃ m k; i = _; asks = asks₃ m k; next = _; says = says₃ m k }) call₂ nd
+  pub arr-second : (5 * b .s .left + 2 < t) × JudgePre (asked .q) (b .w) (b .s) (b .on .u .g) (instAsk (asked .sd) (asked .o .c) (b .ty))
+  arr-second = let k = asked .pre .pre .asks in let x = came (b .on) either k .land in (
+    omega (arith, asked .falls, so₃ either k .less),
+    inst-pre (asked .sd) (passing.room-on passed (x .room)) (run-frame (passed .keep) (passed .up) (x .run)) unknown₂ (applied either k .den),
+  )
 
-              pub arr-done : {v : Answer} {n : ℕ} {y₂ : Step} → z₂ ≡ Done v → n ≡ ruleNumber (instArr sd) → Through v n 2 y₂
-                  → FiresBoth q w w₄ s g (instAsk sd a t) y₂
-              unfolding children
-              arr-done d₂ en th = record {
-                in-mode = λ m. record {
-                  run = λ j k. through-ends (so₃ m k) (call₂ .in-mode m) (asks₃ m k) d₂ (instArr sd) en (λ t. refl) (omega arith) th _ (says₃ m k);
-                };
-              }
+  says₃ : (m : Mode) {j : Judgement} (k : At asked j) → outcome asked m j
+      ≡ andThen (judge (mode m) (inst (asked .sd) (came (b .on) m k .Δ) (b₂ asked) (applied m k .type)) (b .s .left) (b .s .fresh))
+      (λ v. give (instArr (asked .sd), int, v .1, came (b .on) m k .t & v .2 & leaf))
+  says₃ m k =
+      let f = ap (λ (n : ℕ). done (applied m k .type) (b .s .left) n) (sym (passed .fresh)) in
+      says₂ (b .on) m k ∙ then-done _ (applied m k .is ∙ f)
+
+  module _ {w₄ : List ℕ} {z : Step} (call : JudgedBoth (asked .q) (b .w) w₄ (b .s) (b .on .u .g) (instAsk (asked .sd) (asked .o .c) (b .ty)) z) where
+    pub arr-else₂ : NotDone z → Ends asked w₄ z
+    arr-else₂ nd = else-fires (λ m j k. record { ts = _; so = so₃ m k; i = _; asks = asks₂ m k; next = _; says = says₃ m k }) call nd
+
+    pub arr-done : {v : Answer} {y : Step} → z ≡ Done v → Through v (asked .n) 2 y → Ends asked w₄ y
+    unfolding children
+    arr-done d th = record {
+      in-mode = λ m. record {
+        run = λ j k. through-ends (so₃ m k) (call .in-mode m) (asks₂ m k) d (instArr (asked .sd)) (asked .number) (λ t. refl) (omega arith) th _ (says₃ m k);
+      };
+    }

@@ -21,9 +21,9 @@ use Rattle.judging.specs.declared.Bad.{Bad}
 use Rattle.judging.specs.declared.Mode.{Mode}
 use Rattle.judging.specs.declared.Step.{Step}
 use Rattle.judging.specs.declared.Step.the-variants.{Done, Fail, Spent}
-use Rattle.judging.specs.Asking.{mode, Asks, Ready}
+use Rattle.judging.specs.Asking.{mode, Asks, Ready, RulePre}
 use Rattle.judging.specs.Nodes.{NodesAt, no-nodes}
-use Rattle.judging.specs.Ending.{Landed, Failed, fired, refused, out, RunsR, Judged}
+use Rattle.judging.specs.Ending.{Landed, Failed, fired, refused, out, RunsR, Judged, Fires}
 use Rattle.judging.proofs.Nodes.{nodes-frame, nodes-join, nodes-at, _+++_}
 use Rattle.judging.proofs.Steps.{NotDone, Came, came, else-ends}
 
@@ -125,3 +125,7 @@ fires {q} {w} {w₁} {s} {ts} s₁ g₁ ty r {C} {Δ} so rm few rn dn R e =
       room = rm;
     } in
     record { keep = so .keep; ends = rw e (fired refl refl few y) }
+
+-- work is as long as it was
+pub as-long : {m : Mode} {q w w′ : List ℕ} {s : State} {g : Span} {a : Ask} {z : Step} → RulePre q w s g a → Fires m q w w′ s g a z → length w′ ≡ length w
+as-long rule fires = sym (fires .run _ (rule .asks) .keep .long)

@@ -2,7 +2,7 @@
 use mathlib.Core.Path.{_≡_, refl, _∙_}
 use mathlib.Core.Bool.{false}
 use mathlib.Core.List.{List}
-use Prim.Native.Nat.{ℕ, _+_, _*_, _≤_}
+use Prim.Native.Nat.{ℕ, _+_, _*_, _<_}
 use native.Mathlib.Omega.{arith}
 use Rattle.definition.specs.Syntax
 use Rattle.definition.specs.Syntax.{Ty, int, arrow, Judgement, subtype, ruleNumber, leaf, _&_, children}
@@ -29,7 +29,9 @@ use Rattle.rules.specs.Going.{TwoIn, Passes, Dens, applyBoth, AppliedBoth}
 use Rattle.rules.proofs.Ways.{Way, asks-sub, Onward, onward, there}
 use Rattle.subtyping.specs.Arms.{Comes, Fits, fits-arr, ArmPre}
 use Rattle.subtyping.specs.declared.Arm.the-variants as arm
-use Rattle.subtyping.proofs.Rules.{sub-pre, askd, fits, comes}
+use Rattle.subtyping.proofs.Rules.{askd, fits, comes}
+
+-- ## Its types
 
 record Halves (A B : Ty) : Type 0 where
   A₁ : Ty
@@ -62,91 +64,144 @@ module _ {q w : List ℕ} {s : State} {g : Span} {a b : ℕ} (pre : ArmPre q w s
   unfolding tyCode
   arr-right = held-is (pre .pre .room) (right (pre .pre .asks))
 
-  module _ {a₁ a₂ b₁ b₂ : ℕ} (la : LeftOf q w (s .top) a a₁) (ra : RightOf q w (s .top) a a₂) (lb : LeftOf q w (s .top) b b₁)
-      (rb : RightOf q w (s .top) b b₂) where
-    -- ## The left halves, exchanged
+-- ## As far as the rule has come
 
-    asks₁ : {j : Judgement} (k : Asks q w (s .top) g (subAsk a b) j) → Asks q w (s .top) g (subAsk b₁ a₁) (subtype (askd pre k .Γ) (half k .B₁) (half k .A₁))
-    asks₁ k = as-sub refl refl (askd pre k .run) (lb .is _ _ (right k) .den) (la .is _ _ (left k) .den)
+-- it is asked, and the halves of its types are read; t is the cycle's measure
+pub record Halved (t : ℕ) : Type 0 where
+  pub q : List ℕ
+  pub w : List ℕ
+  pub s : State
+  pub g : Span
+  pub a : ℕ
+  pub b : ℕ
+  pub a₁ : ℕ
+  pub a₂ : ℕ
+  pub b₁ : ℕ
+  pub b₂ : ℕ
+  pub pre : ArmPre q w s g a b arm.Arr
+  pub falls : 3 * s .left + 1 ≡ t
+  pub left-a : LeftOf q w (s .top) a a₁
+  pub right-a : RightOf q w (s .top) a a₂
+  pub left-b : LeftOf q w (s .top) b b₁
+  pub right-b : RightOf q w (s .top) b b₂
 
-    pub arr-first : JudgePre q w s g (subAsk b₁ a₁)
-    arr-first = let k = pre .pre .asks in sub-pre (pre .pre .room) (askd pre k .run) (lb .is _ _ (right k) .den) (la .is _ _ (left k) .den)
+-- the left halves were related
+pub record Lefts (t : ℕ) : Type 0 where
+  pub on : Halved t
+  pub w : List ℕ
+  pub z : Step
+  pub r : Answer
+  pub call : JudgedBoth (on .q) (on .w) w (on .s) (on .g) (subAsk (on .b₁) (on .a₁)) z
+  pub done : z ≡ Done r
 
-    says₁ : (m : Mode) {j : Judgement} (k : Asks q w (s .top) g (subAsk a b) j) → rule (mode m) (judge (mode m)) j (s .left) (s .fresh)
-        ≡ andThen (judge (mode m) (subtype (askd pre k .Γ) (half k .B₁) (half k .A₁)) (s .left) (s .fresh))
-        (λ r l n. andThen (judge (mode m) (subtype (r .1) (half k .A₂) (half k .B₂)) l n) (λ u. give (Syntax.SubArr, int, u .1, r .2 & u .2 & leaf)))
-    unfolding subArr _>>=_
-    says₁ m k = comes pre m k (half k .comes-to)
+-- the right halves are as they were
+pub record Between (t : ℕ) : Type 0 where
+  pub on : Lefts t
+  pub w : List ℕ
+  pub v : Mid
+  pub s : State
+  pub a : ℕ
+  pub b : ℕ
+  pub call : AppliedBoth false (on .on .q) (on .w) w (on .r .st) (on .r .g) (on .on .a₂) (on .on .b₂) v
+  pub done : v ≡ On s a b
 
-    module _ {w₁ : List ℕ} {z : Step} (call₁ : JudgedBoth q w w₁ s g (subAsk b₁ a₁) z) where
-      pub arr-else₁ : NotDone z → FiresBoth q w w₁ s g (subAsk a b) z
-      arr-else₁ nd = else-fires (λ m j k. record { ts = leaf; so = begin; i = _; asks = asks₁ k; next = _; says = says₁ m k }) call₁ nd
+-- ## The left halves, exchanged
 
-      -- ## The right halves
+module _ {t : ℕ} (h : Halved t) where
+  -- how the rule may be asked, and how it ends
+  abbrev At : Judgement → Type 0
+  At j = Asks (h .q) (h .w) (h .s .top) (h .g) (subAsk (h .a) (h .b)) j
 
-      module _ {r : Answer} (d₁ : z ≡ Done r) where
-        c₁ : (m : Mode) {j : Judgement} (k : Asks q w (s .top) g (subAsk a b) j)
-            → Came q w₁ s r (judge (mode m) (subtype (askd pre k .Γ) (half k .B₁) (half k .A₁)) (s .left) (s .fresh))
-        c₁ m k = gave begin (call₁ .in-mode m) (asks₁ k) d₁
+  abbrev Ends : List ℕ → Step → Type 0
+  Ends w′ z = FiresBoth (h .q) (h .w) w′ (h .s) (h .g) (subAsk (h .a) (h .b)) z
 
-        so : (m : Mode) {j : Judgement} (k : Asks q w (s .top) g (subAsk a b) j) → Sofar q w w₁ s (r .st) (c₁ m k .t & leaf)
-        so m k = on begin (call₁ .in-mode m) (asks₁ k) (c₁ m k)
+  abbrev parts : {j : Judgement} (k : At j) → Halves (askd (h .pre) k .A) (askd (h .pre) k .B)
+  parts k = half (h .pre) k
 
-        den₁ : {n : ℕ} {T : Ty} → Den q w (s .top) n T → Den q w₁ (r .st .top) n T
-        den₁ d = let x = so either (pre .pre .asks) in den-frame (x .keep) (x .up) d
+  abbrev lefts : {j : Judgement} → At j → Judgement
+  lefts k = subtype (askd (h .pre) k .Γ) (parts k .B₁) (parts k .A₁)
 
-        pub arr-two : TwoIn q w₁ (r .st) (r .g) a₂ b₂
-        arr-two =
-            let k = pre .pre .asks in
-            let x = c₁ either k .land in
-            record {
-              two = record { spare = _; room = x .room; A = _; B = _; left = den₁ (ra .is _ _ (left k) .den); right = den₁ (rb .is _ _ (right k) .den) };
-              Γ = _;
-              run = x .run;
-            }
+  asks₁ : {j : Judgement} (k : At j) → Asks (h .q) (h .w) (h .s .top) (h .g) (subAsk (h .b₁) (h .a₁)) (lefts k)
+  asks₁ k = as-sub refl refl (askd (h .pre) k .run) (h .left-b .is _ _ (right (h .pre) k) .den) (h .left-a .is _ _ (left (h .pre) k) .den)
 
-        way₁ : (m : Mode) {j : Judgement} (k : Asks q w (s .top) g (subAsk a b) j)
-            → Way q w w₁ s (r .st) (c₁ m k .t & leaf) (4 * r .g .n + 4) (rule (mode m) (judge (mode m)) j (s .left) (s .fresh))
-            (applyBoth false (c₁ m k .Δ) (half k .A₂) (half k .B₂) >>= λ T. judge (mode m) (subtype (c₁ m k .Δ) (T .0) (T .1))
-            >>= λ u. give (Syntax.SubArr, int, u .1, c₁ m k .t & u .2 & leaf))
-        unfolding branch _>>=_ andThen give
-        way₁ m k = record { so = so m k; room = c₁ m k .land .room; is = says₁ m k ∙ then-done _ (c₁ m k .is) }
+  pub arr-first : (3 * h .s .left < t) × JudgePre (h .q) (h .w) (h .s) (h .g) (subAsk (h .b₁) (h .a₁))
+  arr-first = (omega (arith, h .falls), asks-sub (h .pre .pre .room) (asks₁ (h .pre .pre .asks)))
 
-        module _ {w₂ : List ℕ} {v : Mid} (mid : AppliedBoth false q w₁ w₂ (r .st) (r .g) a₂ b₂ v) where
-          passes : (m : Mode) {j : Judgement} (k : Asks q w (s .top) g (subAsk a b) j)
-              → Passes q w₁ w₂ (r .st) (Dens q w₂) v (applyBoth false (c₁ m k .Δ) (half k .A₂) (half k .B₂) (r .st .left) (r .st .fresh))
-          passes m k = mid .passes _ _ _ (c₁ m k .land .run) (den₁ (ra .is _ _ (left k) .den)) (den₁ (rb .is _ _ (right k) .den))
+  says₁ : (m : Mode) {j : Judgement} (k : At j) → rule (mode m) (judge (mode m)) j (h .s .left) (h .s .fresh)
+      ≡ andThen (judge (mode m) (lefts k) (h .s .left) (h .s .fresh))
+      (λ r l n. andThen (judge (mode m) (subtype (r .1) (parts k .A₂) (parts k .B₂)) l n) (λ u. give (Syntax.SubArr, int, u .1, r .2 & u .2 & leaf)))
+  unfolding subArr _>>=_
+  says₁ m k = comes (h .pre) m k (parts k .comes-to)
 
-          pub arr-end : {y : Step} → v ≡ End y → FiresBoth q w w₂ s g (subAsk a b) y
-          arr-end e = record { in-mode = λ m. record { run = λ j k. there (Dens q w₂) _ _ (way₁ m k) (passes m k) e } }
+  pub arr-else₁ : {w₁ : List ℕ} {z : Step} → JudgedBoth (h .q) (h .w) w₁ (h .s) (h .g) (subAsk (h .b₁) (h .a₁)) z → NotDone z → Ends w₁ z
+  arr-else₁ call nd = else-fires (λ m j k. record { ts = leaf; so = begin; i = _; asks = asks₁ k; next = _; says = says₁ m k }) call nd
 
-          module _ {s₂ : State} {a₃ b₃ : ℕ} (e : v ≡ On s₂ a₃ b₃) where
-            next : (m : Mode) {j : Judgement} (k : Asks q w (s .top) g (subAsk a b) j) → Onward (Dens q w₂) _ _ (way₁ m k) w₂ s₂ a₃ b₃
-            next m k = onward (Dens q w₂) _ _ (way₁ m k) (passes m k) e
+-- ## The right halves
 
-            asks₂ : (m : Mode) {j : Judgement} (k : Asks q w (s .top) g (subAsk a b) j)
-                → Asks q w₂ (s₂ .top) (r .g) (subAsk a₃ b₃) (subtype (c₁ m k .Δ) (next m k .x .0) (next m k .x .1))
-            asks₂ m k = let x = next m k in as-sub refl refl (run-frame (x .keep) (x .up) (c₁ m k .land .run)) (x .says .0) (x .says .1)
+module _ {t : ℕ} (c : Lefts t) where
+  came : (m : Mode) {j : Judgement} (k : At (c .on) j)
+      → Came (c .on .q) (c .w) (c .on .s) (c .r) (judge (mode m) (lefts (c .on) k) (c .on .s .left) (c .on .s .fresh))
+  came m k = gave begin (c .call .in-mode m) (asks₁ (c .on) k) (c .done)
 
-            pub arr-second : JudgePre q w₂ s₂ (r .g) (subAsk a₃ b₃)
-            arr-second = let k = pre .pre .asks in asks-sub (next either k .way .room) (asks₂ either k)
+  so : (m : Mode) {j : Judgement} (k : At (c .on) j) → Sofar (c .on .q) (c .on .w) (c .w) (c .on .s) (c .r .st) (came m k .t & leaf)
+  so m k = on begin (c .call .in-mode m) (asks₁ (c .on) k) (came m k)
 
-            pub arr-falls : s₂ .left ≤ s .left
-            arr-falls = next either (pre .pre .asks) .way .so .less
+  stays : {n : ℕ} {T : Ty} → Den (c .on .q) (c .on .w) (c .on .s .top) n T → Den (c .on .q) (c .w) (c .r .st .top) n T
+  stays d = let x = so either (c .on .pre .pre .asks) in den-frame (x .keep) (x .up) d
 
-            module _ {w₃ : List ℕ} {y : Step} (call₂ : JudgedBoth q w₂ w₃ s₂ (r .g) (subAsk a₃ b₃) y) where
-              pub arr-else₂ : NotDone y → FiresBoth q w w₃ s g (subAsk a b) y
-              unfolding _>>=_
-              arr-else₂ nd =
-                  else-fires (λ m j k. let x = next m k .way in record { ts = _; so = x .so; i = _; asks = asks₂ m k; next = _; says = x .is }) call₂ nd
+  left₂ : {j : Judgement} (k : At (c .on) j) → Den (c .on .q) (c .w) (c .r .st .top) (c .on .a₂) (parts (c .on) k .A₂)
+  left₂ k = stays (c .on .right-a .is _ _ (left (c .on .pre) k) .den)
 
-              pub arr-done : {u : Answer} {n : ℕ} {z₂ : Step} → y ≡ Done u → n ≡ ruleNumber Syntax.SubArr → Through u n 2 z₂
-                  → FiresBoth q w w₃ s g (subAsk a b) z₂
-              unfolding children _>>=_
-              arr-done d₂ en th = record {
-                in-mode = λ m. record {
-                  run = λ j k.
-                      let x = next m k .way in
-                      through-ends (x .so) (call₂ .in-mode m) (asks₂ m k) d₂ Syntax.SubArr en (λ t. refl) (omega arith) th _ (x .is);
-                };
-              }
+  right₂ : {j : Judgement} (k : At (c .on) j) → Den (c .on .q) (c .w) (c .r .st .top) (c .on .b₂) (parts (c .on) k .B₂)
+  right₂ k = stays (c .on .right-b .is _ _ (right (c .on .pre) k) .den)
+
+  pub arr-two : TwoIn (c .on .q) (c .w) (c .r .st) (c .r .g) (c .on .a₂) (c .on .b₂)
+  arr-two = let k = c .on .pre .pre .asks in let x = came either k .land in
+      record { two = record { spare = _; room = x .room; A = _; B = _; left = left₂ k; right = right₂ k }; Γ = _; run = x .run }
+
+  way : (m : Mode) {j : Judgement} (k : At (c .on) j)
+      → Way (c .on .q) (c .on .w) (c .w) (c .on .s) (c .r .st) (came m k .t & leaf) (4 * c .r .g .n + 4)
+      (rule (mode m) (judge (mode m)) j (c .on .s .left) (c .on .s .fresh))
+      (applyBoth false (came m k .Δ) (parts (c .on) k .A₂) (parts (c .on) k .B₂) >>= λ T. judge (mode m) (subtype (came m k .Δ) (T .0) (T .1))
+      >>= λ u. give (Syntax.SubArr, int, u .1, came m k .t & u .2 & leaf))
+  unfolding branch _>>=_ andThen give
+  way m k = record { so = so m k; room = came m k .land .room; is = says₁ (c .on) m k ∙ then-done _ (came m k .is) }
+
+  module _ {w₂ : List ℕ} {v : Mid} (mid : AppliedBoth false (c .on .q) (c .w) w₂ (c .r .st) (c .r .g) (c .on .a₂) (c .on .b₂) v) where
+    passes : (m : Mode) {j : Judgement} (k : At (c .on) j) → Passes (c .on .q) (c .w) w₂ (c .r .st) (Dens (c .on .q) w₂) v
+        (applyBoth false (came m k .Δ) (parts (c .on) k .A₂) (parts (c .on) k .B₂) (c .r .st .left) (c .r .st .fresh))
+    passes m k = mid .passes _ _ _ (came m k .land .run) (left₂ k) (right₂ k)
+
+    pub arr-end : {y : Step} → v ≡ End y → Ends (c .on) w₂ y
+    arr-end e = record { in-mode = λ m. record { run = λ j k. there (Dens (c .on .q) w₂) _ _ (way m k) (passes m k) e } }
+
+module _ {t : ℕ} (b : Between t) where
+  -- the rule as it was asked
+  abbrev asked : Halved t
+  asked = b .on .on
+
+  next : (m : Mode) {j : Judgement} (k : At asked j) → Onward (Dens (asked .q) (b .w)) _ _ (way (b .on) m k) (b .w) (b .s) (b .a) (b .b)
+  next m k = onward (Dens (asked .q) (b .w)) _ _ (way (b .on) m k) (passes (b .on) (b .call) m k) (b .done)
+
+  asks₂ : (m : Mode) {j : Judgement} (k : At asked j)
+      → Asks (asked .q) (b .w) (b .s .top) (b .on .r .g) (subAsk (b .a) (b .b)) (subtype (came (b .on) m k .Δ) (next m k .x .0) (next m k .x .1))
+  asks₂ m k = let x = next m k in as-sub refl refl (run-frame (x .keep) (x .up) (came (b .on) m k .land .run)) (x .says .0) (x .says .1)
+
+  pub arr-second : (3 * b .s .left < t) × JudgePre (asked .q) (b .w) (b .s) (b .on .r .g) (subAsk (b .a) (b .b))
+  arr-second = let k = asked .pre .pre .asks in let x = next either k .way in
+      (omega (arith, asked .falls, x .so .less), asks-sub (x .room) (asks₂ either k))
+
+  module _ {w₃ : List ℕ} {y : Step} (call : JudgedBoth (asked .q) (b .w) w₃ (b .s) (b .on .r .g) (subAsk (b .a) (b .b)) y) where
+    pub arr-else₂ : NotDone y → Ends asked w₃ y
+    unfolding _>>=_
+    arr-else₂ nd = else-fires (λ m j k. let x = next m k .way in record { ts = _; so = x .so; i = _; asks = asks₂ m k; next = _; says = x .is }) call nd
+
+    pub arr-done : {u : Answer} {z : Step} → y ≡ Done u → Through u 25 2 z → Ends asked w₃ z
+    unfolding children ruleNumber _>>=_
+    arr-done d th = record {
+      in-mode = λ m. record {
+        run = λ j k.
+            let x = next m k .way in
+            through-ends (x .so) (call .in-mode m) (asks₂ m k) d Syntax.SubArr refl (λ t. refl) (omega arith) th _ (x .is);
+      };
+    }

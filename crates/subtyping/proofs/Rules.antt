@@ -7,25 +7,24 @@ use Rattle.definition.specs.Syntax.{TyVar, Ty, int, etvar, Ctx, Side, onL, onR,
 use Rattle.definition.specs.Run.{M, andThen, give, refuse, _>>=_}
 use Rattle.definition.specs.Rules.{Fired, Judge, closes, subInst, rule, judge}
 use Rattle.definition.specs.Reply.{errorCode, errorAt}
-use Rattle.layout.specs.Denotes.{Den, Run}
-use Rattle.layout.specs.Room.{Room}
+use Rattle.layout.specs.Denotes.{Den}
 use Rattle.layout.specs.declared.Span.{Span}
 use Rattle.layout.specs.declared.State.{State}
 use Rattle.types.proofs.Held.{room-held}
-use Rattle.judging.specs.Asking.{mode, Asks, as-sub, subAsk, instAsk, JudgePre, RulePre}
+use Rattle.judging.specs.Asking.{mode, Asks, subAsk, instAsk, JudgePre, RulePre}
 use Rattle.judging.specs.Ending.{e-subtyping, Failed}
 use Rattle.judging.specs.declared.Answer.{Answer}
 use Rattle.judging.specs.declared.Mode.{Mode}
 use Rattle.judging.specs.declared.Step.{Step}
 use Rattle.judging.specs.declared.Step.the-variants.{Done, Fail}
-use Rattle.judging.proofs.Asking.{small-sub, SubAsked, sub-asked, asks-inst}
-use Rattle.judging.proofs.Chain.{room-ready, begin, refuses, room-within}
+use Rattle.judging.proofs.Asking.{SubAsked, sub-asked, asks-inst}
+use Rattle.judging.proofs.Chain.{begin, refuses, room-within}
 use Rattle.judging.proofs.Steps.{NotDone}
 use Rattle.steps.specs.Ending.{Through}
 use Rattle.steps.specs.Modes.{JudgedBoth, FiresBoth}
 use Rattle.steps.specs.Sides.{side}
 use Rattle.steps.specs.declared.Side as program
-use Rattle.steps.proofs.Going.{ref-small, room-less, inst-pre, else-fires, ends, through-ends}
+use Rattle.steps.proofs.Going.{room-less, inst-pre, else-fires, ends, through-ends}
 use Rattle.subtyping.specs.Arms.{oneOf, ruleInst, BothHeld, Comes, Fits, fits-refl, fits-inst, fits-none, Chosen, ArmPre}
 use Rattle.subtyping.specs.declared.Arm.{Arm}
 use Rattle.subtyping.specs.declared.Arm.the-variants as arm
@@ -36,15 +35,6 @@ pub both-held : {q w : List ℕ} {s : State} {g : Span} {a b : ℕ} → RulePre 
 both-held {a = a} {b = b} pre =
     let v = sub-asked a b (pre .asks) in
     record { left = room-held (pre .room) (v .left); right = room-held (pre .room) (v .right) }
-
-pub sub-pre : {q w : List ℕ} {s : State} {k : ℕ} {g : Span} {a b : ℕ} {Γ : Ctx} {A B : Ty} → Room q w s k → Run q w (s .top) (g .at) (g .n) Γ
-    → Den q w (s .top) a A → Den q w (s .top) b B → JudgePre q w s g (subAsk a b)
-sub-pre {g = g} room run d e = record {
-  ready = room-ready g room;
-  small = small-sub (ref-small room d) (ref-small room e);
-  j = _;
-  asks = as-sub refl refl run d e;
-}
 
 -- ## By the side
 

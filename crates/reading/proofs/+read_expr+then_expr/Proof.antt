@@ -104,8 +104,8 @@ read-expr-returns-14 t c = search expr-none
 
 then-expr-read-expr-requires : (t : ℕ) → then-expr-lts.Need-read-expr-requires (then-expr-claims t) (then-expr-at t) then-expr.Post
 then-expr-read-expr-requires t c κs =
-    let at-start = c .before .before .before .before in
-    let f = onward-past (c .before .before2 .given .1) (at-start .pre .1) in (omega arith, f .1)
+    let at-before2 = c .before in let at-start = at-before2 .before .before .before in
+    let f = onward-past (at-before2 .before2 .given .1) (at-start .pre .1) in (omega arith, f .1)
 
 then-expr-returns : (t : ℕ) → then-expr-lts.Need-returns (then-expr-claims t) (then-expr-at t) then-expr.Post
 then-expr-returns t c = rw (c .anew .ensures) (then-on (c .before .before .before .before2 .given .1) (c .before .read-expr .ensures))

@@ -62,8 +62,8 @@ read-type-returns-8 t c = search type-none
 
 then-type-read-type-requires : (t : ℕ) → then-type-lts.Need-read-type-requires (then-type-claims t) (then-type-at t) then-type.Post
 then-type-read-type-requires t c κs =
-    let at-start = c .before .before .before .before in
-    let f = onward-past (c .before .before2 .given .1) (at-start .pre .1) in (omega arith, f .1)
+    let at-before2 = c .before in let at-start = at-before2 .before .before .before in
+    let f = onward-past (at-before2 .before2 .given .1) (at-start .pre .1) in (omega arith, f .1)
 
 then-type-returns : (t : ℕ) → then-type-lts.Need-returns (then-type-claims t) (then-type-at t) then-type.Post
 then-type-returns t c = rw (c .anew .ensures) (then-on (c .before .before .before .before2 .given .1) (c .before .read-type .ensures))

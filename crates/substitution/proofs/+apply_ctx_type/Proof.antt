@@ -100,8 +100,10 @@ module _ (t : ℕ) where
       record { on = forall (search); made = gone (apply-does (b .apply-ctx-type4 .ensures)) (c .st12 .given .1) }
 
 returns-2 : (t : ℕ) → lts.Need-returns-2 (claims t) (asked t) own.Post
-returns-2 t c = let i = call t (search) in let at-find = c .before in applied (given-at-once i
-    (λ Γ run. unsolved-applied (i .began .tag) (search) (at-find .before .before .name-of .ensures) (at-find .find .ensures) Γ run (c .if1 .taken)))
+returns-2 t c =
+    let at-find = c .before in let at-name-of = at-find .before .before in
+    let i = call t (search) in applied (given-at-once i
+    (λ Γ run. unsolved-applied (i .began .tag) (search) (at-name-of .name-of .ensures) (at-find .find .ensures) Γ run (c .if1 .taken)))
 
 returns-9 : (t : ℕ) → lts.Need-returns-9 (claims t) (asked t) own.Post
 returns-9 t c = let i = call t (search) in let others = c .match2 .rest in

@@ -86,15 +86,19 @@ module _ (t : ℕ) where
   under c = record { on = forall (search); made = gone (subst-does (c .before .before .before .before .subst-type3 .ensures)) (c .st12 .given .1) }
 
 returns-4 : (t : ℕ) → lts.Need-returns-4 (claims t) (asked t) own.Post
-returns-4 t c = let i = call t (search) in
-    substed (given-at-once i (λ B g. shadowed-substed _ (i .began .tag) (search) (c .before .before .before .name-of .ensures) (c .if1 .taken) B))
+returns-4 t c =
+    let at-name-of = c .before .before .before in
+    let i = call t (search) in
+    substed (given-at-once i (λ B g. shadowed-substed _ (i .began .tag) (search) (at-name-of .name-of .ensures) (c .if1 .taken) B))
 
 returns-6 : (t : ℕ) → lts.Need-returns-6 (claims t) (asked t) own.Post
 returns-6 t c = let i = call t (search) in substed (given-at-once i (λ B g. plain-substed _ (i .began .tag) (c .if2 .taken) B))
 
 returns-9 : (t : ℕ) → lts.Need-returns-9 (claims t) (asked t) own.Post
-returns-9 t c = let i = call t (search) in let others = c .before .before .before .match2 .rest in
-    substed (given-at-once i (name-substed _ (i .began .tag) (omega (arith, c .before .before .if2 .left))
+returns-9 t c =
+    let at-if2 = c .before .before in let at-match2 = at-if2 .before in
+    let i = call t (search) in let others = at-match2 .match2 .rest in
+    substed (given-at-once i (name-substed _ (i .began .tag) (omega (arith, at-if2 .if2 .left))
     (no-parts (held (i .asks)) (i .began .tag) (others .0 .1) (others .1)) (c .chosen .ensures)))
 
 closed : {M : Type 1} (t : ℕ) → lts.Closed (claims t) (asked t) own.Post M

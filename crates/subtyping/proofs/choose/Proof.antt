@@ -7,7 +7,8 @@ use Rattle.subtyping.proofs.choose.Tie as tie
 
 mul-both : tie.Need-mul-both
 mul-both c =
-    let l = codes-small (c .before .before .before .before .before .before .pre) (c .before .tag .ensures) (c .tag2 .ensures) in omega (arith, l .0)
+    let at-tag = c .before in let at-start = at-tag .before .before .before .before .before in
+    let l = codes-small (at-start .pre) (at-tag .tag .ensures) (c .tag2 .ensures) in omega (arith, l .0)
 
 add-both : tie.Need-add-both
 add-both c =

@@ -4,7 +4,8 @@ use Prim.Native.Nat.{ℕ}
 use mathlib.Core.Logic.{⊎-elim, inl, inr}
 use Rattle.definition.specs.Syntax.{pick}
 use Rattle.inference.proofs.InferTwo.{Begun, Placed, Operator, Sided, Left, Aimed, op-word, op-done, op-asks, op-asks₂}
-use Rattle.inference.proofs.Premise.{unless, may-ask, as-long}
+use Rattle.judging.proofs.Chain.{as-long}
+use Rattle.inference.proofs.Premise.{unless, may-ask}
 use Rattle.inference.proofs.Starting.{table}
 use Rattle.inference.proofs.infer_binop.Reads as infer-binop
 use Rattle.inference.proofs.+app_arr+app_etvar+app_rule+check+chk_all+chk_lam+chk_rule+chk_sub+inf_rule+infer+infer_abs+infer_ann+infer_app+infer_application+infer_binop+infer_if+infer_let+infer_tabs+infer_tapp.Lts-infer_binop as infer-binop-lts

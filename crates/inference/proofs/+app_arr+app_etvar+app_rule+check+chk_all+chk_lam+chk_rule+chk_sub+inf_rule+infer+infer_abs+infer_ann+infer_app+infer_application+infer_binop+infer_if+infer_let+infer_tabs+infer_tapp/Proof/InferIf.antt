@@ -2,7 +2,8 @@
 use borrow.Author.Needs.{needs}
 use Prim.Native.Nat.{ℕ}
 use Rattle.inference.proofs.InferIf.{If, Checked, Inferred, Both, asked, if-table₂, if-asks, if-asks₂, if-asks₃, if-two, if-else₄, if-done}
-use Rattle.inference.proofs.Premise.{unless, may-ask, as-long}
+use Rattle.judging.proofs.Chain.{as-long}
+use Rattle.inference.proofs.Premise.{unless, may-ask}
 use Rattle.inference.proofs.Starting.{table}
 use Rattle.inference.proofs.infer_if.Reads as infer-if
 use Rattle.inference.proofs.+app_arr+app_etvar+app_rule+check+chk_all+chk_lam+chk_rule+chk_sub+inf_rule+infer+infer_abs+infer_ann+infer_app+infer_application+infer_binop+infer_if+infer_let+infer_tabs+infer_tapp.Lts-infer_if as infer-if-lts

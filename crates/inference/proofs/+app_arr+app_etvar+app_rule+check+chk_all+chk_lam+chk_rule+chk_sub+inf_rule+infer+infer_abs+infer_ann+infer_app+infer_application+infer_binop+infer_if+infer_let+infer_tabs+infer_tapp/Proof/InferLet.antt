@@ -3,7 +3,8 @@ use borrow.Author.Needs.{needs}
 use Prim.Native.Nat.{ℕ}
 use mathlib.Core.Path.{refl}
 use Rattle.inference.proofs.InferTwo.{Begun, Placed, First, Bound, let-name, let-space, let-done, let-asks, let-asks₂}
-use Rattle.inference.proofs.Premise.{may-ask, unless, space-back, as-long}
+use Rattle.judging.proofs.Chain.{as-long}
+use Rattle.inference.proofs.Premise.{may-ask, unless, space-back}
 use Rattle.inference.proofs.Starting.{table}
 use Rattle.inference.proofs.infer_let.Reads as infer-let
 use Rattle.inference.proofs.+app_arr+app_etvar+app_rule+check+chk_all+chk_lam+chk_rule+chk_sub+inf_rule+infer+infer_abs+infer_ann+infer_app+infer_application+infer_binop+infer_if+infer_let+infer_tabs+infer_tapp.Lts-infer_let as infer-let-lts
