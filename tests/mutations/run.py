@@ -109,7 +109,8 @@ def verdict(status, text, others):
 
 def obligations(scratch, crate):
     """The needs of each function, by name."""
-    if subprocess.run(["nice", "-n", "5", "rt", "goals", crate], cwd=scratch, stdout=subprocess.DEVNULL, stderr=subprocess.DEVNULL).returncode != 0:
+    run = subprocess.run(["nice", "-n", "5", "rt", "goals", crate], cwd=scratch, stdout=subprocess.DEVNULL, stderr=subprocess.DEVNULL)
+    if run.returncode not in (0, 1):  # 1: they are written, and not proved
         sys.exit(f"`rt goals {crate}` fails")
     return {file: needs(file) for file in (scratch / "target/goals" / crate).rglob("Lts*.antt")}
 
