@@ -7,11 +7,11 @@ use native.Mathlib.Omega.{arith}
 use lib.ListN.{length, getD}
 use Rattle.definition.specs.Syntax
 use Rattle.definition.specs.Syntax.{TyVar, Ty, int, arrow, Expr, Ctx, onR, Judgement, infer, check, subtype, ruleNumber, leaf, _&_, children, varBnd, tvarBnd}
-use Rattle.definition.specs.Run.{Out, done, _>>=_, give}
+use Rattle.definition.specs.Run.{Out, done, M, _>>=_, give}
 use Rattle.definition.specs.Contexts.{kVar, kTVar, _▹_, rightOf}
 use Rattle.definition.specs.Types.{apply}
 use Rattle.definition.specs.Question as question
-use Rattle.definition.specs.Rules.{Judge, judge, tyCode, exprCode, parameter, chkLam, chkAll, chkSub, checkRule, branch}
+use Rattle.definition.specs.Rules.{Result, Judge, judge, tyCode, exprCode, parameter, chkLam, chkAll, chkSub, checkRule, branch}
 use Rattle.layout.specs.Names.{tm, ty}
 use Rattle.layout.specs.Denotes.{Den, written, Run}
 use Rattle.layout.specs.declared.Span.{Span}
@@ -218,47 +218,74 @@ module _ (m : Mode) {q w : List ℕ} {s : State} {g : Span} {ex r : ℕ} (pre : 
 
 -- ## ChkSub
 
-module _ (m : Mode) {q w : List ℕ} {s : State} {g : Span} {ex r : ℕ} (pre : CheckPre q w s g ex r 21) where
-  pub sub-way : {j : Judgement} (k : At (pre .rule) j)
-      → Way q w w s s leaf (20 + 28 * g .n) (outcome m s j)
-      (judge (mode m) (infer (check-asked ex r k .Γ) (check-asked ex r k .e))
-      >>= λ r₁. apply (r₁ .1) (r₁ .0) >>= λ A. apply (r₁ .1) (check-asked ex r k .T)
-      >>= λ B. judge (mode m) (subtype (r₁ .1) A B) >>= λ r₂. give (Syntax.ChkSub, int, r₂ .1, r₁ .2 & r₂ .2 & leaf))
+-- it is asked; t is the cycle's measure
+pub record Sub (t : ℕ) : Type 0 where
+  pub m : Mode
+  pub q : List ℕ
+  pub w : List ℕ
+  pub s : State
+  pub g : Span
+  pub ex : ℕ
+  pub r : ℕ
+  pub pre : CheckPre q w s g ex r 21
+  pub falls : 3 * s .left + 1 ≡ t
+
+-- its expression was inferred
+pub record SubInferred (t : ℕ) : Type 0 where
+  pub on : Sub t
+  pub w : List ℕ
+  pub z : Step
+  pub u : Answer
+  pub call : Judged (on .m) (on .q) (on .w) w (on .s) (on .g) (inferAsk (on .ex)) z
+  pub done : z ≡ Done u
+
+module _ {t : ℕ} (i : Sub t) where
+  pub sub-way : {j : Judgement} (k : At (i .pre .rule) j)
+      → let v = check-asked (i .ex) (i .r) k in Way (i .q) (i .w) (i .w) (i .s) (i .s) leaf (20 + 28 * i .g .n) (outcome (i .m) (i .s) j)
+      (judge (mode (i .m)) (infer (v .Γ) (v .e)) >>= λ r₁. apply (r₁ .1) (r₁ .0) >>= λ A. apply (r₁ .1) (v .T)
+      >>= λ B. judge (mode (i .m)) (subtype (r₁ .1) A B) >>= λ r₂. give (Syntax.ChkSub, int, r₂ .1, r₁ .2 & r₂ .2 & leaf))
   unfolding chkSub
   sub-way k =
-      let v = check-asked ex r k in
-      begin-check m (pre .rule) (v .is) refl refl (chosen-sub (mode m) (judge (mode m)) (v .Γ) (v .e) (v .T) (sym (pre .code) ∙ expr-code (v .at) .is) (pre .tag .is (v .T) (v .den)) (pre .choice))
+      let v = check-asked (i .ex) (i .r) k in
+      begin-check (i .m) (i .pre .rule) (v .is) refl refl (chosen-sub (mode (i .m)) (judge (mode (i .m))) (v .Γ) (v .e) (v .T)
+      (sym (i .pre .code) ∙ expr-code (v .at) .is) (i .pre .tag .is (v .T) (v .den)) (i .pre .choice))
 
-  pub sub-asks : Premise m (pre .rule) _ _ (λ j k. sub-way k) g (inferAsk ex)
-  sub-asks = record { at = λ j k. ask-infer (check-asked ex r k .run) (check-asked ex r k .at) }
+  pub sub-asks : Premise (i .m) (i .pre .rule) _ _ (λ j k. sub-way k) (i .g) (inferAsk (i .ex))
+  sub-asks = record { at = λ j k. let v = check-asked (i .ex) (i .r) k in ask-infer (v .run) (v .at) }
 
-  module _ {w₁ : List ℕ} {z : Step} (call : Judged m q w w₁ s g (inferAsk ex) z) {t : Answer} (d : z ≡ Done t) where
-    pub sub-back : {j : Judgement} (k : At (pre .rule) j) → Returns sub-asks call k t
-    sub-back k = returns sub-asks call d k
+module _ {t : ℕ} (c : SubInferred t) where
+  pub sub-back : {j : Judgement} (k : At (c .on .pre .rule) j) → Returns (sub-asks (c .on)) (c .call) k (c .u)
+  sub-back k = returns (sub-asks (c .on)) (c .call) (c .done) k
 
-    pub sub-two : TwoIn q w₁ (t .st) (t .g) (t .ty) r
-    sub-two = let k = pre .rule .asks in let b = sub-back k in
-        record { two = record { spare = _; room = b .way .room; A = _; B = _; left = b .den; right = b .stays (check-asked ex r k .den) }; Γ = _; run = b .run }
+  -- the type that it is checked against is denoted still
+  sub-type : {j : Judgement} (k : At (c .on .pre .rule) j) → Den (c .on .q) (c .w) (c .u .st .top) (c .on .r) (check-asked (c .on .ex) (c .on .r) k .T)
+  sub-type k = sub-back k .stays (check-asked (c .on .ex) (c .on .r) k .den)
 
-    module _ {w₂ : List ℕ} {y : Step} (call₂ : Related true q w₁ w₂ (t .st) (t .g) (t .ty) r y) where
-      sub-way₂ : {j : Judgement} (k : At (pre .rule) j)
-          → Way q w w₁ s (t .st) (sub-back k .t & leaf) (4 * t .g .n + 4) (outcome m s j)
-          (relate m true (sub-back k .Δ) (sub-back k .C) (check-asked ex r k .T) >>= λ r₂. give (Syntax.ChkSub, int, r₂ .1, sub-back k .t & r₂ .2 & leaf))
-      unfolding branch
-      sub-way₂ k = turn (sub-back k .way) (regroup _ _ _ _)
+  pub sub-two : TwoIn (c .on .q) (c .w) (c .u .st) (c .u .g) (c .u .ty) (c .on .r)
+  sub-two = let k = c .on .pre .rule .asks in let b = sub-back k in
+      record { two = record { spare = _; room = b .way .room; A = _; B = _; left = b .den; right = sub-type k }; Γ = _; run = b .run }
 
-      sub-runs : {j : Judgement} (k : At (pre .rule) j)
-          → RunsJ q w₁ w₂ (t .st) y (relate m true (sub-back k .Δ) (sub-back k .C) (check-asked ex r k .T) (t .st .left) (t .st .fresh))
-      sub-runs k = let b = sub-back k in call₂ .run m _ _ _ (b .run) (b .den) (b .stays (check-asked ex r k .den))
+  abbrev sub-relates : {j : Judgement} (k : At (c .on .pre .rule) j) → M Result
+  sub-relates k = relate (c .on .m) true (sub-back k .Δ) (sub-back k .C) (check-asked (c .on .ex) (c .on .r) k .T)
 
-      pub sub-else₂ : NotDone y → Fires m q w w₂ s g (checkAsk ex r) y
-      sub-else₂ nd = record { run = λ j k. otherwise _ _ (sub-way₂ k) (sub-runs k) nd }
+  module _ {w₂ : List ℕ} {y : Step} (call₂ : Related true (c .on .q) (c .w) w₂ (c .u .st) (c .u .g) (c .u .ty) (c .on .r) y) where
+    sub-way₂ : {j : Judgement} (k : At (c .on .pre .rule) j)
+        → Way (c .on .q) (c .on .w) (c .w) (c .on .s) (c .u .st) (sub-back k .t & leaf) (4 * c .u .g .n + 4) (outcome (c .on .m) (c .on .s) j)
+        (sub-relates k >>= λ r₂. give (Syntax.ChkSub, int, r₂ .1, sub-back k .t & r₂ .2 & leaf))
+    unfolding branch
+    sub-way₂ k = turn (sub-back k .way) (regroup _ _ _ _)
 
-      pub sub-done : {u : Answer} {o : Step} → y ≡ Done u
-          → PlainOut (u .st) (u .g) 2048 21 2 o → Fires m q w w₂ s g (checkAsk ex r) o
-      unfolding ruleNumber children
-      sub-done d₂ fin = record {
-        run = λ j k.
-            let b = back _ _ (sub-way₂ k) (sub-runs k) d₂ in
-            finish Syntax.ChkSub (fin .finished q w₂) (b .run) (int-den (b .way .room .base)) (b .way) (omega arith) refl refl (omega arith);
-      }
+    sub-runs : {j : Judgement} (k : At (c .on .pre .rule) j) → RunsJ (c .on .q) (c .w) w₂ (c .u .st) y (sub-relates k (c .u .st .left) (c .u .st .fresh))
+    sub-runs k = let b = sub-back k in call₂ .run (c .on .m) _ _ _ (b .run) (b .den) (sub-type k)
+
+    pub sub-else₂ : NotDone y → Fires (c .on .m) (c .on .q) (c .on .w) w₂ (c .on .s) (c .on .g) (checkAsk (c .on .ex) (c .on .r)) y
+    sub-else₂ nd = record { run = λ j k. otherwise _ _ (sub-way₂ k) (sub-runs k) nd }
+
+    pub sub-done : {v : Answer} {o : Step} → y ≡ Done v → PlainOut (v .st) (v .g) 2048 21 2 o
+        → Fires (c .on .m) (c .on .q) (c .on .w) w₂ (c .on .s) (c .on .g) (checkAsk (c .on .ex) (c .on .r)) o
+    unfolding ruleNumber children
+    sub-done d₂ fin = record {
+      run = λ j k.
+          let b = back _ _ (sub-way₂ k) (sub-runs k) d₂ in
+          finish Syntax.ChkSub (fin .finished _ w₂) (b .run) (int-den (b .way .room .base)) (b .way) (omega arith) refl refl (omega arith);
+    }
