@@ -1,4 +1,5 @@
-"""Recorded answers as theorems by computation: a scratch repository with the crate definition, as it is or edited, and a crate `recorded`."""
+"""Recorded answers as theorems by computation: in a scratch repository with the crate definition and a crate `recorded`, or in the crate
+definition itself, as it is or edited."""
 import pathlib
 import shutil
 import subprocess
@@ -47,8 +48,23 @@ def write(folder, lines):
     (proofs / "Lib.antt").write_text("".join(f"pub mod {name}\n" for name in modules))
 
 
+def write_within(folder, lines):
+    """The crate definition alone, in a folder of its name that is not there yet, with the answers as proofs of its own."""
+    shutil.copytree(ROOT / "crates/definition", folder)
+    (folder / "proofs").mkdir()
+    (folder / "proofs/Lib.antt").write_text("pub mod Computed\n")
+    text = HEAD.format(first=1, last=len(lines)) + "".join(theorem(number, line) for number, line in enumerate(lines, 1))
+    (folder / "proofs/Computed.antt").write_text(text.replace("Rattle.definition.specs", "Rattle.definition.specs"))
+
+
 def check(folder):
-    """Whether the prover computes every answer, and what it says."""
+    """Whether the prover computes every answer of the repository, and what it says."""
     run = subprocess.run(["rt", "check"], cwd=folder, capture_output=True, text=True)
     told = run.stdout + run.stderr
     return run.returncode == 0 and "rt: ok" in told, told
+
+
+def check_within(folder):
+    """What the prover says of the crate definition alone."""
+    run = subprocess.run(["rt", "check", str(folder)], capture_output=True, text=True)
+    return run.stdout + run.stderr

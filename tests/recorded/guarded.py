@@ -14,7 +14,7 @@ import re
 import sys
 import tempfile
 
-from computed import check, write
+from computed import check_within, write_within
 
 sys.path.insert(0, str(pathlib.Path(__file__).resolve().parent.parent))
 from desk import files, recorded, verdict  # noqa: E402
@@ -41,17 +41,17 @@ def told(fault, lines):
     """None where the prover refuses an answer of the definition with the fault; else what is wrong."""
     name, old, new = fault
     with tempfile.TemporaryDirectory() as room:
-        folder = pathlib.Path(room) / "made"
-        write(folder, lines)
-        file = folder / f"crates/definition/specs/{name}.antt"
+        folder = pathlib.Path(room) / "definition"
+        write_within(folder, lines)
+        file = folder / f"specs/{name}.antt"
         text = file.read_text(encoding="utf-8") if file.is_file() else ""
         if text.count(old) != 1:
             return f"stands {text.count(old)} times in {name}"
         file.write_text(text.replace(old, new), encoding="utf-8")
-        computed, said = check(folder)
-    if "rt: definition proved" not in said:
+        said = check_within(folder)
+    if re.search(r"/specs/\w+\.antt:\d+:\d+: error", said):
         return "the definition does not check with it"
-    return None if re.search(r"error: `answer\d+`", said) and not computed else "no answer of its group tells it"
+    return None if re.search(r"/proofs/Computed\.antt:\d+:\d+: error: `answer\d+`", said) and "logic=not-proved" in said else "no answer of its group tells it"
 
 
 def main():
