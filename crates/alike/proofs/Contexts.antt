@@ -7,11 +7,12 @@ use mathlib.Core.List.{_++_}
 use lib.ListN.{length}
 use lib.Dec.{T, eqb, eqb→eq, eqb-refl}
 use Rattle.laws.proofs.Steps.{is-true}
-use Rattle.definition.specs.Syntax.{TmVar, TyVar, Entry, Ctx}
-use Rattle.definition.specs.Contexts.{Key, kVar, kTVar, kETVar, kSETVar, kMark, keyOf, kindOf, nameOf, hit, held, find, leftOf, rightOf, has, _▹_, replace, isSolved, solved, solvedAndRight, before}
+use Rattle.definition.specs.Syntax.{TmVar, TyVar, Binding, Entry, Ctx}
+use Rattle.definition.specs.Contexts.{Key, kVar, kTVar, kETVar, kSETVar, kMark, bindingKey, keyOf, kindOf, nameOf, hit, bindingType, held, find, leftOf, rightOf, has, _▹_, replace, isSolved, solved, solvedAndRight, before}
 use Rattle.definition.specs.Types.{sameName}
+use Rattle.definition.specs.Rules.{Here, _from_}
 use Rattle.alike.specs.Alike.{Pairing, OneToOne, Written, Named, written, fresh}
-use Rattle.alike.proofs.Related.{VarR, NameR, TyR, intR, EntryR, varBndR, tvarBndR, etvarBndR, setvarBndR, markR, CtxR, nilR, consR, OptionR, noneR, someR, pickR}
+use Rattle.alike.proofs.Related.{BindingR, VarR, NameR, TyR, intR, EntryR, varBndR, tvarBndR, etvarBndR, setvarBndR, markR, CtxR, nilR, consR, OptionR, noneR, someR, pickR}
 
 -- ## Names: equal on one side where equal on the other
 
@@ -81,21 +82,29 @@ module _ {P : Pairing} where
   unfolding kindOf nameOf
   kMarkR p = record { kinds = refl; names = ofType (p .numbers) }
 
+  bindingKeyR : {b b′ : Binding} → BindingR P b b′ → KeyR P (bindingKey b) (bindingKey b′)
+  unfolding bindingKey
+  bindingKeyR (varBndR p t) = kVarR p
+  bindingKeyR (tvarBndR p) = kTVarR p
+  bindingKeyR (etvarBndR p) = kETVarR p
+  bindingKeyR (setvarBndR p t) = kSETVarR p
+  bindingKeyR (markR p) = kMarkR p
+
   keyOfR : {e e′ : Entry} → EntryR P e e′ → KeyR P (keyOf e) (keyOf e′)
   unfolding keyOf
-  keyOfR (varBndR p t) = kVarR p
-  keyOfR (tvarBndR p) = kTVarR p
-  keyOfR (etvarBndR p) = kETVarR p
-  keyOfR (setvarBndR p t) = kSETVarR p
-  keyOfR (markR p) = kMarkR p
+  keyOfR e = bindingKeyR (e .bindings)
+
+  bindingTypeR : {b b′ : Binding} → BindingR P b b′ → TyR P (bindingType b) (bindingType b′)
+  unfolding bindingType
+  bindingTypeR (varBndR p t) = t
+  bindingTypeR (tvarBndR p) = intR
+  bindingTypeR (etvarBndR p) = intR
+  bindingTypeR (setvarBndR p t) = t
+  bindingTypeR (markR p) = intR
 
   heldR : {e e′ : Entry} → EntryR P e e′ → TyR P (held e) (held e′)
   unfolding held
-  heldR (varBndR p t) = t
-  heldR (tvarBndR p) = intR
-  heldR (etvarBndR p) = intR
-  heldR (setvarBndR p t) = t
-  heldR (markR p) = intR
+  heldR e = bindingTypeR (e .bindings)
 
   -- names are compared where the kinds are the same, and then both are variables' or both are types'
   hitR : {k k′ : Key} {e e′ : Entry} → KeyR P k k′ → EntryR P e e′ → hit k e ≡ hit k′ e′
@@ -140,6 +149,9 @@ module _ {P : Pairing} where
   joinR : {Γ Γ′ Δ Δ′ : Ctx} → CtxR P Γ Γ′ → CtxR P Δ Δ′ → CtxR P (Γ ++ Δ) (Γ′ ++ Δ′)
   joinR nilR q = q
   joinR (consR e p) q = consR e (joinR p q)
+
+  pub fromR : (h : Here) {b b′ : Binding} → BindingR P b b′ → EntryR P (b from h) (b′ from h)
+  fromR h b = record { bindings = b }
 
   pub pushR : {Γ Γ′ : Ctx} {e e′ : Entry} → CtxR P Γ Γ′ → EntryR P e e′ → CtxR P (Γ ▹ e) (Γ′ ▹ e′)
   unfolding _▹_

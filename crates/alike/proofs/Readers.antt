@@ -9,8 +9,8 @@ use lib.Seq.{take-at, drop-at}
 use lib.Dec.{leb, ltb, le→leb, lt→ltb}
 use Rattle.laws.proofs.Steps.{is-true}
 use Rattle.definition.specs.Syntax.{pick, TmVar, TyVar}
-use Rattle.definition.specs.Question.{Read, got, Reader, next, _>>=_, give, badShape, word, any, within, name, variable, typeName, row, oneOf, end, whole, counted, empty, Mode, plain, strict, mode}
-use Rattle.alike.specs.Alike.{Pairing, Label, the, half, truth, section, written, InQuestions, Each, none, more}
+use Rattle.definition.specs.Question.{Read, got, Reader, next, _>>=_, give, badShape, word, any, within, written, variable, typeName, row, oneOf, end, whole, counted, empty, Mode, plain, strict, mode}
+use Rattle.alike.specs.Alike.{Pairing, Label, the, half, truth, section, Named, InQuestions, Each, none, more}
 use Rattle.alike.proofs.Related.{VarR, NameR}
 use Rattle.alike.proofs.Words.{lengthL, lengthR, Parts, parts, splitE}
 
@@ -94,12 +94,12 @@ anyTakes : {w : ℕ} → Takes any w w
 unfolding any word give
 anyTakes = record { is = λ p ws. refl }
 
-variableTakes : {x : ℕ} → x < 1_000_000 → Takes variable x (record { number = x })
-unfolding variable name word pick _>>=_ next give
+variableTakes : {x : ℕ} → x < 1_000_000 → Takes (variable written) x (record { number = x })
+unfolding variable written word pick _>>=_ next give
 variableTakes {x} h = record { is = λ p ws. rw (is-true (ltb x 1_000_000) (lt→ltb x 1_000_000 h)) refl }
 
-pub typeNameTakes : {a : ℕ} → a < 1_000_000 → Takes typeName a (record { number = a })
-unfolding typeName name word pick _>>=_ next give
+pub typeNameTakes : {a : ℕ} → a < 1_000_000 → Takes (typeName written) a (record { number = a })
+unfolding typeName written word pick _>>=_ next give
 typeNameTakes {a} h = record { is = λ p ws. rw (is-true (ltb a 1_000_000) (lt→ltb a 1_000_000 h)) refl }
 
 pub modeTakes : (m : ℕ) → m ≤ 1 → (k : Mode) × Takes mode m k
@@ -129,19 +129,19 @@ module _ {P : Pairing} {A B : Type 0} {W : A → A → Type 0} {m m′ : Reader 
 module _ {P : Pairing} {A : Type 0} {W : A → A → Type 0} {s : List Label} where
   -- a variable's name
   pub variableR : (f f′ : TmVar → Reader A) → ((x x′ : TmVar) → VarR P x x′ → Reads P W (f x) (f′ x′) s)
-      → Reads P W (_>>=_ variable f) (_>>=_ variable f′) (Label.variable ∷ s)
+      → Reads P W (_>>=_ (variable written) f) (_>>=_ (variable written) f′) (Label.variable ∷ s)
   variableR f f′ h = wordR by
     where
-      by : (w w′ : ℕ) → InQuestions P Label.variable w w′ → Then P W variable variable f f′ s w w′
+      by : (w w′ : ℕ) → InQuestions P Label.variable w w′ → Then P W (variable written) (variable written) f f′ s w w′
       by w w′ (InQuestions.variables x) = go (variableTakes (x .low)) (variableTakes (x .low′)) (h _ _ (record { numbers = x }))
 
   -- a type's name
   pub typeNameR : (f f′ : TyVar → Reader A) → ((a a′ : TyVar) → NameR P a a′ → Reads P W (f a) (f′ a′) s)
-      → Reads P W (_>>=_ typeName f) (_>>=_ typeName f′) (Label.typeName ∷ s)
+      → Reads P W (_>>=_ (typeName written) f) (_>>=_ (typeName written) f′) (Label.typeName ∷ s)
   typeNameR f f′ h = wordR by
     where
-      by : (w w′ : ℕ) → InQuestions P Label.typeName w w′ → Then P W typeName typeName f f′ s w w′
-      by w w′ (InQuestions.typeNames a) = go (typeNameTakes (a .low)) (typeNameTakes (a .low′)) (h _ _ (record { numbers = written a }))
+      by : (w w′ : ℕ) → InQuestions P Label.typeName w w′ → Then P W (typeName written) (typeName written) f f′ s w w′
+      by w w′ (InQuestions.typeNames a) = go (typeNameTakes (a .low)) (typeNameTakes (a .low′)) (h _ _ (record { numbers = Named.written a }))
 
   -- an integer's half
   pub halfR : (f f′ : ℕ → Reader A) → ((w w′ : ℕ) → Reads P W (f w) (f′ w′) s) → Reads P W (_>>=_ any f) (_>>=_ any f′) (half ∷ s)

@@ -10,11 +10,11 @@ use lib.Dec.{T, leb}
 use Rattle.laws.proofs.Steps.{is-true}
 use Rattle.laws.proofs.Depth.{readCtx-none}
 use Rattle.definition.specs.Syntax.{pick, Ty, Expr}
-use Rattle.definition.specs.Question.{Reader, next, _>>=_, give, badShape, word, within, row, oneOf, tyRows, readTy, type, exprRows, readExpr, expression, entry, unlessEnd, readCtx, context, counted, unknown, Question, kindRows, question, readQuestion}
+use Rattle.definition.specs.Question.{Reader, next, _>>=_, give, badShape, word, within, written, row, oneOf, tyRows, readTy, type, exprRows, readExpr, expression, binding, entry, unlessEnd, readCtx, context, counted, unknown, Question, kindRows, question, readQuestion}
 use Rattle.alike.specs.Alike
-use Rattle.alike.specs.Alike.{Pairing, Label, the, section, IsTy, IsExpr, IsEntry, IsCtx, IsQuestion, written, InQuestions, Each, none, more, AlikeQuestions}
+use Rattle.alike.specs.Alike.{Pairing, Label, the, section, IsTy, IsExpr, IsEntry, IsCtx, IsQuestion, Named, InQuestions, Each, none, more, AlikeQuestions}
 use Rattle.alike.proofs.Related
-use Rattle.alike.proofs.Related.{NameR, TyR, EntryR, CtxR, nilR, consR, ExprR, JudgementR}
+use Rattle.alike.proofs.Related.{NameR, TyR, BindingR, EntryR, CtxR, nilR, consR, ExprR, JudgementR}
 use Rattle.alike.proofs.Words.{lengthL, lengthR, Parts, parts, splitE}
 use Rattle.alike.proofs.Readers.{GotR, gotR, Reads, Fills, giveR, codeR, nextR, bindR, lastR, endFills, variableR, typeNameR, halfR, truthR, withinR, emptyR, typeNameTakes, modeTakes, fills, countedR}
 
@@ -112,7 +112,7 @@ module _ {P : Pairing} where
   -- ## Types
 
   module _ (d d′ : ℕ) (ty ty′ : Reader Ty) (h : (s : List Label) → IsTy s → Deep d d′ s → Reads P (TyR P) ty ty′ s) where
-    tyRowsR : {s : List Label} → IsTy s → Deep (suc d) (suc d′) s → Reads P (TyR P) (oneOf (tyRows ty)) (oneOf (tyRows ty′)) s
+    tyRowsR : {s : List Label} → IsTy s → Deep (suc d) (suc d′) s → Reads P (TyR P) (oneOf (tyRows written ty)) (oneOf (tyRows written ty′)) s
     unfolding row tyRows pick
     tyRowsR IsTy.int k = codeR _ _ (λ p. giveR _ _ Related.intR)
     tyRowsR IsTy.bool k = codeR _ _ (λ p. giveR _ _ Related.boolR)
@@ -123,9 +123,9 @@ module _ {P : Pairing} where
     tyRowsR (IsTy.forall a) k =
         codeR _ _ (λ p. typeNameR _ _ (λ a₁ a₁′ n. lastR _ _ (h _ a (past (deeper k))) (λ A A′ x. Related.forallR n x)))
 
-  typeR : {s : List Label} → IsTy s → Reads P (TyR P) type type s
+  typeR : {s : List Label} → IsTy s → Reads P (TyR P) (type written) (type written) s
   unfolding type readTy
-  typeR = wholeR IsTy readTy (λ s. tyStarts) (λ d d′ h s t k. tyRowsR d d′ _ _ h t k)
+  typeR = wholeR IsTy (readTy written) (λ s. tyStarts) (λ d d′ h s t k. tyRowsR d d′ _ _ h t k)
 
   -- ## Expressions
 
@@ -164,33 +164,37 @@ module _ {P : Pairing} where
 
   -- ## Contexts
 
-  entryR : {s : List Label} → IsEntry s → Reads P (EntryR P) entry entry s
-  unfolding entry row pick
-  entryR (IsEntry.varBnd A) = codeR _ _ (λ p. variableR _ _ (λ x x′ n. lastR _ _ (typeR A) (λ B B′ t. Related.varBndR n t)))
-  entryR IsEntry.tvarBnd = codeR _ _ (λ p. typeNameR _ _ (λ a a′ n. giveR _ _ (Related.tvarBndR n)))
-  entryR IsEntry.etvarBnd = codeR _ _ (λ p. typeNameR _ _ (λ a a′ n. giveR _ _ (Related.etvarBndR n)))
-  entryR (IsEntry.setvarBnd A) = codeR _ _ (λ p. typeNameR _ _ (λ a a′ n. lastR _ _ (typeR A) (λ B B′ t. Related.setvarBndR n t)))
-  entryR IsEntry.mark = codeR _ _ (λ p. typeNameR _ _ (λ a a′ n. giveR _ _ (Related.markR n)))
+  bindingR : {s : List Label} → IsEntry s → Reads P (BindingR P) (binding written) (binding written) s
+  unfolding binding row pick
+  bindingR (IsEntry.varBnd A) = codeR _ _ (λ p. variableR _ _ (λ x x′ n. lastR _ _ (typeR A) (λ B B′ t. Related.varBndR n t)))
+  bindingR IsEntry.tvarBnd = codeR _ _ (λ p. typeNameR _ _ (λ a a′ n. giveR _ _ (Related.tvarBndR n)))
+  bindingR IsEntry.etvarBnd = codeR _ _ (λ p. typeNameR _ _ (λ a a′ n. giveR _ _ (Related.etvarBndR n)))
+  bindingR (IsEntry.setvarBnd A) = codeR _ _ (λ p. typeNameR _ _ (λ a a′ n. lastR _ _ (typeR A) (λ B B′ t. Related.setvarBndR n t)))
+  bindingR IsEntry.mark = codeR _ _ (λ p. typeNameR _ _ (λ a a′ n. giveR _ _ (Related.markR n)))
+
+  entryR : {s : List Label} → IsEntry s → Reads P (EntryR P) (entry written) (entry written) s
+  unfolding entry
+  entryR e = lastR {W = EntryR P} _ _ (bindingR e) (λ b b′ w. record { bindings = w })
 
   -- an entry, and the entries to the end
-  moreAt : {s t : List Label} {u u′ : List ℕ} (d d′ : ℕ) → Starts s → Reads P (EntryR P) entry entry s
-      → Fills P (CtxR P) (readCtx d) (readCtx d′) t
-      → Parts (InQuestions P) s t u u′ → (p : ℕ) → GotR (CtxR P) [] [] (readCtx (suc d) p u) (readCtx (suc d′) p u′)
+  moreAt : {s t : List Label} {u u′ : List ℕ} (d d′ : ℕ) → Starts s → Reads P (EntryR P) (entry written) (entry written) s
+      → Fills P (CtxR P) (readCtx written d) (readCtx written d′) t
+      → Parts (InQuestions P) s t u u′ → (p : ℕ) → GotR (CtxR P) [] [] (readCtx written (suc d) p u) (readCtx written (suc d′) p u′)
   unfolding readCtx unlessEnd _>>=_ give
   moreAt d d′ starts g h (parts {v = v} {v′ = v′} (more x e) f) p =
       nextR _ _ (g .at (more x e) p v v′) (λ A A′ q w. nextR _ _ (h .at f q) (λ Γ Γ′ q t. gotR (consR w t)))
 
-  noneAt : {u u′ : List ℕ} (d d′ : ℕ) → Each (InQuestions P) [] u u′ → (p : ℕ) → GotR (CtxR P) [] [] (readCtx d p u) (readCtx d′ p u′)
-  noneAt d d′ none p = rw (readCtx-none d p, readCtx-none d′ p) (gotR nilR)
+  noneAt : {u u′ : List ℕ} (d d′ : ℕ) → Each (InQuestions P) [] u u′ → (p : ℕ) → GotR (CtxR P) [] [] (readCtx written d p u) (readCtx written d′ p u′)
+  noneAt d d′ none p = rw (readCtx-none written d p, readCtx-none written d′ p) (gotR nilR)
 
-  readCtxR : (d d′ : ℕ) {s : List Label} → IsCtx s → Deep d d′ s → Fills P (CtxR P) (readCtx d) (readCtx d′) s
+  readCtxR : (d d′ : ℕ) {s : List Label} → IsCtx s → Deep d d′ s → Fills P (CtxR P) (readCtx written d) (readCtx written d′) s
   readCtxR d d′ IsCtx.noEntry k = record { at = noneAt d d′ }
   readCtxR zero d′ (IsCtx.entry e c) k = noDepth (entryStarts e) (first _ k)
   readCtxR (suc d) zero (IsCtx.entry e c) k = noDepth′ (entryStarts e) (first _ k)
   readCtxR (suc d) (suc d′) (IsCtx.entry {e = s} e c) k =
       record { at = λ x. moreAt d d′ (entryStarts e) (entryR e) (readCtxR d d′ c (after (entryStarts e) k)) (splitE s x) }
 
-  contextR : {s : List Label} → IsCtx s → Fills P (CtxR P) context context s
+  contextR : {s : List Label} → IsCtx s → Fills P (CtxR P) (context written) (context written) s
   unfolding context
   contextR {s} c = record { at = λ {u} {u′} e p. readCtxR (length u) (length u′) c (exact e) .at e p }
 
@@ -199,7 +203,7 @@ module _ {P : Pairing} where
   unknownAt : {u u′ : List ℕ} → Each (InQuestions P) Alike.unknown u u′ → (p : ℕ) → GotR (NameR P) [] [] (unknown p u) (unknown p u′)
   unfolding unknown oneOf word row pick
   unknownAt (more InQuestions.same (more (InQuestions.typeNames a) none)) p =
-      rw (typeNameTakes (a .low) .is (suc p) [], typeNameTakes (a .low′) .is (suc p) []) (gotR (record { numbers = written a }))
+      rw (typeNameTakes (a .low) .is (suc p) [], typeNameTakes (a .low′) .is (suc p) []) (gotR (record { numbers = Named.written a }))
 
   -- kind, mode and sections, to the end
   askAt : {k m : ℕ} {s : List Label} {u u′ : List ℕ} → T (leb 1 k && leb k 7) → m ≤ 1
@@ -216,13 +220,13 @@ module _ {P : Pairing} where
       → Fills P (QuestionR P) question question (the k ∷ the m ∷ s)
   askR t h j = record { at = askAt t h j }
 
-  ctxR : {s : List Label} → IsCtx s → Reads P (CtxR P) (counted context) (counted context) (section s)
+  ctxR : {s : List Label} → IsCtx s → Reads P (CtxR P) (counted (context written)) (counted (context written)) (section s)
   ctxR c = countedR (contextR c)
 
   exprR : {s : List Label} → IsExpr s → Reads P (ExprR P) (counted expression) (counted expression) (section s)
   exprR e = countedR (fills (expressionR e))
 
-  tyR : {s : List Label} → IsTy s → Reads P (TyR P) (counted type) (counted type) (section s)
+  tyR : {s : List Label} → IsTy s → Reads P (TyR P) (counted (type written)) (counted (type written)) (section s)
   tyR t = countedR (fills (typeR t))
 
   unknownR : Reads P (NameR P) (counted unknown) (counted unknown) (section Alike.unknown)

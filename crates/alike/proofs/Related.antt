@@ -4,8 +4,9 @@ use Prim.Native.Nat.{ℕ}
 use mathlib.Core.Bool.{Bool, true, false}
 use mathlib.Core.List.{[], _∷_}
 use mathlib.Core.Option.{Option, none, some}
-use Rattle.definition.specs.Syntax.{pick, TmVar, TyVar, Ty, int, bool, var, etvar, arrow, forall, Expr, evar, app, abs, tapp, tabs, ann, litInt, litBool, letIn, ifThenElse, binOp, Entry, varBnd, tvarBnd, etvarBnd, setvarBnd, mark, Ctx, Side, Judgement, infer, check, inferApp, subtype, inst, Rule, Tree, node, Trees, leaf, _&_, TypeError, unboundVariable, applicationTypeError, typeApplicationError, occursCheck, subtypingError, instantiationError, parameterMismatch}
-use Rattle.alike.specs.Alike.{Pairing, Written, Named}
+use Rattle.definition.specs.Syntax.{pick, TmVar, TyVar, Ty, int, bool, var, etvar, arrow, forall, Expr, evar, app, abs, tapp, tabs, ann, litInt, litBool, letIn, ifThenElse, binOp, Binding, varBnd, tvarBnd, etvarBnd, setvarBnd, mark, Entry, Ctx, Side, Judgement, infer, check, inferApp, subtype, inst, Rule, Tree, node, Trees, leaf, _&_, Shown, noType, oneType, twoTypes, TypeError}
+use Rattle.definition.specs.Reply.{errorCode, errorAt}
+use Rattle.alike.specs.Alike.{Pairing, Written, Named, InReplies, atLabel}
 
 pub record VarR (P : Pairing) (x x′ : TmVar) : Type 0 where
   pub numbers : Written (P .variables) (x .number) (x′ .number)
@@ -21,12 +22,15 @@ pub data TyR (P : Pairing) : Ty → Ty → Type 0 where
   arrowR : {A A′ B B′ : Ty} → TyR P A A′ → TyR P B B′ → TyR P (arrow A B) (arrow A′ B′)
   forallR : {a a′ : TyVar} {A A′ : Ty} → NameR P a a′ → TyR P A A′ → TyR P (forall a A) (forall a′ A′)
 
-pub data EntryR (P : Pairing) : Entry → Entry → Type 0 where
-  varBndR : {x x′ : TmVar} {A A′ : Ty} → VarR P x x′ → TyR P A A′ → EntryR P (varBnd x A) (varBnd x′ A′)
-  tvarBndR : {a a′ : TyVar} → NameR P a a′ → EntryR P (tvarBnd a) (tvarBnd a′)
-  etvarBndR : {a a′ : TyVar} → NameR P a a′ → EntryR P (etvarBnd a) (etvarBnd a′)
-  setvarBndR : {a a′ : TyVar} {A A′ : Ty} → NameR P a a′ → TyR P A A′ → EntryR P (setvarBnd a A) (setvarBnd a′ A′)
-  markR : {a a′ : TyVar} → NameR P a a′ → EntryR P (mark a) (mark a′)
+pub data BindingR (P : Pairing) : Binding → Binding → Type 0 where
+  varBndR : {x x′ : TmVar} {A A′ : Ty} → VarR P x x′ → TyR P A A′ → BindingR P (varBnd x A) (varBnd x′ A′)
+  tvarBndR : {a a′ : TyVar} → NameR P a a′ → BindingR P (tvarBnd a) (tvarBnd a′)
+  etvarBndR : {a a′ : TyVar} → NameR P a a′ → BindingR P (etvarBnd a) (etvarBnd a′)
+  setvarBndR : {a a′ : TyVar} {A A′ : Ty} → NameR P a a′ → TyR P A A′ → BindingR P (setvarBnd a A) (setvarBnd a′ A′)
+  markR : {a a′ : TyVar} → NameR P a a′ → BindingR P (mark a) (mark a′)
+
+pub record EntryR (P : Pairing) (e e′ : Entry) : Type 0 where
+  pub bindings : BindingR P (e .binding) (e′ .binding)
 
 pub data CtxR (P : Pairing) : Ctx → Ctx → Type 0 where
   nilR : CtxR P [] []
@@ -67,15 +71,16 @@ mutual
     leafR : TreesR P leaf leaf
     andR : {t t′ : Tree} {ts ts′ : Trees} → TreeR P t t′ → TreesR P ts ts′ → TreesR P (t & ts) (t′ & ts′)
 
-pub data TypeErrorR (P : Pairing) : TypeError → TypeError → Type 0 where
-  unboundVariableR : {x x′ : TmVar} → VarR P x x′ → TypeErrorR P (unboundVariable x) (unboundVariable x′)
-  applicationTypeErrorR : {A A′ : Ty} → TyR P A A′ → TypeErrorR P (applicationTypeError A) (applicationTypeError A′)
-  typeApplicationErrorR : {A A′ : Ty} → TyR P A A′ → TypeErrorR P (typeApplicationError A) (typeApplicationError A′)
-  occursCheckR : {a a′ : TyVar} {A A′ : Ty} → NameR P a a′ → TyR P A A′ → TypeErrorR P (occursCheck a A) (occursCheck a′ A′)
-  subtypingErrorR : {A A′ B B′ : Ty} → TyR P A A′ → TyR P B B′ → TypeErrorR P (subtypingError A B) (subtypingError A′ B′)
-  instantiationErrorR : {a a′ : TyVar} {A A′ : Ty} → NameR P a a′ → TyR P A A′
-      → TypeErrorR P (instantiationError a A) (instantiationError a′ A′)
-  parameterMismatchR : {A A′ B B′ : Ty} → TyR P A A′ → TyR P B B′ → TypeErrorR P (parameterMismatch A B) (parameterMismatch A′ B′)
+pub data ShownR (P : Pairing) : Shown → Shown → Type 0 where
+  noTypeR : ShownR P noType noType
+  oneTypeR : {A A′ : Ty} → TyR P A A′ → ShownR P (oneType A) (oneType A′)
+  twoTypesR : {A A′ B B′ : Ty} → TyR P A A′ → TyR P B B′ → ShownR P (twoTypes A B) (twoTypes A′ B′)
+
+-- the same error, about names that are as `at` asks of its code
+pub record TypeErrorR (P : Pairing) (e e′ : TypeError) : Type 0 where
+  pub error : e .error ≡ e′ .error
+  pub about : InReplies P (atLabel (errorCode (e .error)) (errorAt (e .about))) (errorAt (e .about)) (errorAt (e′ .about))
+  pub shown : ShownR P (e .shown) (e′ .shown)
 
 -- ## Choices
 

@@ -7,14 +7,15 @@ use mathlib.Core.List.{List, [], _∷_, _++_, append-assoc}
 use lib.ListN.{length}
 use lib.Dec.{leb, eqb}
 use Rattle.definition.specs.Syntax
-use Rattle.definition.specs.Syntax.{pick, Ty, Entry, Ctx, onL, onR, Judgement, Tree, Trees, TypeError, tyWords, entryWords, ctxWords, noSection, sections, ctxSection, tySection, judgementWords, children, treeWords, treesWords}
+use Rattle.definition.specs.Syntax.{pick, Ty, Binding, Ctx, onL, onR, Judgement, Tree, Trees, Shown, TypeError, tyWords, bindingWords, entryWords, ctxWords, noSection, sections, ctxSection, tySection, judgementWords, children, treeWords, treesWords}
 use Rattle.definition.specs.Question.{Read, Question}
 use Rattle.definition.specs.Run.{Out}
-use Rattle.definition.specs.Rules.{Result, judge}
+use Rattle.definition.specs.Rules.{Result, outside, judge}
 use Rattle.definition.specs.Reply.{refusal, most, reported, errorCode, errorAt, errorWords, givesType, resultWords, answer, outReply, readReply}
 use Rattle.alike.specs.Alike.{Pairing, Label, the, IsTy, IsEntry, IsCtx, IsTyOrNone, noTy, aTy, IsNodes, IsReport, InReplies, Alike, atLabel, AlikeReplies}
 use Rattle.alike.proofs.Related
-use Rattle.alike.proofs.Related.{TyR, EntryR, CtxR, JudgementR, TreeR, TreesR, TypeErrorR, pickR}
+use Rattle.alike.proofs.Related.{TyR, BindingR, CtxR, JudgementR, TreeR, TreesR, ShownR, TypeErrorR, pickR}
+use Rattle.laws.proofs.Codes.{error}
 use Rattle.alike.proofs.Runs.{OutR, doneR, failR, stopR, Runs, bindR, giveR}
 use Rattle.alike.proofs.Types.{applyR}
 use Rattle.alike.proofs.Rules.{exprParts, ResultR, judgeR}
@@ -50,18 +51,18 @@ module _ {P : Pairing} where
       code (join a (item (λ v. IsTy.arrow (a .format)) (tyW t)))
   tyW (Related.forallR a t) = code (under _ (InReplies.typeNames (a .numbers)) (item (λ v. IsTy.forall) (tyW t)))
 
-  entryW : {e e′ : Entry} → EntryR P e e′ → Told P IsEntry (entryWords e) (entryWords e′)
-  unfolding entryWords
-  entryW (Related.varBndR x t) = code (under _ (InReplies.variables (x .numbers)) (item (λ v. IsEntry.varBnd) (tyW t)))
-  entryW (Related.tvarBndR a) = code (under _ (InReplies.typeNames (a .numbers)) (done IsEntry.tvarBnd))
-  entryW (Related.etvarBndR a) = code (under _ (InReplies.typeNames (a .numbers)) (done IsEntry.etvarBnd))
-  entryW (Related.setvarBndR a t) = code (under _ (InReplies.typeNames (a .numbers)) (item (λ v. IsEntry.setvarBnd) (tyW t)))
-  entryW (Related.markR a) = code (under _ (InReplies.typeNames (a .numbers)) (done IsEntry.mark))
+  bindingW : {b b′ : Binding} → BindingR P b b′ → Told P IsEntry (bindingWords b) (bindingWords b′)
+  unfolding bindingWords
+  bindingW (Related.varBndR x t) = code (under _ (InReplies.variables (x .numbers)) (item (λ v. IsEntry.varBnd) (tyW t)))
+  bindingW (Related.tvarBndR a) = code (under _ (InReplies.typeNames (a .numbers)) (done IsEntry.tvarBnd))
+  bindingW (Related.etvarBndR a) = code (under _ (InReplies.typeNames (a .numbers)) (done IsEntry.etvarBnd))
+  bindingW (Related.setvarBndR a t) = code (under _ (InReplies.typeNames (a .numbers)) (item (λ v. IsEntry.setvarBnd) (tyW t)))
+  bindingW (Related.markR a) = code (under _ (InReplies.typeNames (a .numbers)) (done IsEntry.mark))
 
   ctxW : {Γ Γ′ : Ctx} → CtxR P Γ Γ′ → Told P IsCtx (ctxWords Γ) (ctxWords Γ′)
-  unfolding ctxWords
+  unfolding ctxWords entryWords
   ctxW Related.nilR = done IsCtx.noEntry
-  ctxW (Related.consR e c) = let a = entryW e in join a (item (λ v. IsCtx.entry (a .format)) (ctxW c))
+  ctxW (Related.consR e c) = let a = bindingW (e .bindings) in join a (item (λ v. IsCtx.entry (a .format)) (ctxW c))
 
   -- ## Trees
 
@@ -128,18 +129,17 @@ module _ {P : Pairing} where
       → Told P (IsReport c) (Syntax.section A ++ Syntax.section B) (Syntax.section A′ ++ Syntax.section B′)
   errorW h a b = sect (same P) a (lastSect (same P) b (IsReport.error h (a .format) (b .format)))
 
+  shownW : {c : ℕ} → 11 ≤ c → {x x′ : Shown} → ShownR P x x′ → Told P (IsReport c) (errorWords x) (errorWords x′)
+  unfolding errorWords tySection noSection Syntax.section
+  shownW h Related.noTypeR = errorW h noneW noneW
+  shownW h (Related.oneTypeR t) = errorW h (tyOrNoneW t) noneW
+  shownW h (Related.twoTypesR s t) = errorW h (tyOrNoneW s) (tyOrNoneW t)
+
   errorR : (room units : ℕ) {e e′ : TypeError} → TypeErrorR P e e′
       → AlikeReplies P
-      (reported room (errorCode e) (errorAt e) units (errorWords e))
-      (reported room (errorCode e′) (errorAt e′) units (errorWords e′))
-  unfolding errorCode errorAt errorWords tySection noSection Syntax.section pick
-  errorR room u (Related.unboundVariableR x) = reportedR room 11 u (InReplies.variables (x .numbers)) (errorW (omega arith) noneW noneW)
-  errorR room u (Related.applicationTypeErrorR t) = reportedR room 12 u InReplies.same (errorW (omega arith) (tyOrNoneW t) noneW)
-  errorR room u (Related.typeApplicationErrorR t) = reportedR room 13 u InReplies.same (errorW (omega arith) (tyOrNoneW t) noneW)
-  errorR room u (Related.occursCheckR a t) = reportedR room 14 u (InReplies.typeNames (a .numbers)) (errorW (omega arith) (tyOrNoneW t) noneW)
-  errorR room u (Related.subtypingErrorR s t) = reportedR room 15 u InReplies.same (errorW (omega arith) (tyOrNoneW s) (tyOrNoneW t))
-  errorR room u (Related.instantiationErrorR a t) = reportedR room 16 u (InReplies.typeNames (a .numbers)) (errorW (omega arith) (tyOrNoneW t) noneW)
-  errorR room u (Related.parameterMismatchR s t) = reportedR room 17 u InReplies.same (errorW (omega arith) (tyOrNoneW s) (tyOrNoneW t))
+      (reported room (errorCode (e .error)) (errorAt (e .about)) units (errorWords (e .shown)))
+      (reported room (errorCode (e′ .error)) (errorAt (e′ .about)) units (errorWords (e′ .shown)))
+  errorR room u {e} x = rw (← x .error) (reportedR room (errorCode (e .error)) u (x .about) (shownW (error (e .error) .least) (x .shown)))
 
   resultW : (k : ℕ) (r r′ : Result) → ResultR P r r′ → Told P (IsReport 0) (resultWords k r) (resultWords k r′)
   unfolding resultWords ctxSection tySection noSection Syntax.section pick
@@ -171,8 +171,8 @@ module _ {P : Pairing} where
   answerR : {q q′ : Question} → QuestionR P q q′ → Runs P (ResultR P) (answer q) (answer q′)
   unfolding answer
   answerR {q} {q′} h =
-      let asked : Runs P (ResultR P) (judge (q .manner) (q .asks)) (judge (q′ .manner) (q′ .asks)) =
-      rw (h .manners) (judgeR (q′ .manner) (h .judgements)) in
+      let asked : Runs P (ResultR P) (judge (outside (q .manner)) (q .asks)) (judge (outside (q′ .manner)) (q′ .asks)) =
+      rw (h .manners) (judgeR (outside (q′ .manner)) (h .judgements)) in
       pickR (Runs P (ResultR P)) (ap (λ k. eqb k 7) (h .kinds))
       (bindR asked (λ r r′ w. bindR (applyR (w .1) (w .0)) (λ A A′ t. giveR _ _ (t, w .1, w .2))))
       asked

@@ -4,14 +4,15 @@ use Prim.Native.Nat.{ℕ, zero, suc, _+_}
 use mathlib.Core.Bool.{Bool, true, false, _&&_}
 use mathlib.Core.Option.{Option}
 use lib.Dec.{leb, eqb}
-use Rattle.definition.specs.Syntax.{TmVar, TyVar, Ty, Expr, Ctx, Side, onL, onR, Judgement, placeOf, given, Rule}
-use Rattle.definition.specs.Question.{Mode}
+use Rattle.definition.specs.Syntax.{pick, TmVar, TyVar, Ty, Expr, Ctx, Binding, Side, onL, onR, Judgement, placeOf, given, Rule, unboundVariable, applicationTypeError, typeApplicationError, occursCheck, subtypingError, instantiationError, parameterMismatch}
+use Rattle.definition.specs.Contexts.{_▹_}
 use Rattle.definition.specs.Run.{M, _>>=_, give}
-use Rattle.definition.specs.Rules.{Fired, Result, Judge, closes, _orElse_, when, on, onBoth, tyCode, asVar, asETVar, asArrow, asForall, solve, reach, split, instArrow, instForall, instRule, subArr, subAllR, subAllL, subInst, notIn, sameBase, same, subtypeRule, exprCode, asAbs, parameter, chkLam, chkAll, chkSub, checkRule, infAppArr, infAppETVar, inferAppRule, infVar, infLam, infApp, infLet, branch, infIf, infBoth, infEq, infBinOp, infAnn, infTAbs, instantiate, infTApp, inferRule, rule, judgeStep, judgeTo, judge}
-use Rattle.alike.specs.Alike.{Pairing}
+use Rattle.definition.specs.Rules.{Fired, Result, Judge, Here, _from_, closes, _orElse_, when, on, onBoth, tyCode, asVar, asETVar, asArrow, asForall, solve, reach, split, instArrow, instForall, instRule, subArr, subAllR, subAllL, subInst, notIn, sameBase, same, subtypeRule, exprCode, asAbs, parameter, chkLam, chkAll, chkSub, checkRule, infAppArr, infAppETVar, inferAppRule, infVar, infLam, infApp, infLet, branch, infIf, infBoth, infEq, infBinOp, infAnn, infTAbs, instantiate, infTApp, inferRule, rule, judgeStep, judgeTo, judgeBy, judge}
+use Rattle.definition.specs.Reply.{errorCode, errorAt}
+use Rattle.alike.specs.Alike.{Pairing, InReplies}
 use Rattle.alike.proofs.Related
-use Rattle.alike.proofs.Related.{VarR, NameR, TyR, intR, boolR, varR, etvarR, arrowR, forallR, varBndR, tvarBndR, etvarBndR, setvarBndR, markR, CtxR, nilR, consR, ExprR, JudgementR, inferR, checkR, inferAppR, subtypeR, instR, TreeR, nodeR, TreesR, leafR, andR, OptionR, noneR, someR, pickR}
-use Rattle.alike.proofs.Contexts.{sameNameR, kVarR, kTVarR, kMarkR, findR, rightOfR, beforeR, pushR, replaceR, solvedAndRightR, lengthR}
+use Rattle.alike.proofs.Related.{BindingR, EntryR, VarR, NameR, TyR, intR, boolR, varR, etvarR, arrowR, forallR, varBndR, tvarBndR, etvarBndR, setvarBndR, markR, CtxR, nilR, consR, ExprR, JudgementR, inferR, checkR, inferAppR, subtypeR, instR, TreeR, nodeR, TreesR, leafR, andR, TypeErrorR, OptionR, noneR, someR, pickR}
+use Rattle.alike.proofs.Contexts.{sameNameR, kVarR, kTVarR, kMarkR, findR, rightOfR, beforeR, fromR, pushR, replaceR, solvedAndRightR, lengthR}
 use Rattle.alike.proofs.Runs.{Runs, bindR, giveR, refuseR, haltR, freshR, chargeR}
 use Rattle.alike.proofs.Types.{isMonoR, occursR, substR, applyR, sameTyR}
 
@@ -101,50 +102,87 @@ module _ {P : Pairing} where
   unfolding closes
   closesR r c = giveR _ _ (refl, intR, c, leafR)
 
-  solveR : (s : Side) {Γ Γ′ : Ctx} {a a′ : TyVar} {A A′ : Ty} → CtxR P Γ Γ′ → NameR P a a′ → TyR P A A′
-      → Runs P (FiredR P) (solve s Γ a A) (solve s Γ′ a′ A′)
-  unfolding solve
-  solveR s c a t =
-      pickR (Runs P (FiredR P)) (isMonoR t)
-      (pickR (Runs P (FiredR P)) (occursR a t) (refuseR (Related.occursCheckR a t)) (closesR _ (replaceR a (consR (setvarBndR a t) nilR) c)))
-      (refuseR (Related.instantiationErrorR a t))
+  -- ## Type errors
 
-  splitR : {a a′ b b′ d d′ : TyVar} {Γ Γ′ : Ctx} → NameR P a a′ → NameR P b b′ → NameR P d d′ → CtxR P Γ Γ′
-      → CtxR P (split a b d Γ) (split a′ b′ d′ Γ′)
-  unfolding split
-  splitR a b d c = replaceR a (consR (setvarBndR a (arrowR (etvarR b) (etvarR d))) (consR (etvarBndR b) (consR (etvarBndR d) nilR))) c
+  unboundVariableR : {x x′ : TmVar} → VarR P x x′ → TypeErrorR P (unboundVariable x) (unboundVariable x′)
+  unfolding errorCode errorAt pick
+  unboundVariableR x = record { error = refl; about = InReplies.variables (x .numbers); shown = Related.noTypeR }
 
-  module _ (judge judge′ : Judge) (h : (j j′ : Judgement) → JudgementR P j j′ → Runs P (ResultR P) (judge j) (judge′ j′)) where
+  applicationTypeErrorR : {A A′ : Ty} → TyR P A A′ → TypeErrorR P (applicationTypeError A) (applicationTypeError A′)
+  unfolding errorCode errorAt pick
+  applicationTypeErrorR t = record { error = refl; about = InReplies.same; shown = Related.oneTypeR t }
+
+  typeApplicationErrorR : {A A′ : Ty} → TyR P A A′ → TypeErrorR P (typeApplicationError A) (typeApplicationError A′)
+  unfolding errorCode errorAt pick
+  typeApplicationErrorR t = record { error = refl; about = InReplies.same; shown = Related.oneTypeR t }
+
+  occursCheckR : {a a′ : TyVar} {A A′ : Ty} → NameR P a a′ → TyR P A A′ → TypeErrorR P (occursCheck a A) (occursCheck a′ A′)
+  unfolding errorCode errorAt pick
+  occursCheckR a t = record { error = refl; about = InReplies.typeNames (a .numbers); shown = Related.oneTypeR t }
+
+  subtypingErrorR : {A A′ B B′ : Ty} → TyR P A A′ → TyR P B B′ → TypeErrorR P (subtypingError A B) (subtypingError A′ B′)
+  unfolding errorCode errorAt pick
+  subtypingErrorR s t = record { error = refl; about = InReplies.same; shown = Related.twoTypesR s t }
+
+  instantiationErrorR : {a a′ : TyVar} {A A′ : Ty} → NameR P a a′ → TyR P A A′ → TypeErrorR P (instantiationError a A) (instantiationError a′ A′)
+  unfolding errorCode errorAt pick
+  instantiationErrorR a t = record { error = refl; about = InReplies.typeNames (a .numbers); shown = Related.oneTypeR t }
+
+  parameterMismatchR : {A A′ B B′ : Ty} → TyR P A A′ → TyR P B B′ → TypeErrorR P (parameterMismatch A B) (parameterMismatch A′ B′)
+  unfolding errorCode errorAt pick
+  parameterMismatchR s t = record { error = refl; about = InReplies.same; shown = Related.twoTypesR s t }
+
+  -- in what rules run, and the judgements they ask
+  module _ (h : Here) (judge judge′ : Judge) (asked : (j j′ : Judgement) → JudgementR P j j′ → Runs P (ResultR P) (judge j) (judge′ j′)) where
+    newR : {b b′ : Binding} → BindingR P b b′ → EntryR P (b from h) (b′ from h)
+    newR b = fromR h b
+
+    addR : {Γ Γ′ : Ctx} {b b′ : Binding} → CtxR P Γ Γ′ → BindingR P b b′ → CtxR P (Γ ▹ b from h) (Γ′ ▹ b′ from h)
+    addR c b = pushR c (newR b)
+
+    solveR : (s : Side) {Γ Γ′ : Ctx} {a a′ : TyVar} {A A′ : Ty} → CtxR P Γ Γ′ → NameR P a a′ → TyR P A A′
+        → Runs P (FiredR P) (solve h s Γ a A) (solve h s Γ′ a′ A′)
+    unfolding solve
+    solveR s c a t =
+        pickR (Runs P (FiredR P)) (isMonoR t)
+        (pickR (Runs P (FiredR P)) (occursR a t) (refuseR (occursCheckR a t)) (closesR _ (replaceR a (consR (newR (setvarBndR a t)) nilR) c)))
+        (refuseR (instantiationErrorR a t))
+
+    splitR : {a a′ b b′ d d′ : TyVar} {Γ Γ′ : Ctx} → NameR P a a′ → NameR P b b′ → NameR P d d′ → CtxR P Γ Γ′
+        → CtxR P (split h a b d Γ) (split h a′ b′ d′ Γ′)
+    unfolding split
+    splitR a b d c = replaceR a (consR (newR (setvarBndR a (arrowR (etvarR b) (etvarR d)))) (consR (newR (etvarBndR b)) (consR (newR (etvarBndR d)) nilR))) c
+
     -- one judgement, and what the rule gives then
     oneR : {j j′ : Judgement} {f f′ : Result → Fired} → JudgementR P j j′ → ((r r′ : Result) → ResultR P r r′ → FiredR P (f r) (f′ r′))
         → Runs P (FiredR P) (judge j >>= λ r. give (f r)) (judge′ j′ >>= λ r. give (f′ r))
-    oneR j k = bindR (h _ _ j) (λ r r′ w. giveR _ _ (k r r′ w))
+    oneR j k = bindR (asked _ _ j) (λ r r′ w. giveR _ _ (k r r′ w))
 
     -- one judgement, and a second that depends on it
     twoR : {j j′ : Judgement} {k k′ : Result → Judgement} {f f′ : Result → Result → Fired} → JudgementR P j j′
         → ((r r′ : Result) → ResultR P r r′ → JudgementR P (k r) (k′ r′))
         → ((r r′ s s′ : Result) → ResultR P r r′ → ResultR P s s′ → FiredR P (f r s) (f′ r′ s′))
         → Runs P (FiredR P) (judge j >>= λ r. (judge (k r) >>= λ s. give (f r s))) (judge′ j′ >>= λ r. (judge′ (k′ r) >>= λ s. give (f′ r s)))
-    twoR j i k = bindR (h _ _ j) (λ r r′ w. oneR (i r r′ w) (λ s s′. k r r′ s s′ w))
+    twoR j i k = bindR (asked _ _ j) (λ r r′ w. oneR (i r r′ w) (λ s s′. k r r′ s s′ w))
 
     instForallR : (s : Side) {Γ Γ′ : Ctx} {a a′ b b′ : TyVar} {A A′ : Ty} → CtxR P Γ Γ′ → NameR P a a′ → NameR P b b′ → TyR P A A′
-        → Runs P (FiredR P) (instForall judge s Γ a b A) (instForall judge′ s Γ′ a′ b′ A′)
+        → Runs P (FiredR P) (instForall h judge s Γ a b A) (instForall h judge′ s Γ′ a′ b′ A′)
     unfolding instForall
-    instForallR onL c a b t = oneR (instR (pushR c (tvarBndR b)) a t) (λ r r′ w. (refl, intR, rightOfR (kTVarR b) (w .1), andR (w .2) leafR))
+    instForallR onL c a b t = oneR (instR (addR c (tvarBndR b)) a t) (λ r r′ w. (refl, intR, rightOfR (kTVarR b) (w .1), andR (w .2) leafR))
     instForallR onR c a b t =
-        bindR (substR b (etvarR b) t) (λ T T′ t. oneR (instR (pushR (pushR c (etvarBndR b)) (markR b)) a t)
+        bindR (substR b (etvarR b) t) (λ T T′ t. oneR (instR (addR (addR c (etvarBndR b)) (markR b)) a t)
         (λ r r′ w. (refl, intR, rightOfR (kMarkR b) (w .1), andR (w .2) leafR)))
 
     instRuleR : (s : Side) {Γ Γ′ : Ctx} {a a′ : TyVar} {A A′ : Ty} → CtxR P Γ Γ′ → NameR P a a′ → TyR P A A′
-        → Runs P (FiredR P) (instRule judge s Γ a A) (instRule judge′ s Γ′ a′ A′)
+        → Runs P (FiredR P) (instRule h judge s Γ a A) (instRule h judge′ s Γ′ a′ A′)
     unfolding instRule instArrow reach
     instRuleR s c a intR = solveR s c a intR
     instRuleR s c a boolR = solveR s c a boolR
     instRuleR s c a (varR p) = solveR s c a (varR p)
     instRuleR s c a (etvarR p) =
-        pickR (Runs P (FiredR P)) (beforeR c a p) (closesR _ (replaceR p (consR (setvarBndR p (etvarR a)) nilR) c)) (solveR s c a (etvarR p))
+        pickR (Runs P (FiredR P)) (beforeR c a p) (closesR _ (replaceR p (consR (newR (setvarBndR p (etvarR a))) nilR) c)) (solveR s c a (etvarR p))
     instRuleR s c a (arrowR p q) =
-        bindR freshR (λ b b′ β. bindR freshR (λ d d′ δ. bindR (h _ _ (instR (splitR a β δ c) β p)) (λ r r′ w. bindR (applyR (w .1) q) (λ B B′ t.
+        bindR freshR (λ b b′ β. bindR freshR (λ d d′ δ. bindR (asked _ _ (instR (splitR a β δ c) β p)) (λ r r′ w. bindR (applyR (w .1) q) (λ B B′ t.
         oneR (instR (w .1) δ t) (λ s s′ v. (refl, intR, v .1, andR (w .2) (andR (v .2) leafR)))))))
     instRuleR s c a (forallR p q) = instForallR s c a p q
 
@@ -166,12 +204,12 @@ module _ {P : Pairing} where
     notInR t (someR p) = pickR (OptionR (NameR P)) (occursR p t) noneR (someR p)
 
     subInstR : (r : Rule) (s : Side) {Γ Γ′ : Ctx} {A A′ : Ty} → CtxR P Γ Γ′ → TyR P A A′ → (a a′ : TyVar) → NameR P a a′
-        → Runs P (FiredR P) (subInst judge r s Γ A a) (subInst judge′ r s Γ′ A′ a′)
+        → Runs P (FiredR P) (subInst h judge r s Γ A a) (subInst h judge′ r s Γ′ A′ a′)
     unfolding subInst
     subInstR r s c t a a′ p = oneR (instR c p t) (λ r r′ w. (refl, intR, w .1, andR (w .2) leafR))
 
     subtypeRuleR : {Γ Γ′ : Ctx} {A A′ B B′ : Ty} → CtxR P Γ Γ′ → TyR P A A′ → TyR P B B′
-        → Runs P (FiredR P) (subtypeRule judge Γ A B) (subtypeRule judge′ Γ′ A′ B′)
+        → Runs P (FiredR P) (subtypeRule h judge Γ A B) (subtypeRule h judge′ Γ′ A′ B′)
     unfolding subtypeRule subArr subAllR subAllL
     subtypeRuleR c p q =
         orElseR (whenR (sameBaseR p q) (closesR _ c))
@@ -180,14 +218,14 @@ module _ {P : Pairing} where
         (orElseR (onBothR (tyParts p .arrow) (tyParts q .arrow) (λ A A′ B B′ a b.
         twoR (subtypeR c (b .0) (a .0)) (λ r r′ w. subtypeR (w .1) (a .1) (b .1))
         (λ r r′ s s′ w v. (refl, intR, v .1, andR (w .2) (andR (v .2) leafR)))))
-        (orElseR (onArmR (tyParts q .forall) (λ B B′ b. oneR (subtypeR (pushR c (tvarBndR (b .0))) p (b .1))
+        (orElseR (onArmR (tyParts q .forall) (λ B B′ b. oneR (subtypeR (addR c (tvarBndR (b .0))) p (b .1))
         (λ r r′ w. (refl, intR, rightOfR (kTVarR (b .0)) (w .1), andR (w .2) leafR))))
         (orElseR (onArmR (tyParts p .forall) (λ A A′ a. bindR (substR (a .0) (etvarR (a .0)) (a .1)) (λ T T′ t.
-        oneR (subtypeR (pushR (pushR c (etvarBndR (a .0))) (markR (a .0))) t q)
+        oneR (subtypeR (addR (addR c (etvarBndR (a .0))) (markR (a .0))) t q)
         (λ r r′ w. (refl, intR, rightOfR (kMarkR (a .0)) (w .1), andR (w .2) leafR)))))
         (orElseR (onArmR (notInR q (tyParts p .etvar)) (subInstR _ _ c q))
         (orElseR (onArmR (notInR p (tyParts q .etvar)) (subInstR _ _ c p))
-        (refuseR (Related.subtypingErrorR p q)))))))))
+        (refuseR (subtypingErrorR p q)))))))))
 
     -- ## check
 
@@ -196,39 +234,39 @@ module _ {P : Pairing} where
     unfolding parameter
     parameterR false c p q = giveR _ _ refl
     parameterR true c p q =
-        bindR (applyR c q) (λ T T′ t. pickR (Runs P _≡_) (sameTyR p t) (giveR _ _ refl) (refuseR (Related.parameterMismatchR p t)))
+        bindR (applyR c q) (λ T T′ t. pickR (Runs P _≡_) (sameTyR p t) (giveR _ _ refl) (refuseR (parameterMismatchR p t)))
 
-    checkRuleR : (m : Mode) {Γ Γ′ : Ctx} {e e′ : Expr} {B B′ : Ty} → CtxR P Γ Γ′ → ExprR P e e′ → TyR P B B′
-        → Runs P (FiredR P) (checkRule m judge Γ e B) (checkRule m judge′ Γ′ e′ B′)
+    checkRuleR : {Γ Γ′ : Ctx} {e e′ : Expr} {B B′ : Ty} → CtxR P Γ Γ′ → ExprR P e e′ → TyR P B B′
+        → Runs P (FiredR P) (checkRule h judge Γ e B) (checkRule h judge′ Γ′ e′ B′)
     unfolding checkRule chkLam chkAll chkSub
-    checkRuleR m c e q =
+    checkRuleR c e q =
         orElseR (whenR (ap₂ (λ x y. eqb x 22 && eqb y 1) (exprParts e .code) (tyParts q .code)) (closesR _ c))
         (orElseR (whenR (ap₂ (λ x y. eqb x 23 && eqb y 2) (exprParts e .code) (tyParts q .code)) (closesR _ c))
         (orElseR (onBothR (exprParts e .abs) (tyParts q .arrow) (λ f f′ B B′ a b. bindR (parameterR _ c (a .1) (b .0)) (λ u u′ v.
-        oneR (checkR (pushR c (varBndR (a .0) (b .0))) (a .2) (b .1))
+        oneR (checkR (addR c (varBndR (a .0) (b .0))) (a .2) (b .1))
         (λ r r′ w. (refl, intR, rightOfR (kVarR (a .0)) (w .1), andR (w .2) leafR)))))
-        (orElseR (onArmR (tyParts q .forall) (λ B B′ b. oneR (checkR (pushR c (tvarBndR (b .0))) e (b .1))
+        (orElseR (onArmR (tyParts q .forall) (λ B B′ b. oneR (checkR (addR c (tvarBndR (b .0))) e (b .1))
         (λ r r′ w. (refl, intR, rightOfR (kTVarR (b .0)) (w .1), andR (w .2) leafR))))
-        (bindR (h _ _ (inferR c e)) (λ r r′ w. bindR (applyR (w .1) (w .0)) (λ A A′ s. bindR (applyR (w .1) q) (λ B B′ t.
+        (bindR (asked _ _ (inferR c e)) (λ r r′ w. bindR (applyR (w .1) (w .0)) (λ A A′ s. bindR (applyR (w .1) q) (λ B B′ t.
         oneR (subtypeR (w .1) s t) (λ s s′ v. (refl, intR, v .1, andR (w .2) (andR (v .2) leafR))))))))))
 
     -- ## infer_app
 
     inferAppRuleR : {Γ Γ′ : Ctx} {e e′ : Expr} {A A′ : Ty} → CtxR P Γ Γ′ → ExprR P e e′ → TyR P A A′
-        → Runs P (FiredR P) (inferAppRule judge Γ e A) (inferAppRule judge′ Γ′ e′ A′)
+        → Runs P (FiredR P) (inferAppRule h judge Γ e A) (inferAppRule h judge′ Γ′ e′ A′)
     unfolding inferAppRule infAppArr infAppETVar
     inferAppRuleR c e p =
         orElseR (onArmR (tyParts p .arrow) (λ A A′ a. oneR (checkR c e (a .0)) (λ r r′ w. (refl, a .1, w .1, andR (w .2) leafR))))
         (orElseR (onArmR (tyParts p .etvar) (λ a a′ α. bindR freshR (λ b b′ β. bindR freshR (λ d d′ δ.
         oneR (checkR (splitR α β δ c) e (etvarR β)) (λ r r′ w. (refl, etvarR δ, w .1, andR (w .2) leafR))))))
-        (refuseR (Related.applicationTypeErrorR p)))
+        (refuseR (applicationTypeErrorR p)))
 
     -- ## infer
 
     infVarR : {x x′ : TmVar} {Γ Γ′ : Ctx} {o o′ : Option Ty} → VarR P x x′ → CtxR P Γ Γ′ → OptionR (TyR P) o o′
         → Runs P (FiredR P) (infVar x Γ o) (infVar x′ Γ′ o′)
     unfolding infVar
-    infVarR x c noneR = refuseR (Related.unboundVariableR x)
+    infVarR x c noneR = refuseR (unboundVariableR x)
     infVarR x c (someR t) = giveR _ _ (refl, t, c, leafR)
 
     branchR : (b : Bool) {Γ Γ′ : Ctx} {A A′ : Ty} → CtxR P Γ Γ′ → TyR P A A′ → Runs P (TyR P) (branch b Γ A) (branch b Γ′ A′)
@@ -238,13 +276,13 @@ module _ {P : Pairing} where
 
     infBothR : (r : Rule) {A A′ C C′ : Ty} {Γ Γ′ : Ctx} {e e′ f f′ : Expr} → TyR P A A′ → TyR P C C′ → CtxR P Γ Γ′ → ExprR P e e′
         → ExprR P f f′
-        → Runs P (FiredR P) (infBoth judge r A C Γ e f) (infBoth judge′ r A′ C′ Γ′ e′ f′)
+        → Runs P (FiredR P) (infBoth h judge r A C Γ e f) (infBoth h judge′ r A′ C′ Γ′ e′ f′)
     unfolding infBoth
     infBothR r a t c e f =
         twoR (checkR c e a) (λ r r′ w. checkR (w .1) f a) (λ r r′ s s′ w v. (refl, t, v .1, andR (w .2) (andR (v .2) leafR)))
 
     infBinOpR : (o : ℕ) {Γ Γ′ : Ctx} {e e′ f f′ : Expr} → CtxR P Γ Γ′ → ExprR P e e′ → ExprR P f f′
-        → Runs P (FiredR P) (infBinOp judge Γ o e f) (infBinOp judge′ Γ′ o e′ f′)
+        → Runs P (FiredR P) (infBinOp h judge Γ o e f) (infBinOp h judge′ Γ′ o e′ f′)
     unfolding infBinOp infEq
     infBinOpR o c e f =
         orElseR (whenR refl (infBothR _ intR intR c e f))
@@ -255,64 +293,65 @@ module _ {P : Pairing} where
 
     instantiateR : {A A′ B B′ : Ty} → TyR P B B′ → TyR P A A′ → Runs P (TyR P) (instantiate B A) (instantiate B′ A′)
     unfolding instantiate
-    instantiateR b p = orElseR (onArmR (tyParts p .forall) (λ A A′ a. substR (a .0) b (a .1))) (refuseR (Related.typeApplicationErrorR p))
+    instantiateR b p = orElseR (onArmR (tyParts p .forall) (λ A A′ a. substR (a .0) b (a .1))) (refuseR (typeApplicationErrorR p))
 
-    inferRuleR : (m : Mode) {Γ Γ′ : Ctx} {e e′ : Expr} → CtxR P Γ Γ′ → ExprR P e e′
-        → Runs P (FiredR P) (inferRule m judge Γ e) (inferRule m judge′ Γ′ e′)
+    inferRuleR : {Γ Γ′ : Ctx} {e e′ : Expr} → CtxR P Γ Γ′ → ExprR P e e′
+        → Runs P (FiredR P) (inferRule h judge Γ e) (inferRule h judge′ Γ′ e′)
     unfolding inferRule infLam infApp infLet infIf infAnn infTAbs infTApp
-    inferRuleR m c (Related.evarR x) = infVarR x c (findR (kVarR x) c)
-    inferRuleR m c (Related.annR e t) = oneR (checkR c e t) (λ r r′ w. (refl, t, w .1, andR (w .2) leafR))
-    inferRuleR m c Related.litIntR = giveR _ _ (refl, intR, c, leafR)
-    inferRuleR m c Related.litBoolR = giveR _ _ (refl, boolR, c, leafR)
-    inferRuleR m c (Related.absR x t e) =
-        bindR freshR (λ b b′ β. oneR (checkR (pushR (pushR c (varBndR x t)) (etvarBndR β)) e (etvarR β))
+    inferRuleR c (Related.evarR x) = infVarR x c (findR (kVarR x) c)
+    inferRuleR c (Related.annR e t) = oneR (checkR c e t) (λ r r′ w. (refl, t, w .1, andR (w .2) leafR))
+    inferRuleR c Related.litIntR = giveR _ _ (refl, intR, c, leafR)
+    inferRuleR c Related.litBoolR = giveR _ _ (refl, boolR, c, leafR)
+    inferRuleR c (Related.absR x t e) =
+        bindR freshR (λ b b′ β. oneR (checkR (addR (addR c (varBndR x t)) (etvarBndR β)) e (etvarR β))
         (λ r r′ w. (refl, arrowR t (etvarR β), solvedAndRightR (kVarR x) (w .1), andR (w .2) leafR)))
-    inferRuleR m c (Related.appR e f) =
-        bindR (h _ _ (inferR c e)) (λ r r′ w. bindR (applyR (w .1) (w .0)) (λ A A′ t.
+    inferRuleR c (Related.appR e f) =
+        bindR (asked _ _ (inferR c e)) (λ r r′ w. bindR (applyR (w .1) (w .0)) (λ A A′ t.
         oneR (inferAppR (w .1) f t) (λ s s′ v. (refl, v .0, v .1, andR (w .2) (andR (v .2) leafR)))))
-    inferRuleR m c (Related.tabsR a e) =
-        bindR (h _ _ (inferR (pushR c (tvarBndR a)) e)) (λ r r′ w. bindR (applyR (w .1) (w .0)) (λ A A′ t.
+    inferRuleR c (Related.tabsR a e) =
+        bindR (asked _ _ (inferR (addR c (tvarBndR a)) e)) (λ r r′ w. bindR (applyR (w .1) (w .0)) (λ A A′ t.
         giveR _ _ (refl, forallR a t, solvedAndRightR (kTVarR a) (w .1), andR (w .2) leafR)))
-    inferRuleR m c (Related.tappR e t) =
-        bindR (h _ _ (inferR c e)) (λ r r′ w. bindR (instantiateR t (w .0)) (λ A A′ s. giveR _ _ (refl, s, w .1, andR (w .2) leafR)))
-    inferRuleR m c (Related.letInR x e f) =
-        twoR (inferR c e) (λ r r′ w. inferR (pushR (w .1) (varBndR x (w .0))) f)
+    inferRuleR c (Related.tappR e t) =
+        bindR (asked _ _ (inferR c e)) (λ r r′ w. bindR (instantiateR t (w .0)) (λ A A′ s. giveR _ _ (refl, s, w .1, andR (w .2) leafR)))
+    inferRuleR c (Related.letInR x e f) =
+        twoR (inferR c e) (λ r r′ w. inferR (addR (w .1) (varBndR x (w .0))) f)
         (λ r r′ s s′ w v. (refl, v .0, solvedAndRightR (kVarR x) (v .1), andR (w .2) (andR (v .2) leafR)))
-    inferRuleR m c (Related.ifThenElseR e f g) =
-        bindR (h _ _ (checkR c e boolR)) (λ r r′ w₁. bindR (h _ _ (inferR (w₁ .1) f)) (λ r r′ w₂. bindR (h _ _ (inferR (w₂ .1) g)) (λ r r′ w₃.
+    inferRuleR c (Related.ifThenElseR e f g) =
+        bindR (asked _ _ (checkR c e boolR)) (λ r r′ w₁. bindR (asked _ _ (inferR (w₁ .1) f)) (λ r r′ w₂. bindR (asked _ _ (inferR (w₂ .1) g)) (λ r r′ w₃.
         bindR (branchR _ (w₃ .1) (w₂ .0)) (λ A A′ s. bindR (branchR _ (w₃ .1) (w₃ .0)) (λ B B′ t. oneR (subtypeR (w₃ .1) s t)
         (λ r r′ w₄. (refl, w₂ .0, w₄ .1, andR (w₁ .2) (andR (w₂ .2) (andR (w₃ .2) (andR (w₄ .2) leafR))))))))))
-    inferRuleR m c (Related.binOpR e f) = infBinOpR _ c e f
+    inferRuleR c (Related.binOpR e f) = infBinOpR _ c e f
 
     -- ## Every rule
 
-    ruleR : (m : Mode) {j j′ : Judgement} → JudgementR P j j′ → Runs P (FiredR P) (rule m judge j) (rule m judge′ j′)
+    ruleR : {j j′ : Judgement} → JudgementR P j j′ → Runs P (FiredR P) (rule h judge j) (rule h judge′ j′)
     unfolding rule
-    ruleR m (inferR c e) = inferRuleR m c e
-    ruleR m (checkR c e t) = checkRuleR m c e t
-    ruleR m (inferAppR c e t) = inferAppRuleR c e t
-    ruleR m (subtypeR c p q) = subtypeRuleR c p q
-    ruleR m (instR c a t) = instRuleR _ c a t
+    ruleR (inferR c e) = inferRuleR c e
+    ruleR (checkR c e t) = checkRuleR c e t
+    ruleR (inferAppR c e t) = inferAppRuleR c e t
+    ruleR (subtypeR c p q) = subtypeRuleR c p q
+    ruleR (instR c a t) = instRuleR _ c a t
 
-    givenR : {j j′ : Judgement} → JudgementR P j j′ → CtxR P (given j) (given j′)
-    unfolding given
-    givenR (inferR c e) = c
-    givenR (checkR c e t) = c
-    givenR (inferAppR c e t) = c
-    givenR (subtypeR c p q) = c
-    givenR (instR c a t) = c
+  givenR : {j j′ : Judgement} → JudgementR P j j′ → CtxR P (given j) (given j′)
+  unfolding given
+  givenR (inferR c e) = c
+  givenR (checkR c e t) = c
+  givenR (inferAppR c e t) = c
+  givenR (subtypeR c p q) = c
+  givenR (instR c a t) = c
 
-    judgeStepR : (m : Mode) {j j′ : Judgement} → JudgementR P j j′ → Runs P (ResultR P) (judgeStep m judge j) (judgeStep m judge′ j′)
-    unfolding judgeStep
-    judgeStepR m p =
-        bindR (chargeR (ap (λ n. 1 + n) (lengthR (givenR p)))) (λ u u′ v. bindR (ruleR m p) (λ r r′ w. bindR (chargeR (lengthR (w .2)))
-        (λ u u′ v. giveR _ _ (w .1, w .2, rw (w .0) (nodeR p (w .1) (w .2) (w .3))))))
+  judgeStepR : (judge judge′ : Here → Judge) → ((h : Here) (j j′ : Judgement) → JudgementR P j j′ → Runs P (ResultR P) (judge h j) (judge′ h j′))
+      → (h : Here) {j j′ : Judgement} → JudgementR P j j′ → Runs P (ResultR P) (judgeStep rule judge h j) (judgeStep rule judge′ h j′)
+  unfolding judgeStep
+  judgeStepR judge judge′ asked h p =
+      bindR (chargeR (ap (λ n. 1 + n) (lengthR (givenR p)))) (λ u u′ v. bindR (ruleR h (judge h) (judge′ h) (asked h) p) (λ r r′ w. bindR (chargeR (lengthR (w .2)))
+      (λ u u′ v. giveR _ _ (w .1, w .2, rw (w .0) (nodeR p (w .1) (w .2) (w .3))))))
 
-  judgeToR : (m : Mode) (d : ℕ) (j j′ : Judgement) → JudgementR P j j′ → Runs P (ResultR P) (judgeTo m d j) (judgeTo m d j′)
+  judgeToR : (d : ℕ) (h : Here) (j j′ : Judgement) → JudgementR P j j′ → Runs P (ResultR P) (judgeTo rule d h j) (judgeTo rule d h j′)
   unfolding judgeTo
-  judgeToR m zero j j′ p = haltR
-  judgeToR m (suc d) j j′ p = judgeStepR _ _ (λ i i′ q. record { at = λ l n. judgeToR m d i i′ q .at l n }) m p
+  judgeToR zero h j j′ p = haltR
+  judgeToR (suc d) h j j′ p = judgeStepR _ _ (λ g i i′ q. record { at = λ l n. judgeToR d g i i′ q .at l n }) h p
 
-  pub judgeR : (m : Mode) {j j′ : Judgement} → JudgementR P j j′ → Runs P (ResultR P) (judge m j) (judge m j′)
-  unfolding judge
-  judgeR m p = record { at = λ l n. judgeToR m l _ _ p .at l n }
+  pub judgeR : (h : Here) {j j′ : Judgement} → JudgementR P j j′ → Runs P (ResultR P) (judge h j) (judge h j′)
+  unfolding judgeBy
+  judgeR h p = record { at = λ l n. judgeToR l h _ _ p .at l n }

@@ -9,7 +9,7 @@ use lib.Seq.{length-take-le}
 use lib.Dec.{T, leb, ltb, eqb, leb→le, ltb→lt, eqb→eq}
 use Rattle.definition.specs.Syntax
 use Rattle.definition.specs.Syntax.{pick, TmVar, TyVar, Ty, Expr, Ctx}
-use Rattle.definition.specs.Question.{Read, got, fault, Reader, next, _>>=_, give, badShape, reservedName, word, any, within, name, variable, typeName, row, oneOf, tyRows, readTy, type, exprRows, readExpr, expression, entry, unlessEnd, readCtx, context, end, whole, counted, empty, unknown, Mode, mode, Question, kindRows, question, readQuestion}
+use Rattle.definition.specs.Question.{Read, got, fault, Reader, next, _>>=_, give, badShape, reservedName, word, any, within, written, variable, typeName, row, oneOf, tyRows, readTy, type, exprRows, readExpr, expression, binding, entry, unlessEnd, readCtx, context, end, whole, counted, empty, unknown, Mode, mode, Question, kindRows, question, readQuestion}
 use Rattle.alike.specs.Alike
 use Rattle.alike.specs.Alike.{itself, Label, the, IsTy, IsExpr, IsEntry, IsCtx, IsQuestion, InQuestions, none, more, Alike, AlikeQuestions, WellFormed}
 use Rattle.alike.proofs.Words.{done, under, item, join, sect, lastSect}
@@ -93,15 +93,15 @@ anyO : Only any (Lone (λ w. Unit {0}))
 unfolding any
 anyO = wordO _ (λ p w. giveO w (lone tt))
 
-nameO : Only name (Lone (λ w. w < 1_000_000))
-unfolding name reservedName
+nameO : Only written (Lone (λ w. w < 1_000_000))
+unfolding written reservedName
 nameO = wordO _ (λ p w. pickO (ltb w 1_000_000) (λ t. giveO w (lone (ltb→lt w 1_000_000 t))) (λ t. record { at = λ q ws. failed }))
 
-variableO : Only variable (λ x. Lone (λ w. w < 1_000_000) (x .number))
+variableO : Only (variable written) (λ x. Lone (λ w. w < 1_000_000) (x .number))
 unfolding variable
 variableO = lastO _ nameO (λ n u h. h)
 
-typeNameO : Only typeName (λ a. Lone (λ w. w < 1_000_000) (a .number))
+typeNameO : Only (typeName written) (λ a. Lone (λ w. w < 1_000_000) (a .number))
 unfolding typeName
 typeNameO = lastO _ nameO (λ n u h. h)
 
@@ -143,15 +143,15 @@ code a = under _ InQuestions.same a
 
 onTypeName : {A : Type 0} {F : A → List ℕ → Type 0} (f : TyVar → Reader A)
     → ((a : TyVar) → InQuestions itself Label.typeName (a .number) (a .number) → Only (f a) (λ b v. F b (a .number ∷ v)))
-    → Only (_>>=_ typeName f) F
+    → Only (_>>=_ (typeName written) f) F
 onTypeName f h = loneO (λ a. a .number) f typeNameO (λ a l. h a (InQuestions.typeNames (record { paired = refl; low = l; low′ = l })))
 
 onVariable : {A : Type 0} {F : A → List ℕ → Type 0} (f : TmVar → Reader A)
     → ((x : TmVar) → InQuestions itself Label.variable (x .number) (x .number) → Only (f x) (λ b v. F b (x .number ∷ v)))
-    → Only (_>>=_ variable f) F
+    → Only (_>>=_ (variable written) f) F
 onVariable f h = loneO (λ x. x .number) f variableO (λ x l. h x (InQuestions.variables (record { paired = refl; low = l; low′ = l })))
 
-tyRowsO : (ty : Reader Ty) → Only ty (λ A. Own IsTy) → Rows (λ A. Own IsTy) (tyRows ty)
+tyRowsO : (ty : Reader Ty) → Only ty (λ A. Own IsTy) → Rows (λ A. Own IsTy) (tyRows written ty)
 unfolding tyRows
 tyRowsO ty h =
     giveO _ (code (done IsTy.int))
@@ -162,12 +162,12 @@ tyRowsO ty h =
     ⨾ onTypeName _ (λ a n. lastO _ h (λ A u t. code (under _ n (item (λ _. IsTy.forall) t))))
     ⨾ noRow
 
-readTyO : (d : ℕ) → Only (readTy d) (λ A. Own IsTy)
+readTyO : (d : ℕ) → Only (readTy written d) (λ A. Own IsTy)
 unfolding readTy
 readTyO zero = record { at = λ p ws. failed }
 readTyO (suc d) = record { at = λ p ws. oneOfO (tyRowsO _ (record { at = λ q vs. readTyO d .at q vs })) .at p ws }
 
-typeO : Only type (λ A. Own IsTy)
+typeO : Only (type written) (λ A. Own IsTy)
 unfolding type
 typeO = record { at = λ p ws. readTyO (length ws) .at p ws }
 
@@ -201,9 +201,9 @@ expressionO = record { at = λ p ws. readExprO (length ws) .at p ws }
 
 -- ## Contexts
 
-entryO : Only entry (λ e. Own IsEntry)
-unfolding entry
-entryO =
+bindingO : Only (binding written) (λ e. Own IsEntry)
+unfolding binding
+bindingO =
     oneOfO
     (onVariable _ (λ x n. lastO _ typeO (λ A u t. code (under _ n (item (λ _. IsEntry.varBnd) t))))
     ⨾ onTypeName _ (λ a n. giveO _ (code (under _ n (done IsEntry.tvarBnd))))
@@ -212,19 +212,23 @@ entryO =
     ⨾ onTypeName _ (λ a n. giveO _ (code (under _ n (done IsEntry.mark))))
     ⨾ noRow)
 
+entryO : Only (entry written) (λ e. Own IsEntry)
+unfolding entry
+entryO = lastO _ bindingO (λ b u t. t)
+
 unlessEndO : (m : Reader Ctx) → Only m (λ Γ. Own IsCtx) → Only (unlessEnd [] m) (λ Γ. Own IsCtx)
 unfolding unlessEnd
 unlessEndO m h = record { at = λ p. elim [ [] ↦ took [] [] (done IsCtx.noEntry) refl | w ∷ ws ↦ h .at p (w ∷ ws) ] }
 
-readCtxO : (d : ℕ) → Only (readCtx d) (λ Γ. Own IsCtx)
+readCtxO : (d : ℕ) → Only (readCtx written d) (λ Γ. Own IsCtx)
 unfolding readCtx
 readCtxO zero = record { at = λ p ws. unlessEndO _ (faultO p) .at p ws }
 readCtxO (suc d) =
-    let entries : Only (λ q vs. readCtx d q vs) (λ Γ. Own IsCtx) = record { at = λ q vs. readCtxO d .at q vs } in
+    let entries : Only (λ q vs. readCtx written d q vs) (λ Γ. Own IsCtx) = record { at = λ q vs. readCtxO d .at q vs } in
     let more = bindO _ entryO (λ e u s. lastO _ entries (λ Γ v t. join s (item (λ _. IsCtx.entry (s .format)) t))) in
     record { at = λ p ws. unlessEndO _ more .at p ws }
 
-contextO : Only context (λ Γ. Own IsCtx)
+contextO : Only (context written) (λ Γ. Own IsCtx)
 unfolding context
 contextO = record { at = λ p ws. readCtxO (length ws) .at p ws }
 

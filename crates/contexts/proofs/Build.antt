@@ -5,16 +5,18 @@ use Prim.Native.Nat.{ℕ, _+_, _-_, _*_, _≤_, _<_}
 use native.Mathlib.Nat.{le-refl}
 use native.Mathlib.Omega.{arith}
 use lib.ListN.{length, length-append}
-use Rattle.definition.specs.Syntax.{TmVar, TyVar, Ty, Entry, varBnd, tvarBnd, etvarBnd, setvarBnd, mark, Ctx}
-use Rattle.definition.specs.Contexts.{Key, kVar, kTVar, kETVar, kSETVar, kMark, keyOf, kindOf, nameOf, held, _▹_, replace}
-use Rattle.layout.specs.Words.{Keep, Put4, Copied}
-use Rattle.layout.specs.Denotes.{Den, EntryAt, CtxAt, nil, cons, Run, Base}
+use Rattle.definition.specs.Syntax.{TyVar, Entry, Ctx}
+use Rattle.definition.specs.Contexts.{kETVar, _▹_, replace}
+use Rattle.layout.specs.States.{raised}
+use Rattle.layout.specs.Words.{Keep, Copied}
+use Rattle.layout.specs.Denotes.{AsEntry, PutEntry, CtxAt, nil, cons, Run}
+use Rattle.layout.specs.declared.Entry as program
 use Rattle.layout.specs.declared.Span.{Span}
 use Rattle.layout.specs.declared.State.{State}
 use Rattle.layout.proofs.Words.{keep-refl, keep-trans, keep-less}
-use Rattle.layout.proofs.Denotes.{den-frame, int-den, ctx-move, ctx-join}
+use Rattle.layout.proofs.Denotes.{entry-stays, ctx-move, ctx-join}
 use Rattle.contexts.specs.Search.{Split}
-use Rattle.contexts.specs.Build.{Past, Grown, CopiedRight, Spliced, Makes, Pushed, Pushed2, Replaced, Parted}
+use Rattle.contexts.specs.Build.{Past, Grown, CopiedRight, Spliced, Pushed, Pushed2, Replaced, Replaced3}
 use Rattle.contexts.specs.declared.Opened.{Opened}
 use Rattle.contexts.proofs.Search.{split-right}
 
@@ -22,40 +24,13 @@ use Rattle.contexts.proofs.Search.{split-right}
 pub keep-then : {a b d : ℕ} {w w₁ w₂ : List ℕ} → a ≤ b → b ≤ d → Keep a b w w₁ → Keep b d w₁ w₂ → Keep a d w w₂
 keep-then l m k h = keep-trans (keep-less (le-refl _) m k) (keep-less l (le-refl _) h)
 
+-- the run of n entries at top
+pub past-run : {s e : State} {n : ℕ} → e ≡ raised s (4 * n) → Past s n (record { st = e; g = record { at = s .top; n = n } })
+past-run e = rw e (record { at = refl; count = refl; top = refl; low = refl; left = refl; fresh = refl })
+
 -- a run of as many entries as it says
 pub as-many : {w w′ : List ℕ} {s : State} {n : ℕ} {o : Opened} → Grown w w′ s n o → Grown w w′ s (o .g .n) o
 as-many {w} {w′} {s} {n} {o} x = subst (λ (m : ℕ). Grown w w′ s m o) (sym (x .past .count)) x
-
-pub kind-small : (k : Key) → kindOf k < 37
-unfolding kindOf
-kind-small (kVar x) = omega arith
-kind-small (kTVar a) = omega arith
-kind-small (kETVar a) = omega arith
-kind-small (kSETVar a) = omega arith
-kind-small (kMark a) = omega arith
-
--- ## The five entries; the bare ones are put with Int's reference
-
-module _ {q w : List ℕ} {t : ℕ} where
-  pub makes-var : {r : ℕ} {A : Ty} (x : TmVar) → Den q w t r A → Makes q w t (kVar x) r (varBnd x A)
-  unfolding keyOf held
-  makes-var x d = record { key-is = refl; den = d }
-
-  pub makes-solved : {r : ℕ} {A : Ty} (a : TyVar) → Den q w t r A → Makes q w t (kSETVar a) r (setvarBnd a A)
-  unfolding keyOf held
-  makes-solved a d = record { key-is = refl; den = d }
-
-  pub makes-tvar : (a : TyVar) → Base q w t → Makes q w t (kTVar a) 2048 (tvarBnd a)
-  unfolding keyOf held
-  makes-tvar a b = record { key-is = refl; den = int-den b }
-
-  pub makes-unsolved : (a : TyVar) → Base q w t → Makes q w t (kETVar a) 2048 (etvarBnd a)
-  unfolding keyOf held
-  makes-unsolved a b = record { key-is = refl; den = int-den b }
-
-  pub makes-mark : (a : TyVar) → Base q w t → Makes q w t (kMark a) 2048 (mark a)
-  unfolding keyOf held
-  makes-mark a b = record { key-is = refl; den = int-den b }
 
 -- ## Copying around a gap
 
@@ -105,19 +80,10 @@ module _ {w w₁ w′ : List ℕ} {s : State} {g : Span} {i m : ℕ} {o : Opened
       })
 
   -- an entry that was put there, and stays
-  filled-entry : {q v v′ : List ℕ} {p h r : ℕ} {k : Key} {e : Entry} {Θ : Ctx} → Put4 v v′ p (kindOf k) (nameOf k) r 0 → Keep (p + 4) h v′ w′
-      → p + 4 ≤ s .top + 4 * (i + m) → Makes q w (s .top) k r e → CtxAt q w′ (end s g i m) (p + 4) Θ
+  filled-entry : {q v v′ : List ℕ} {p h : ℕ} {n : program.Entry} {e : Entry} {Θ : Ctx} → PutEntry v v′ p n → Keep (p + 4) h v′ w′
+      → p + 4 ≤ s .top + 4 * (i + m) → AsEntry q w (s .top) n e → CtxAt q w′ (end s g i m) (p + 4) Θ
       → CtxAt q w′ (end s g i m) p (e ∷ Θ)
-  filled-entry {q} {p = p} {r = r} {e = e} x y l z h =
-      let entry : EntryAt q w′ (end s g i m) p e = record {
-        ref = r;
-        below = omega arith;
-        kind = sym (y .below p (omega arith)) ∙ x .w0 ∙ ap kindOf (sym (z .key-is));
-        name = sym (y .below (p + 1) (omega arith)) ∙ x .w1 ∙ ap nameOf (sym (z .key-is));
-        ref-is = sym (y .below (p + 2) (omega arith)) ∙ x .w2;
-        den = den-frame (filled .keep) (omega arith) (z .den);
-      } in
-      cons entry h
+  filled-entry x y l z h = cons (entry-stays x y (filled .keep) (omega arith) (omega arith) z) h
 
 -- ## Entries after a run
 
@@ -125,8 +91,8 @@ appended : {w w₁ w′ : List ℕ} {s : State} {g : Span} {m : ℕ} {o : Opened
     → Keep (s .top + 4 * g .n) (s .top + 4 * (g .n + m)) w₁ w′ → Grown w w′ s (g .n + m) o
 appended {g = g} {m = m} b sp kp = let e : g .n + m ≡ g .n + m + (g .n - (g .n + 1)) = omega arith in rw e (filled b sp kp)
 
-module _ {w w₁ w₂ : List ℕ} {s : State} {g : Span} {k : Key} {r : ℕ} {o : Opened} (b : g .at + 4 * g .n ≤ s .top) where
-  pub pushed : Spliced w w₁ s g (g .n) 1 o → Put4 w₁ w₂ (s .top + 4 * g .n) (kindOf k) (nameOf k) r 0 → Pushed w w₂ s g k r o
+module _ {w w₁ w₂ : List ℕ} {s : State} {g : Span} {n : program.Entry} {o : Opened} (b : g .at + 4 * g .n ≤ s .top) where
+  pub pushed : Spliced w w₁ s g (g .n) 1 o → PutEntry w₁ w₂ (s .top + 4 * g .n) n → Pushed w w₂ s g n o
   unfolding _▹_
   pushed sp x =
       let kp : Keep (s .top + 4 * g .n) (s .top + 4 * (g .n + 1)) w₁ w₂ = keep-less (le-refl _) (omega arith) (x .keep) in
@@ -135,8 +101,8 @@ module _ {w w₁ w₂ : List ℕ} {s : State} {g : Span} {k : Key} {r : ℕ} {o 
         run = λ u z. filled-run b sp kp u nil (omega arith) refl (filled-entry b sp kp x (keep-refl _ 0 _) (omega arith) z nil);
       }
 
-  pub pushed2 : {w₃ : List ℕ} {k₂ : Key} {r₂ : ℕ} → Spliced w w₁ s g (g .n) 2 o → Put4 w₁ w₂ (s .top + 4 * g .n) (kindOf k) (nameOf k) r 0
-      → Put4 w₂ w₃ (s .top + 4 * g .n + 4) (kindOf k₂) (nameOf k₂) r₂ 0 → Pushed2 w w₃ s g k r k₂ r₂ o
+  pub pushed2 : {w₃ : List ℕ} {n₂ : program.Entry} → Spliced w w₁ s g (g .n) 2 o → PutEntry w₁ w₂ (s .top + 4 * g .n) n
+      → PutEntry w₂ w₃ (s .top + 4 * g .n + 4) n₂ → Pushed2 w w₃ s g n n₂ o
   unfolding _▹_
   pushed2 {w₃} sp x y =
       let kp : Keep (s .top + 4 * g .n) (s .top + 4 * (g .n + 2)) w₁ w₃ =
@@ -162,28 +128,28 @@ module _ {w w₁ : List ℕ} {s : State} {g : Span} {a : TyVar} {i m : ℕ} {o :
   unfolding replace
   swapped-run u e h = let r = split-right f u in filled-run b sp kp (f .left u) (r .0) (r .1) e h
 
-module _ {w w₁ w₂ : List ℕ} {s : State} {g : Span} {a : TyVar} {i r : ℕ} {o : Opened} (l : g .at + 4 * g .n ≤ s .top) (f : Split w g (kETVar a) i) where
-  pub replaced : Spliced w w₁ s g i 1 o → Put4 w₁ w₂ (s .top + 4 * i) (kindOf (kSETVar a)) (nameOf (kSETVar a)) r 0 → Replaced w w₂ s g a r o
+module _ {w w₁ w₂ : List ℕ} {s : State} {g : Span} {a : TyVar} {n : program.Entry} {i : ℕ} {o : Opened} (l : g .at + 4 * g .n ≤ s .top)
+    (f : Split w g (kETVar a) i) where
+  pub replaced : Spliced w w₁ s g i 1 o → PutEntry w₁ w₂ (s .top + 4 * i) n → Replaced w w₂ s g a n o
   replaced sp x =
       let kp : Keep (s .top + 4 * i) (s .top + 4 * (i + 1)) w₁ w₂ = keep-less (le-refl _) (omega arith) (x .keep) in
       record {
         grown = swapped l f sp kp;
         few = swapped-few l f sp kp;
-        run = λ u d. swapped-run l f sp kp u refl (filled-entry l sp kp x (keep-refl _ 0 _) (omega arith) (makes-solved a d) nil);
+        run = λ u k. swapped-run l f sp kp u refl (filled-entry l sp kp x (keep-refl _ 0 _) (omega arith) k nil);
       }
 
-  pub parted : {w₃ w₄ : List ℕ} {b c : TyVar} → Spliced w w₁ s g i 3 o → Put4 w₁ w₂ (s .top + 4 * i) (kindOf (kSETVar a)) (nameOf (kSETVar a)) r 0
-      → Put4 w₂ w₃ (s .top + 4 * i + 4) (kindOf (kETVar b)) (nameOf (kETVar b)) 2048 0
-      → Put4 w₃ w₄ (s .top + 4 * i + 4 + 4) (kindOf (kETVar c)) (nameOf (kETVar c)) 2048 0 → Parted w w₄ s g a r b c o
-  parted {w₃} {w₄} {b} {c} sp x y z =
+  pub replaced3 : {w₃ w₄ : List ℕ} {n₂ n₃ : program.Entry} → Spliced w w₁ s g i 3 o → PutEntry w₁ w₂ (s .top + 4 * i) n
+      → PutEntry w₂ w₃ (s .top + 4 * i + 4) n₂ → PutEntry w₃ w₄ (s .top + 4 * i + 4 + 4) n₃ → Replaced3 w w₄ s g a n n₂ n₃ o
+  replaced3 {w₃} {w₄} sp x y z =
       let yz : Keep (s .top + 4 * i + 4) (s .top + 4 * i + 4 + 4 + 4) w₂ w₄ = keep-then (omega arith) (omega arith) (y .keep) (z .keep) in
       let kp : Keep (s .top + 4 * i) (s .top + 4 * (i + 3)) w₁ w₄ =
       keep-less (le-refl _) (omega arith) (keep-then (omega arith) (omega arith) (x .keep) yz) in
       record {
         grown = swapped l f sp kp;
         few = swapped-few l f sp kp;
-        run = λ e u d. swapped-run l f sp kp u refl
-            (filled-entry l sp kp x yz (omega arith) (makes-solved a d)
-            (filled-entry l sp kp y (z .keep) (omega arith) (makes-unsolved b e)
-            (filled-entry l sp kp z (keep-refl _ 0 _) (omega arith) (makes-unsolved c e) nil)));
+        run = λ u k k₂ k₃. swapped-run l f sp kp u refl
+            (filled-entry l sp kp x yz (omega arith) k
+            (filled-entry l sp kp y (z .keep) (omega arith) k₂
+            (filled-entry l sp kp z (keep-refl _ 0 _) (omega arith) k₃ nil)));
       }

@@ -3,10 +3,11 @@ use mathlib.Core.Path.{_≡_}
 use mathlib.Core.List.{List, [], _∷_}
 use Prim.Native.Nat.{ℕ, _+_, _-_, _*_, _≤_, _<_}
 use lib.ListN.{length, getD}
-use Rattle.definition.specs.Syntax.{TyVar, Ty, Entry, etvarBnd, setvarBnd, Ctx}
-use Rattle.definition.specs.Contexts.{Key, keyOf, held, _▹_, replace, solved, solvedAndRight}
+use Rattle.definition.specs.Syntax.{TyVar, Entry, Ctx}
+use Rattle.definition.specs.Contexts.{Key, _▹_, replace, solved, solvedAndRight}
 use Rattle.layout.specs.Words.{Keep, Copied}
-use Rattle.layout.specs.Denotes.{Den, Run, Base}
+use Rattle.layout.specs.Denotes.{AsEntry, Run}
+use Rattle.layout.specs.declared.Entry as program
 use Rattle.layout.specs.declared.Span.{Span}
 use Rattle.layout.specs.declared.State.{State}
 use Rattle.contexts.specs.declared.Opened.{Opened}
@@ -43,36 +44,32 @@ pub record Spliced (w w′ : List ℕ) (s : State) (g : Span) (i m : ℕ) (o : O
   pub left : (j : ℕ) → j < 4 * i → getD w′ (s .top + j) 0 ≡ getD w (g .at + j) 0
   pub right : (j : ℕ) → j < 4 * (g .n - (i + 1)) → getD w′ (s .top + 4 * (i + m) + j) 0 ≡ getD w (g .at + 4 * (i + 1) + j) 0
 
--- the entry that a key and a type reference make
-pub record Makes (q w : List ℕ) (t : ℕ) (k : Key) (r : ℕ) (e : Entry) : Type 0 where
-  pub key-is : keyOf e ≡ k
-  pub den : Den q w t r (held e)
-
 -- an entry was pushed
-pub record Pushed (w w′ : List ℕ) (s : State) (g : Span) (k : Key) (r : ℕ) (o : Opened) : Type 0 where
+pub record Pushed (w w′ : List ℕ) (s : State) (g : Span) (p : program.Entry) (o : Opened) : Type 0 where
   pub grown : Grown w w′ s (g .n + 1) o
-  pub run : {q : List ℕ} {Γ : Ctx} {e : Entry} → Run q w (s .top) (g .at) (g .n) Γ → Makes q w (s .top) k r e
+  pub run : {q : List ℕ} {Γ : Ctx} {e : Entry} → Run q w (s .top) (g .at) (g .n) Γ → AsEntry q w (s .top) p e
       → Run q w′ (o .st .top) (o .g .at) (o .g .n) (Γ ▹ e)
 
 -- two entries were pushed
-pub record Pushed2 (w w′ : List ℕ) (s : State) (g : Span) (k : Key) (r : ℕ) (k₂ : Key) (r₂ : ℕ) (o : Opened) : Type 0 where
+pub record Pushed2 (w w′ : List ℕ) (s : State) (g : Span) (p p₂ : program.Entry) (o : Opened) : Type 0 where
   pub grown : Grown w w′ s (g .n + 2) o
-  pub run : {q : List ℕ} {Γ : Ctx} {e e₂ : Entry} → Run q w (s .top) (g .at) (g .n) Γ → Makes q w (s .top) k r e → Makes q w (s .top) k₂ r₂ e₂
+  pub run : {q : List ℕ} {Γ : Ctx} {e e₂ : Entry} → Run q w (s .top) (g .at) (g .n) Γ → AsEntry q w (s .top) p e → AsEntry q w (s .top) p₂ e₂
       → Run q w′ (o .st .top) (o .g .at) (o .g .n) (Γ ▹ e ▹ e₂)
 
--- the solved a stands in the place of the earliest unsolved one, or at the end
-pub record Replaced (w w′ : List ℕ) (s : State) (g : Span) (a : TyVar) (r : ℕ) (o : Opened) : Type 0 where
+-- an entry stands in the place of the earliest unsolved a, or at the end
+pub record Replaced (w w′ : List ℕ) (s : State) (g : Span) (a : TyVar) (p : program.Entry) (o : Opened) : Type 0 where
   pub grown : Grown w w′ s (o .g .n) o
   pub few : o .g .n ≤ g .n + 1
-  pub run : {q : List ℕ} {Γ : Ctx} {T : Ty} → Run q w (s .top) (g .at) (g .n) Γ → Den q w (s .top) r T
-      → Run q w′ (o .st .top) (o .g .at) (o .g .n) (replace a (setvarBnd a T ∷ []) Γ)
+  pub run : {q : List ℕ} {Γ : Ctx} {e : Entry} → Run q w (s .top) (g .at) (g .n) Γ → AsEntry q w (s .top) p e
+      → Run q w′ (o .st .top) (o .g .at) (o .g .n) (replace a (e ∷ []) Γ)
 
--- the solved a and the unsolved b and c stand there
-pub record Parted (w w′ : List ℕ) (s : State) (g : Span) (a : TyVar) (r : ℕ) (b c : TyVar) (o : Opened) : Type 0 where
+-- three entries stand there
+pub record Replaced3 (w w′ : List ℕ) (s : State) (g : Span) (a : TyVar) (p p₂ p₃ : program.Entry) (o : Opened) : Type 0 where
   pub grown : Grown w w′ s (o .g .n) o
   pub few : o .g .n ≤ g .n + 3
-  pub run : {q : List ℕ} {Γ : Ctx} {T : Ty} → Base q w (s .top) → Run q w (s .top) (g .at) (g .n) Γ → Den q w (s .top) r T
-      → Run q w′ (o .st .top) (o .g .at) (o .g .n) (replace a (setvarBnd a T ∷ etvarBnd b ∷ etvarBnd c ∷ []) Γ)
+  pub run : {q : List ℕ} {Γ : Ctx} {e e₂ e₃ : Entry} → Run q w (s .top) (g .at) (g .n) Γ
+      → AsEntry q w (s .top) p e → AsEntry q w (s .top) p₂ e₂ → AsEntry q w (s .top) p₃ e₃
+      → Run q w′ (o .st .top) (o .g .at) (o .g .n) (replace a (e ∷ e₂ ∷ e₃ ∷ []) Γ)
 
 -- the m solved ones of n entries were copied
 pub record Kept (w w′ : List ℕ) (at n to m : ℕ) : Type 0 where

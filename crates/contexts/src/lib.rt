@@ -2,11 +2,11 @@
 ghost use Prim.Native.Nat.{_+_, _-_, _*_, _≤_, _<_, _^_};
 ghost use mathlib.Core.Path.{_≡_};
 ghost use lib.ListN.{length, getD};
-ghost use Rattle.definition.specs.Contexts.{kindOf, nameOf};
-ghost use Rattle.layout.specs.Words.{Put4};
 ghost use Rattle.layout.specs.Names.{ty, key};
+ghost use Rattle.layout.specs.Denotes.{SmallEntry};
 ghost use Rattle.contexts.specs.Search.{First, Split, Before, Right};
-ghost use Rattle.contexts.specs.Build.{Space, Past, CopiedRight, Spliced, Pushed, Pushed2, Replaced, Parted, Kept, KeptBoth};
+ghost use Rattle.contexts.specs.Build.{Space, Past, CopiedRight, Spliced, Pushed, Pushed2, Replaced, Replaced3, Kept, KeptBoth};
+use layout::Entry;
 use layout::Key;
 use layout::Span;
 use layout::State;
@@ -102,17 +102,9 @@ fn past(st: State, n: usize) -> Opened
     ensures { λ o. ⌜ Past st n o ⌝ }
 {
     let top = st.top;
-    let low = st.low;
-    let left = st.left;
-    let fresh = st.fresh;
-    let end = top + 4 * n;
+    let end = st.raise(4 * n);
     Opened {
-        st: State {
-            top: end,
-            low: low,
-            left: left,
-            fresh: fresh,
-        },
+        st: end,
         g: Span { at: top, n: n },
     }
 }
@@ -146,69 +138,67 @@ fn splice(work: &mut [u32], st: State, g: Span, i: usize, m: usize) -> Opened
     past(st, gap + rest)
 }
 
-// Puts an entry.
-fn put_entry(work: &mut [u32], p: usize, k: Key, r: usize)
-    requires { ⌜ (p + 4 ≤ length (now work)) × (r < 2 ^ 32) ⌝ }
-    ensures { λ _. ⌜ Put4 (now (work .entry)) (now (work .exit)) p (kindOf (key k)) (nameOf (key k)) r 0 ⌝ }
-{
-    let kind = k.kind();
-    let name = k.name();
-    layout::put4(work, p, kind, name, r, 0);
-}
-
 // Pushes an entry.
-pub fn push(work: &mut [u32], st: State, g: Span, k: Key, r: usize) -> Opened
-    requires { ⌜ (Space (now work) st g 1) × (r < 2 ^ 32) ⌝ }
-    ensures { λ o. ⌜ Pushed (now (work .entry)) (now (work .exit)) st g (key k) r o ⌝ }
+pub fn push(work: &mut [u32], st: State, g: Span, e: Entry) -> Opened
+    requires { ⌜ (Space (now work) st g 1) × (SmallEntry e) ⌝ }
+    ensures { λ o. ⌜ Pushed (now (work .entry)) (now (work .exit)) st g e o ⌝ }
 {
     let n = g.n;
     let p = st.top + 4 * n;
     let o = splice(work, st, g, n, 1);
-    put_entry(work, p, k, r);
+    layout::put_entry(work, p, e);
     o
 }
 
 // Pushes two entries.
-pub fn push2(work: &mut [u32], st: State, g: Span, k: Key, r: usize, k2: Key, r2: usize) -> Opened
-    requires { ⌜ (Space (now work) st g 2) × (r < 2 ^ 32) × (r2 < 2 ^ 32) ⌝ }
-    ensures { λ o. ⌜ Pushed2 (now (work .entry)) (now (work .exit)) st g (key k) r (key k2) r2 o ⌝ }
+pub fn push2(work: &mut [u32], st: State, g: Span, e: Entry, e2: Entry) -> Opened
+    requires { ⌜ (Space (now work) st g 2) × (SmallEntry e) × (SmallEntry e2) ⌝ }
+    ensures { λ o. ⌜ Pushed2 (now (work .entry)) (now (work .exit)) st g e e2 o ⌝ }
 {
     let n = g.n;
     let p = st.top + 4 * n;
     let p2 = p + 4;
     let o = splice(work, st, g, n, 2);
-    put_entry(work, p, k, r);
-    put_entry(work, p2, k2, r2);
+    layout::put_entry(work, p, e);
+    layout::put_entry(work, p2, e2);
     o
 }
 
-// The entry a solved by the type r in the place of the earliest unsolved a, or at the end.
-pub fn replace(work: &mut [u32], st: State, g: Span, a: TyVar, r: usize) -> Opened
-    requires { ⌜ (Space (now work) st g 1) × (r < 2 ^ 32) ⌝ }
-    ensures { λ o. ⌜ Replaced (now (work .entry)) (now (work .exit)) st g (ty a) r o ⌝ }
+// An entry in the place of the earliest unsolved a, or at the end.
+pub fn replace(work: &mut [u32], st: State, g: Span, a: TyVar, e: Entry) -> Opened
+    requires { ⌜ (Space (now work) st g 1) × (SmallEntry e) ⌝ }
+    ensures { λ o. ⌜ Replaced (now (work .entry)) (now (work .exit)) st g (ty a) e o ⌝ }
 {
     let top = st.top;
     let i = find(work, g, Key::ETVar(a));
     let p = top + 4 * i;
     let o = splice(work, st, g, i, 1);
-    put_entry(work, p, Key::SETVar(a), r);
+    layout::put_entry(work, p, e);
     o
 }
 
-// The entry a solved by the type r, then the unsolved b and c, in the place of the earliest unsolved a, or at the end.
-pub fn split(work: &mut [u32], st: State, g: Span, a: TyVar, r: usize, b: TyVar, c: TyVar) -> Opened
-    requires { ⌜ (Space (now work) st g 3) × (r < 2 ^ 32) ⌝ }
-    ensures { λ o. ⌜ Parted (now (work .entry)) (now (work .exit)) st g (ty a) r (ty b) (ty c) o ⌝ }
+// Three entries in the place of the earliest unsolved a, or at the end.
+pub fn replace3(
+    work: &mut [u32],
+    st: State,
+    g: Span,
+    a: TyVar,
+    e: Entry,
+    e2: Entry,
+    e3: Entry,
+) -> Opened
+    requires { ⌜ (Space (now work) st g 3) × (SmallEntry e) × (SmallEntry e2) × (SmallEntry e3) ⌝ }
+    ensures { λ o. ⌜ Replaced3 (now (work .entry)) (now (work .exit)) st g (ty a) e e2 e3 o ⌝ }
 {
     let top = st.top;
     let i = find(work, g, Key::ETVar(a));
-    let p1 = top + 4 * i;
-    let p2 = p1 + 4;
+    let p = top + 4 * i;
+    let p2 = p + 4;
     let p3 = p2 + 4;
     let o = splice(work, st, g, i, 3);
-    put_entry(work, p1, Key::SETVar(a), r);
-    put_entry(work, p2, Key::ETVar(b), layout::INT);
-    put_entry(work, p3, Key::ETVar(c), layout::INT);
+    layout::put_entry(work, p, e);
+    layout::put_entry(work, p2, e2);
+    layout::put_entry(work, p3, e3);
     o
 }
 

@@ -4,7 +4,7 @@ use mathlib.Core.Bool.{Bool, false, _&&_, _||_}
 use mathlib.Core.List.{[], _∷_, _++_}
 use mathlib.Core.Option.{Option, none, some}
 use lib.Dec.{eqb}
-use Rattle.definition.specs.Syntax.{syntax-computes, pick, TmVar, TyVar, Ty, int, Entry, varBnd, tvarBnd, etvarBnd, setvarBnd, mark, Ctx}
+use Rattle.definition.specs.Syntax.{syntax-computes, pick, TmVar, TyVar, Ty, int, Binding, varBnd, tvarBnd, etvarBnd, setvarBnd, mark, Entry, Ctx}
 
 -- ---- "Closures in find and break3: one search by entry kind and name."
 
@@ -12,12 +12,15 @@ pub data Key : Type 0 where
   kVar : TmVar → Key
   kTVar kETVar kSETVar kMark : TyVar → Key
 
+unfoldable pub bindingKey : Binding → Key
+bindingKey (varBnd x A) = kVar x
+bindingKey (tvarBnd a) = kTVar a
+bindingKey (etvarBnd a) = kETVar a
+bindingKey (setvarBnd a A) = kSETVar a
+bindingKey (mark a) = kMark a
+
 unfoldable pub keyOf : Entry → Key
-keyOf (varBnd x A) = kVar x
-keyOf (tvarBnd a) = kTVar a
-keyOf (etvarBnd a) = kETVar a
-keyOf (setvarBnd a A) = kSETVar a
-keyOf (mark a) = kMark a
+keyOf e = bindingKey (e .binding)
 
 unfoldable pub kindOf : Key → ℕ
 kindOf (kVar x) = 32
@@ -38,13 +41,16 @@ hit k e = eqb (kindOf (keyOf e)) (kindOf k) && eqb (nameOf (keyOf e)) (nameOf k)
 
 -- ---- "find and break3 take the earliest entry. With no match, left is everything, so a solution is appended."
 
--- the type that an entry holds (Int where it holds none, which nothing reads)
+-- the type that a binding holds (Int where it holds none, which nothing reads)
+unfoldable pub bindingType : Binding → Ty
+bindingType (varBnd x A) = A
+bindingType (tvarBnd a) = int
+bindingType (etvarBnd a) = int
+bindingType (setvarBnd a A) = A
+bindingType (mark a) = int
+
 unfoldable pub held : Entry → Ty
-held (varBnd x A) = A
-held (tvarBnd a) = int
-held (etvarBnd a) = int
-held (setvarBnd a A) = A
-held (mark a) = int
+held e = bindingType (e .binding)
 
 unfoldable pub find : Key → Ctx → Option Ty
 find k [] = none
@@ -91,5 +97,5 @@ before Γ a b = has (kETVar a) Γ && has (kETVar b) (leftOf (kETVar a) Γ)
 
 -- `unfolding contexts-compute` opens every definition above, and those they rest on
 unfoldable pub contexts-compute : Unit {0}
-unfolding keyOf kindOf nameOf hit held find leftOf rightOf has _▹_ replace isSolved solved solvedAndRight before syntax-computes
+unfolding bindingKey keyOf kindOf nameOf hit bindingType held find leftOf rightOf has _▹_ replace isSolved solved solvedAndRight before syntax-computes
 contexts-compute = tt

@@ -5,7 +5,7 @@ use mathlib.Core.Bool.{Bool, true, false, _&&_}
 use mathlib.Core.List.{List, [], _∷_}
 use lib.ListN.{length, take, drop}
 use lib.Dec.{leb, ltb, eqb}
-use Rattle.definition.specs.Syntax.{syntax-computes, pick, TmVar, TyVar, Ty, int, bool, var, etvar, arrow, forall, Expr, evar, app, abs, tapp, tabs, ann, litInt, litBool, letIn, ifThenElse, binOp, Entry, varBnd, tvarBnd, etvarBnd, setvarBnd, mark, Ctx, onL, onR, Judgement, infer, check, inferApp, subtype, inst}
+use Rattle.definition.specs.Syntax.{syntax-computes, pick, TmVar, TyVar, Ty, int, bool, var, etvar, arrow, forall, Expr, evar, app, abs, tapp, tabs, ann, litInt, litBool, letIn, ifThenElse, binOp, Binding, varBnd, tvarBnd, etvarBnd, setvarBnd, mark, Entry, Ctx, onL, onR, Judgement, infer, check, inferApp, subtype, inst}
 
 -- ---- Reading: a value with the next place and the words left, or a fault with its code and place
 
@@ -47,14 +47,15 @@ unfoldable pub within : ℕ → ℕ → Reader ℕ
 within low high = word (λ p w. pick (leb low w && leb w high) (give w) (badShape p))
 
 -- "Written names are below 1,000,000."
-unfoldable pub name : Reader ℕ
-name = word (λ p w. pick (ltb w 1_000_000) (give w) (reservedName p))
+unfoldable pub written : Reader ℕ
+written = word (λ p w. pick (ltb w 1_000_000) (give w) (reservedName p))
 
-unfoldable pub variable : Reader TmVar
-variable = do n ← name; give (record { number = n })
+-- what has names in it is read with a reader of names: in a question, `written`
+unfoldable pub variable : Reader ℕ → Reader TmVar
+variable name = do n ← name; give (record { number = n })
 
-unfoldable pub typeName : Reader TyVar
-typeName = do n ← name; give (record { number = n })
+unfoldable pub typeName : Reader ℕ → Reader TyVar
+typeName name = do n ← name; give (record { number = n })
 
 -- a word that is a code of a table, and the reader in its row; any other is the wrong word, 1,000,000 and more among them (reading 13)
 unfoldable pub row : {A : Type 0} → ℕ → List (ℕ × Reader A) → Reader A → Reader A
@@ -66,34 +67,34 @@ oneOf rows = word (λ p w. row w rows (badShape p))
 
 -- ---- Types, expressions, entries. An item's own items are read one level less deep; the number of words left is depth enough.
 
-unfoldable pub tyRows : Reader Ty → List (ℕ × Reader Ty)
-tyRows ty =
+unfoldable pub tyRows : Reader ℕ → Reader Ty → List (ℕ × Reader Ty)
+tyRows name ty =
     (1, give int)
     ∷ (2, give bool)
-    ∷ (3, (do a ← typeName; give (var a)))
-    ∷ (4, (do a ← typeName; give (etvar a)))
+    ∷ (3, (do a ← typeName name; give (var a)))
+    ∷ (4, (do a ← typeName name; give (etvar a)))
     ∷ (5, (do A ← ty; B ← ty; give (arrow A B)))
-    ∷ (6, (do a ← typeName; A ← ty; give (forall a A)))
+    ∷ (6, (do a ← typeName name; A ← ty; give (forall a A)))
     ∷ []
 
-unfoldable pub readTy : ℕ → Reader Ty
-readTy zero p ws = fault 4 p
-readTy (suc d) p ws = oneOf (tyRows (λ q vs. readTy d q vs)) p ws
+unfoldable pub readTy : Reader ℕ → ℕ → Reader Ty
+readTy name zero p ws = fault 4 p
+readTy name (suc d) p ws = oneOf (tyRows name (λ q vs. readTy name d q vs)) p ws
 
-unfoldable pub type : Reader Ty
-type p ws = readTy (length ws) p ws
+unfoldable pub type : Reader ℕ → Reader Ty
+type name p ws = readTy name (length ws) p ws
 
 unfoldable pub exprRows : ℕ → Reader Expr → List (ℕ × Reader Expr)
 exprRows p expr =
-    (16, (do x ← variable; give (evar p x)))
+    (16, (do x ← variable written; give (evar p x)))
     ∷ (17, (do e ← expr; e′ ← expr; give (app p e e′)))
-    ∷ (18, (do x ← variable; A ← type; e ← expr; give (abs p x A e)))
-    ∷ (19, (do e ← expr; A ← type; give (tapp p e A)))
-    ∷ (20, (do a ← typeName; e ← expr; give (tabs p a e)))
-    ∷ (21, (do e ← expr; A ← type; give (ann p e A)))
+    ∷ (18, (do x ← variable written; A ← type written; e ← expr; give (abs p x A e)))
+    ∷ (19, (do e ← expr; A ← type written; give (tapp p e A)))
+    ∷ (20, (do a ← typeName written; e ← expr; give (tabs p a e)))
+    ∷ (21, (do e ← expr; A ← type written; give (ann p e A)))
     ∷ (22, (do l ← any; h ← any; give (litInt p l h)))
     ∷ (23, (do b ← within 0 1; give (litBool p b)))
-    ∷ (24, (do x ← variable; e ← expr; e′ ← expr; give (letIn p x e e′)))
+    ∷ (24, (do x ← variable written; e ← expr; e′ ← expr; give (letIn p x e e′)))
     ∷ (25, (do e ← expr; e′ ← expr; e″ ← expr; give (ifThenElse p e e′ e″)))
     ∷ (26, (do o ← within 1 12; e ← expr; e′ ← expr; give (binOp p o e e′)))
     ∷ []
@@ -105,27 +106,30 @@ readExpr (suc d) p ws = oneOf (exprRows p (λ q vs. readExpr d q vs)) p ws
 unfoldable pub expression : Reader Expr
 expression p ws = readExpr (length ws) p ws
 
-unfoldable pub entry : Reader Entry
-entry =
+unfoldable pub binding : Reader ℕ → Reader Binding
+binding name =
     oneOf
-    ((32, (do x ← variable; A ← type; give (varBnd x A)))
-    ∷ (33, (do a ← typeName; give (tvarBnd a)))
-    ∷ (34, (do a ← typeName; give (etvarBnd a)))
-    ∷ (35, (do a ← typeName; A ← type; give (setvarBnd a A)))
-    ∷ (36, (do a ← typeName; give (mark a)))
+    ((32, (do x ← variable name; A ← type name; give (varBnd x A)))
+    ∷ (33, (do a ← typeName name; give (tvarBnd a)))
+    ∷ (34, (do a ← typeName name; give (etvarBnd a)))
+    ∷ (35, (do a ← typeName name; A ← type name; give (setvarBnd a A)))
+    ∷ (36, (do a ← typeName name; give (mark a)))
     ∷ [])
+
+unfoldable pub entry : Reader ℕ → Reader Entry
+entry name = do b ← binding name; give (record { binding = b })
 
 -- entries to the end of the section
 unfoldable pub unlessEnd : {A : Type 0} → A → Reader A → Reader A
 unlessEnd a m p [] = got a p []
 unlessEnd a m p (w ∷ ws) = m p (w ∷ ws)
 
-unfoldable pub readCtx : ℕ → Reader Ctx
-readCtx zero p ws = unlessEnd [] (badShape p) p ws
-readCtx (suc d) p ws = unlessEnd [] (do e ← entry; Γ ← (λ q vs. readCtx d q vs); give (e ∷ Γ)) p ws
+unfoldable pub readCtx : Reader ℕ → ℕ → Reader Ctx
+readCtx name zero p ws = unlessEnd [] (badShape p) p ws
+readCtx name (suc d) p ws = unlessEnd [] (do e ← entry name; Γ ← (λ q vs. readCtx name d q vs); give (e ∷ Γ)) p ws
 
-unfoldable pub context : Reader Ctx
-context p ws = readCtx (length ws) p ws
+unfoldable pub context : Reader ℕ → Reader Ctx
+context name p ws = readCtx name (length ws) p ws
 
 -- ---- Sections: "the first word too many; the count itself where it overruns the question or should be 0". "A context may be empty even where
 -- it is listed; other listed sections hold exactly one item": a count of 0 is a section that stops too early (reading 1).
@@ -147,7 +151,7 @@ empty = within 0 0
 
 -- "left is one ETVar", "right is one ETVar": another code is the wrong word, and nothing behind it is read (reading 2)
 unfoldable pub unknown : Reader TyVar
-unknown = oneOf ((4, typeName) ∷ [])
+unknown = oneOf ((4, typeName written) ∷ [])
 
 -- ---- "Mode is 0 plain or 1 strict." "Strict mode differs in two places."
 
@@ -183,12 +187,12 @@ pub record Question : Type 0 where
 
 unfoldable pub kindRows : List (ℕ × Reader Judgement)
 kindRows =
-    (1, (do Γ ← counted context; e ← counted expression; u ← empty; v ← empty; give (infer Γ e)))
-    ∷ (2, (do Γ ← counted context; e ← counted expression; u ← empty; B ← counted type; give (check Γ e B)))
-    ∷ (3, (do Γ ← counted context; e ← counted expression; A ← counted type; u ← empty; give (inferApp Γ e A)))
-    ∷ (4, (do Γ ← counted context; u ← empty; A ← counted type; B ← counted type; give (subtype Γ A B)))
-    ∷ (5, (do Γ ← counted context; u ← empty; a ← counted unknown; B ← counted type; give (inst onL Γ a B)))
-    ∷ (6, (do Γ ← counted context; u ← empty; A ← counted type; b ← counted unknown; give (inst onR Γ b A)))
+    (1, (do Γ ← counted (context written); e ← counted expression; u ← empty; v ← empty; give (infer Γ e)))
+    ∷ (2, (do Γ ← counted (context written); e ← counted expression; u ← empty; B ← counted (type written); give (check Γ e B)))
+    ∷ (3, (do Γ ← counted (context written); e ← counted expression; A ← counted (type written); u ← empty; give (inferApp Γ e A)))
+    ∷ (4, (do Γ ← counted (context written); u ← empty; A ← counted (type written); B ← counted (type written); give (subtype Γ A B)))
+    ∷ (5, (do Γ ← counted (context written); u ← empty; a ← counted unknown; B ← counted (type written); give (inst onL Γ a B)))
+    ∷ (6, (do Γ ← counted (context written); u ← empty; A ← counted (type written); b ← counted unknown; give (inst onR Γ b A)))
     ∷ (7, (do u ← empty; e ← counted expression; v ← empty; w ← empty; give (infer [] e)))
     ∷ []
 
@@ -206,5 +210,5 @@ readQuestion ws = question 0 ws
 
 -- `unfolding question-computes` opens every definition above, and those they rest on
 unfoldable pub question-computes : Unit {0}
-unfolding next _>>=_ give badShape reservedName word any within name variable typeName row oneOf tyRows readTy type exprRows readExpr expression entry unlessEnd readCtx context end whole counted empty unknown mode kindRows question readQuestion syntax-computes
+unfolding next _>>=_ give badShape reservedName word any within written variable typeName row oneOf tyRows readTy type exprRows readExpr expression binding entry unlessEnd readCtx context end whole counted empty unknown mode kindRows question readQuestion syntax-computes
 question-computes = tt

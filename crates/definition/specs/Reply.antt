@@ -4,11 +4,11 @@ use mathlib.Core.Bool.{Bool, _&&_, _||_}
 use mathlib.Core.List.{List, [], _++_}
 use lib.ListN.{length}
 use lib.Dec.{leb, ltb, eqb}
-use Rattle.definition.specs.Syntax.{pick, TypeError, unboundVariable, applicationTypeError, typeApplicationError, occursCheck, subtypingError, instantiationError, parameterMismatch, noSection, section, tySection, ctxSection, treeWords}
+use Rattle.definition.specs.Syntax.{pick, Error, UnboundVariable, ApplicationTypeError, TypeApplicationError, OccursCheck, SubtypingError, InstantiationError, ParameterMismatch, About, noName, aVariable, aTypeName, Shown, noType, oneType, twoTypes, noSection, section, tySection, ctxSection, treeWords}
 use Rattle.definition.specs.Question.{question-computes, Read, got, fault, Question, readQuestion}
 use Rattle.definition.specs.Run.{Out, done, fail, stop, M, _>>=_, give}
 use Rattle.definition.specs.Types.{apply}
-use Rattle.definition.specs.Rules.{rules-compute, Result, judge}
+use Rattle.definition.specs.Rules.{rules-compute, Result, outside, judge}
 
 pub record Reply : Type 0 where
   pub code : ℕ
@@ -42,33 +42,25 @@ reported room c p u ws =
 -- | 15 SubtypingError | as 000 | 0 |
 -- | 17 ParameterMismatch | strict mode only | 0 |
 
-unfoldable pub errorCode : TypeError → ℕ
-errorCode (unboundVariable x) = 11
-errorCode (applicationTypeError A) = 12
-errorCode (typeApplicationError A) = 13
-errorCode (occursCheck a A) = 14
-errorCode (subtypingError A B) = 15
-errorCode (instantiationError a A) = 16
-errorCode (parameterMismatch A B) = 17
+unfoldable pub errorCode : Error → ℕ
+errorCode UnboundVariable = 11
+errorCode ApplicationTypeError = 12
+errorCode TypeApplicationError = 13
+errorCode OccursCheck = 14
+errorCode SubtypingError = 15
+errorCode InstantiationError = 16
+errorCode ParameterMismatch = 17
 
-unfoldable pub errorAt : TypeError → ℕ
-errorAt (unboundVariable x) = x .number
-errorAt (applicationTypeError A) = 0
-errorAt (typeApplicationError A) = 0
-errorAt (occursCheck a A) = a .number
-errorAt (subtypingError A B) = 0
-errorAt (instantiationError a A) = a .number
-errorAt (parameterMismatch A B) = 0
+unfoldable pub errorAt : About → ℕ
+errorAt noName = 0
+errorAt (aVariable x) = x .number
+errorAt (aTypeName a) = a .number
 
 -- "A type error's report is two type sections: actual or ty in the first, or left and right; an unused one has count 0", both of 11 (reading 5)
-unfoldable pub errorWords : TypeError → List ℕ
-errorWords (unboundVariable x) = noSection ++ noSection
-errorWords (applicationTypeError A) = tySection A ++ noSection
-errorWords (typeApplicationError A) = tySection A ++ noSection
-errorWords (occursCheck a A) = tySection A ++ noSection
-errorWords (subtypingError A B) = tySection A ++ tySection B
-errorWords (instantiationError a A) = tySection A ++ noSection
-errorWords (parameterMismatch A B) = tySection A ++ tySection B
+unfoldable pub errorWords : Shown → List ℕ
+errorWords noType = noSection ++ noSection
+errorWords (oneType A) = tySection A ++ noSection
+errorWords (twoTypes A B) = tySection A ++ tySection B
 
 -- ---- "On 0 the report has three sections, each after its count: type (count 0 for kinds 2, 4, 5, 6), context, tree."
 
@@ -83,13 +75,13 @@ resultWords k (A, Δ, t) = pick (givesType k) (tySection A) noSection ++ (ctxSec
 unfoldable pub answer : Question → M Result
 answer q =
     pick (eqb (q .kind) 7)
-    (do (A, Δ, t) ← judge (q .manner) (q .asks); A′ ← apply Δ A; give (A′, Δ, t))
-    (judge (q .manner) (q .asks))
+    (do (A, Δ, t) ← judge (outside (q .manner)) (q .asks); A′ ← apply Δ A; give (A′, Δ, t))
+    (judge (outside (q .manner)) (q .asks))
 
 -- "Units equal this count in the definition": what the run took of the budget, that of a failing judgement too (reading 11)
 unfoldable pub outReply : ℕ → ℕ → ℕ → Out Result → Reply
 outReply k budget room (done r l n) = reported room 0 0 (budget - l) (resultWords k r)
-outReply k budget room (fail e l) = reported room (errorCode e) (errorAt e) (budget - l) (errorWords e)
+outReply k budget room (fail e l) = reported room (errorCode (e .error)) (errorAt (e .about)) (budget - l) (errorWords (e .shown))
 outReply k budget room stop = refusal 6 0 budget
 
 unfoldable pub readReply : ℕ → ℕ → Read Question → Reply

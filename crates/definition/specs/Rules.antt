@@ -21,7 +21,7 @@ use mathlib.Core.Option.{Option, none, some}
 use lib.ListN.{length}
 use lib.Dec.{leb, eqb}
 use Rattle.definition.specs.Syntax
-use Rattle.definition.specs.Syntax.{pick, TmVar, TyVar, Ty, int, bool, var, etvar, arrow, forall, Expr, evar, app, abs, tapp, tabs, ann, litInt, litBool, letIn, ifThenElse, binOp, varBnd, tvarBnd, etvarBnd, setvarBnd, mark, Ctx, Side, onL, onR, Judgement, infer, check, inferApp, subtype, inst, given, Rule, Tree, node, Trees, leaf, _&_, unboundVariable, applicationTypeError, typeApplicationError, occursCheck, subtypingError, instantiationError, parameterMismatch}
+use Rattle.definition.specs.Syntax.{pick, TmVar, TyVar, Ty, int, bool, var, etvar, arrow, forall, Expr, evar, app, abs, tapp, tabs, ann, litInt, litBool, letIn, ifThenElse, binOp, Binding, varBnd, tvarBnd, etvarBnd, setvarBnd, mark, Entry, Ctx, Side, onL, onR, Judgement, infer, check, inferApp, subtype, inst, given, Rule, Tree, node, Trees, leaf, _&_, unboundVariable, applicationTypeError, typeApplicationError, occursCheck, subtypingError, instantiationError, parameterMismatch}
 use Rattle.definition.specs.Question.{Mode}
 use Rattle.definition.specs.Run.{M, _>>=_, give, refuse, halt, charge, fresh}
 use Rattle.definition.specs.Contexts.{kVar, kTVar, kMark, find, rightOf, _▹_, replace, solvedAndRight, before}
@@ -38,6 +38,24 @@ Result = Ty × Ctx × Tree
 -- the judgements that a rule asks
 abbrev pub Judge : Type 0
 Judge = Judgement → M Result
+
+-- ---- What a judgement runs in: the mode
+
+pub record Here : Type 0 where
+  pub manner : Mode
+
+-- the question's judgement
+abbrev pub outside : Mode → Here
+outside m = record { manner = m }
+
+-- the entry that a rule pushes or solves here
+infixl 70 _from_
+abbrev pub _from_ : Binding → Here → Entry
+b from h = record { binding = b }
+
+-- rules for the six judgements: from what the judgement runs in and the judgements that a rule asks
+abbrev pub Rules : Type 0
+Rules = Here → Judge → Judgement → M Fired
 
 -- a rule without premises, of a judgement that gives no type
 unfoldable pub closes : Rule → Ctx → M Fired
@@ -125,30 +143,30 @@ instArr onR = Syntax.InstRArr
 -- is_mono T    a not in T    (and neither Reach, Arr nor All fits)
 -- ------------------------------- InstLSolve; InstRSolve with T :=< ^a
 -- Γ[^a] ⊢ ^a :=< T ⊣ Γ[^a = T]
-unfoldable pub solve : Side → Ctx → TyVar → Ty → M Fired
-solve s Γ a T =
+unfoldable pub solve : Here → Side → Ctx → TyVar → Ty → M Fired
+solve h s Γ a T =
     pick (isMono T)
-    (pick (occurs a T) (refuse (occursCheck a T)) (closes (instSolve s) (replace a (setvarBnd a T ∷ []) Γ)))
+    (pick (occurs a T) (refuse (occursCheck a T)) (closes (instSolve s) (replace a (setvarBnd a T from h ∷ []) Γ)))
     (refuse (instantiationError a T))
 
 -- before Γ[^b] a b
 -- --------------------------------- InstLReach; InstRReach with ^b :=< ^a
 -- Γ[^b] ⊢ ^a :=< ^b ⊣ Γ[^b = ^a]
-unfoldable pub reach : Side → Ctx → TyVar → TyVar → M Fired
-reach s Γ a b = closes (instReach s) (replace b (setvarBnd b (etvar a) ∷ []) Γ)
+unfoldable pub reach : Here → Side → Ctx → TyVar → TyVar → M Fired
+reach h s Γ a b = closes (instReach s) (replace b (setvarBnd b (etvar a) from h ∷ []) Γ)
 
 -- a solved as an arrow of two fresh unknowns: Γ[^a = ^b → ^c, ^b, ^c]
-unfoldable pub split : TyVar → TyVar → TyVar → Ctx → Ctx
-split a b c Γ = replace a (setvarBnd a (arrow (etvar b) (etvar c)) ∷ etvarBnd b ∷ etvarBnd c ∷ []) Γ
+unfoldable pub split : Here → TyVar → TyVar → TyVar → Ctx → Ctx
+split h a b c Γ = replace a (setvarBnd a (arrow (etvar b) (etvar c)) from h ∷ etvarBnd b from h ∷ etvarBnd c from h ∷ []) Γ
 
 -- b, c fresh    Γ[^a = ^b → ^c, ^b, ^c] ⊢ A :=< ^b ⊣ Δ    Δ ⊢ ^c :=< [Δ]B ⊣ Θ
 -- ----------------------------------------------------------------------------- InstLArr; InstRArr with the sides of :=< exchanged
 -- Γ[^a] ⊢ ^a :=< A → B ⊣ Θ
-unfoldable pub instArrow : Judge → Side → Ctx → TyVar → Ty → Ty → M Fired
-instArrow judge s Γ a A B = do
+unfoldable pub instArrow : Here → Judge → Side → Ctx → TyVar → Ty → Ty → M Fired
+instArrow h judge s Γ a A B = do
   b ← fresh
   c ← fresh
-  (C, Δ, t) ← judge (inst (other s) (split a b c Γ) b A)
+  (C, Δ, t) ← judge (inst (other s) (split h a b c Γ) b A)
   B′ ← apply Δ B
   (D, Θ, t′) ← judge (inst s Δ c B′)
   give (instArr s, int, Θ, t & t′ & leaf)
@@ -156,30 +174,30 @@ instArrow judge s Γ a A B = do
 -- Γ, b ⊢ ^a :=< T ⊣ Δ, b, Θ                       Γ, ^b, $b ⊢ [^b/b]T :=< ^a ⊣ Δ, $b, Θ
 -- -------------------------- InstLAllR            -------------------------------------- InstRAllL
 -- Γ ⊢ ^a :=< ∀b. T ⊣ Θ                            Γ ⊢ ∀b. T :=< ^a ⊣ Θ
-unfoldable pub instForall : Judge → Side → Ctx → TyVar → TyVar → Ty → M Fired
-instForall judge onL Γ a b T = do
-  (C, Δ, t) ← judge (inst onL (Γ ▹ tvarBnd b) a T)
+unfoldable pub instForall : Here → Judge → Side → Ctx → TyVar → TyVar → Ty → M Fired
+instForall h judge onL Γ a b T = do
+  (C, Δ, t) ← judge (inst onL (Γ ▹ tvarBnd b from h) a T)
   give (Syntax.InstLAllR, int, rightOf (kTVar b) Δ, t & leaf)
-instForall judge onR Γ a b T = do
+instForall h judge onR Γ a b T = do
   T′ ← subst b (etvar b) T
-  (C, Δ, t) ← judge (inst onR (Γ ▹ etvarBnd b ▹ mark b) a T′)
+  (C, Δ, t) ← judge (inst onR (Γ ▹ etvarBnd b from h ▹ mark b from h) a T′)
   give (Syntax.InstRAllL, int, rightOf (kMark b) Δ, t & leaf)
 
-unfoldable pub instRule : Judge → Side → Ctx → TyVar → Ty → M Fired
-instRule judge s Γ a int = solve s Γ a int
-instRule judge s Γ a bool = solve s Γ a bool
-instRule judge s Γ a (var b) = solve s Γ a (var b)
-instRule judge s Γ a (etvar b) = pick (before Γ a b) (reach s Γ a b) (solve s Γ a (etvar b))
-instRule judge s Γ a (arrow A B) = instArrow judge s Γ a A B
-instRule judge s Γ a (forall b T) = instForall judge s Γ a b T
+unfoldable pub instRule : Here → Judge → Side → Ctx → TyVar → Ty → M Fired
+instRule h judge s Γ a int = solve h s Γ a int
+instRule h judge s Γ a bool = solve h s Γ a bool
+instRule h judge s Γ a (var b) = solve h s Γ a (var b)
+instRule h judge s Γ a (etvar b) = pick (before Γ a b) (reach h s Γ a b) (solve h s Γ a (etvar b))
+instRule h judge s Γ a (arrow A B) = instArrow h judge s Γ a A B
+instRule h judge s Γ a (forall b T) = instForall h judge s Γ a b T
 
 -- ---- subtype: Γ ⊢ A <: B ⊣ Δ. "SubAllR comes before SubAllL, both before SubInstL, that before SubInstR."
 
 -- Γ ⊢ B₁ <: A₁ ⊣ Δ    Δ ⊢ A₂ <: B₂ ⊣ Θ
 -- -------------------------------------- SubArr: "SubArr does not apply the context between its halves; InstLArr and InstRArr do."
 -- Γ ⊢ A₁ → A₂ <: B₁ → B₂ ⊣ Θ
-unfoldable pub subArr : Judge → Ctx → Ty × Ty → Ty × Ty → M Fired
-subArr judge Γ (A₁, A₂) (B₁, B₂) = do
+unfoldable pub subArr : Here → Judge → Ctx → Ty × Ty → Ty × Ty → M Fired
+subArr h judge Γ (A₁, A₂) (B₁, B₂) = do
   (C, Δ, t) ← judge (subtype Γ B₁ A₁)
   (D, Θ, t′) ← judge (subtype Δ A₂ B₂)
   give (Syntax.SubArr, int, Θ, t & t′ & leaf)
@@ -187,25 +205,25 @@ subArr judge Γ (A₁, A₂) (B₁, B₂) = do
 -- Γ, b ⊢ A <: T ⊣ Δ, b, Θ
 -- ------------------------ SubAllR
 -- Γ ⊢ A <: ∀b. T ⊣ Θ
-unfoldable pub subAllR : Judge → Ctx → Ty → TyVar × Ty → M Fired
-subAllR judge Γ A (b, T) = do
-  (C, Δ, t) ← judge (subtype (Γ ▹ tvarBnd b) A T)
+unfoldable pub subAllR : Here → Judge → Ctx → Ty → TyVar × Ty → M Fired
+subAllR h judge Γ A (b, T) = do
+  (C, Δ, t) ← judge (subtype (Γ ▹ tvarBnd b from h) A T)
   give (Syntax.SubAllR, int, rightOf (kTVar b) Δ, t & leaf)
 
 -- Γ, ^a, $a ⊢ [^a/a]T <: B ⊣ Δ, $a, Θ
 -- ------------------------------------ SubAllL
 -- Γ ⊢ ∀a. T <: B ⊣ Θ
-unfoldable pub subAllL : Judge → Ctx → Ty → TyVar × Ty → M Fired
-subAllL judge Γ B (a, T) = do
+unfoldable pub subAllL : Here → Judge → Ctx → Ty → TyVar × Ty → M Fired
+subAllL h judge Γ B (a, T) = do
   T′ ← subst a (etvar a) T
-  (C, Δ, t) ← judge (subtype (Γ ▹ etvarBnd a ▹ mark a) T′ B)
+  (C, Δ, t) ← judge (subtype (Γ ▹ etvarBnd a from h ▹ mark a from h) T′ B)
   give (Syntax.SubAllL, int, rightOf (kMark a) Δ, t & leaf)
 
 -- a not in B    Γ ⊢ ^a :=< B ⊣ Δ                  a not in A    Γ ⊢ A :=< ^a ⊣ Δ
 -- ------------------------------- SubInstL        ------------------------------- SubInstR
 -- Γ ⊢ ^a <: B ⊣ Δ                                 Γ ⊢ A <: ^a ⊣ Δ
-unfoldable pub subInst : Judge → Rule → Side → Ctx → Ty → TyVar → M Fired
-subInst judge r s Γ T a = do
+unfoldable pub subInst : Here → Judge → Rule → Side → Ctx → Ty → TyVar → M Fired
+subInst h judge r s Γ T a = do
   (C, Δ, t) ← judge (inst s Γ a T)
   give (r, int, Δ, t & leaf)
 
@@ -223,16 +241,16 @@ same (some a) (some b) = sameName a b
 
 -- ------------------- SubRefl, and of Bool        ----------------- SubReflTVar        ------------------- SubReflETVar
 -- Γ ⊢ Int <: Int ⊣ Γ                              Γ ⊢ a <: a ⊣ Γ                       Γ ⊢ ^a <: ^a ⊣ Γ
-unfoldable pub subtypeRule : Judge → Ctx → Ty → Ty → M Fired
-subtypeRule judge Γ A B =
+unfoldable pub subtypeRule : Here → Judge → Ctx → Ty → Ty → M Fired
+subtypeRule h judge Γ A B =
     when (sameBase A B) (closes Syntax.SubRefl Γ)
     orElse when (same (asVar A) (asVar B)) (closes Syntax.SubReflTVar Γ)
     orElse when (same (asETVar A) (asETVar B)) (closes Syntax.SubReflETVar Γ)
-    orElse onBoth (asArrow A) (asArrow B) (subArr judge Γ)
-    orElse on (asForall B) (subAllR judge Γ A)
-    orElse on (asForall A) (subAllL judge Γ B)
-    orElse on (notIn B (asETVar A)) (subInst judge Syntax.SubInstL onL Γ B)
-    orElse on (notIn A (asETVar B)) (subInst judge Syntax.SubInstR onR Γ A)
+    orElse onBoth (asArrow A) (asArrow B) (subArr h judge Γ)
+    orElse on (asForall B) (subAllR h judge Γ A)
+    orElse on (asForall A) (subAllL h judge Γ B)
+    orElse on (notIn B (asETVar A)) (subInst h judge Syntax.SubInstL onL Γ B)
+    orElse on (notIn A (asETVar B)) (subInst h judge Syntax.SubInstR onR Γ A)
     orElse refuse (subtypingError A B)
 
 -- ---- check: Γ ⊢ e ⇐ B ⊣ Δ. "ChkAll before ChkSub."
@@ -272,25 +290,25 @@ parameter true Γ A P = do P′ ← apply Γ P; pick (sameTy A P′) (give tt) (
 -- strict: A = [Γ]P    Γ, x : P ⊢ e ⇐ C ⊣ Δ, x : _, Θ
 -- ---------------------------------------------------- ChkLam, which binds P as it stood (reading 6)
 -- Γ ⊢ λx:A. e ⇐ P → C ⊣ Θ
-unfoldable pub chkLam : Mode → Judge → Ctx → TmVar × Ty × Expr → Ty × Ty → M Fired
-chkLam m judge Γ (x, A, e) (P, C) = do
-  u ← parameter (m .comparesParameter) Γ A P
-  (D, Δ, t) ← judge (check (Γ ▹ varBnd x P) e C)
+unfoldable pub chkLam : Here → Judge → Ctx → TmVar × Ty × Expr → Ty × Ty → M Fired
+chkLam h judge Γ (x, A, e) (P, C) = do
+  u ← parameter (h .manner .comparesParameter) Γ A P
+  (D, Δ, t) ← judge (check (Γ ▹ varBnd x P from h) e C)
   give (Syntax.ChkLam, int, rightOf (kVar x) Δ, t & leaf)
 
 -- Γ, a ⊢ e ⇐ T ⊣ Δ, a, Θ
 -- ----------------------- ChkAll
 -- Γ ⊢ e ⇐ ∀a. T ⊣ Θ
-unfoldable pub chkAll : Judge → Ctx → Expr → TyVar × Ty → M Fired
-chkAll judge Γ e (a, T) = do
-  (C, Δ, t) ← judge (check (Γ ▹ tvarBnd a) e T)
+unfoldable pub chkAll : Here → Judge → Ctx → Expr → TyVar × Ty → M Fired
+chkAll h judge Γ e (a, T) = do
+  (C, Δ, t) ← judge (check (Γ ▹ tvarBnd a from h) e T)
   give (Syntax.ChkAll, int, rightOf (kTVar a) Δ, t & leaf)
 
 -- Γ ⊢ e ⇒ A ⊣ Δ    Δ ⊢ [Δ]A <: [Δ]B ⊣ Θ
 -- ---------------------------------------- ChkSub
 -- Γ ⊢ e ⇐ B ⊣ Θ
-unfoldable pub chkSub : Judge → Ctx → Expr → Ty → M Fired
-chkSub judge Γ e B = do
+unfoldable pub chkSub : Here → Judge → Ctx → Expr → Ty → M Fired
+chkSub h judge Γ e B = do
   (A, Δ, t) ← judge (infer Γ e)
   A′ ← apply Δ A
   B′ ← apply Δ B
@@ -299,38 +317,38 @@ chkSub judge Γ e B = do
 
 -- ----------------- ChkLitInt        --------------------- ChkLitBool
 -- Γ ⊢ 1 ⇐ Int ⊣ Γ                    Γ ⊢ true ⇐ Bool ⊣ Γ
-unfoldable pub checkRule : Mode → Judge → Ctx → Expr → Ty → M Fired
-checkRule m judge Γ e B =
+unfoldable pub checkRule : Here → Judge → Ctx → Expr → Ty → M Fired
+checkRule h judge Γ e B =
     when (eqb (exprCode e) 22 && eqb (tyCode B) 1) (closes Syntax.ChkLitInt Γ)
     orElse when (eqb (exprCode e) 23 && eqb (tyCode B) 2) (closes Syntax.ChkLitBool Γ)
-    orElse onBoth (asAbs e) (asArrow B) (chkLam m judge Γ)
-    orElse on (asForall B) (chkAll judge Γ e)
-    orElse chkSub judge Γ e B
+    orElse onBoth (asAbs e) (asArrow B) (chkLam h judge Γ)
+    orElse on (asForall B) (chkAll h judge Γ e)
+    orElse chkSub h judge Γ e B
 
 -- ---- infer_app: Γ ⊢ e • A ⇒⇒ C ⊣ Δ, for a function's type A as it stands (reading 9)
 
 -- Γ ⊢ e ⇐ A ⊣ Δ
 -- ------------------------ InfAppArr
 -- Γ ⊢ e • A → C ⇒⇒ C ⊣ Δ
-unfoldable pub infAppArr : Judge → Ctx → Expr → Ty × Ty → M Fired
-infAppArr judge Γ e (A, C) = do
+unfoldable pub infAppArr : Here → Judge → Ctx → Expr → Ty × Ty → M Fired
+infAppArr h judge Γ e (A, C) = do
   (D, Δ, t) ← judge (check Γ e A)
   give (Syntax.InfAppArr, C, Δ, t & leaf)
 
 -- b, c fresh    Γ[^a = ^b → ^c, ^b, ^c] ⊢ e ⇐ ^b ⊣ Δ
 -- ---------------------------------------------------- InfAppETVar
 -- Γ[^a] ⊢ e • ^a ⇒⇒ ^c ⊣ Δ
-unfoldable pub infAppETVar : Judge → Ctx → Expr → TyVar → M Fired
-infAppETVar judge Γ e a = do
+unfoldable pub infAppETVar : Here → Judge → Ctx → Expr → TyVar → M Fired
+infAppETVar h judge Γ e a = do
   b ← fresh
   c ← fresh
-  (D, Δ, t) ← judge (check (split a b c Γ) e (etvar b))
+  (D, Δ, t) ← judge (check (split h a b c Γ) e (etvar b))
   give (Syntax.InfAppETVar, etvar c, Δ, t & leaf)
 
-unfoldable pub inferAppRule : Judge → Ctx → Expr → Ty → M Fired
-inferAppRule judge Γ e A =
-    on (asArrow A) (infAppArr judge Γ e)
-    orElse on (asETVar A) (infAppETVar judge Γ e)
+unfoldable pub inferAppRule : Here → Judge → Ctx → Expr → Ty → M Fired
+inferAppRule h judge Γ e A =
+    on (asArrow A) (infAppArr h judge Γ e)
+    orElse on (asETVar A) (infAppETVar h judge Γ e)
     orElse refuse (applicationTypeError A)
 
 -- ---- infer: Γ ⊢ e ⇒ A ⊣ Δ
@@ -345,17 +363,17 @@ infVar x Γ (some A) = give (Syntax.InfVar, A, Γ, leaf)
 -- b fresh    Γ, x : A, ^b ⊢ e ⇐ ^b ⊣ Δ, x : _, Θ
 -- ------------------------------------------------ InfLam
 -- Γ ⊢ λx:A. e ⇒ A → ^b ⊣ solved Δ, Θ
-unfoldable pub infLam : Judge → Ctx → TmVar → Ty → Expr → M Fired
-infLam judge Γ x A e = do
+unfoldable pub infLam : Here → Judge → Ctx → TmVar → Ty → Expr → M Fired
+infLam h judge Γ x A e = do
   b ← fresh
-  (C, Δ, t) ← judge (check (Γ ▹ varBnd x A ▹ etvarBnd b) e (etvar b))
+  (C, Δ, t) ← judge (check (Γ ▹ varBnd x A from h ▹ etvarBnd b from h) e (etvar b))
   give (Syntax.InfLam, arrow A (etvar b), solvedAndRight (kVar x) Δ, t & leaf)
 
 -- Γ ⊢ e ⇒ A ⊣ Δ    Δ ⊢ e′ • [Δ]A ⇒⇒ C ⊣ Θ
 -- ------------------------------------------ InfApp
 -- Γ ⊢ e e′ ⇒ C ⊣ Θ
-unfoldable pub infApp : Judge → Ctx → Expr → Expr → M Fired
-infApp judge Γ e e′ = do
+unfoldable pub infApp : Here → Judge → Ctx → Expr → Expr → M Fired
+infApp h judge Γ e e′ = do
   (A, Δ, t) ← judge (infer Γ e)
   A′ ← apply Δ A
   (C, Θ, t′) ← judge (inferApp Δ e′ A′)
@@ -364,10 +382,10 @@ infApp judge Γ e e′ = do
 -- Γ ⊢ e ⇒ A ⊣ Δ    Δ, x : A ⊢ e′ ⇒ B ⊣ Θ, x : _, Ξ
 -- --------------------------------------------------- InfLet
 -- Γ ⊢ let x = e in e′ ⇒ B ⊣ solved Θ, Ξ
-unfoldable pub infLet : Judge → Ctx → TmVar → Expr → Expr → M Fired
-infLet judge Γ x e e′ = do
+unfoldable pub infLet : Here → Judge → Ctx → TmVar → Expr → Expr → M Fired
+infLet h judge Γ x e e′ = do
   (A, Δ, t) ← judge (infer Γ e)
-  (B, Θ, t′) ← judge (infer (Δ ▹ varBnd x A) e′)
+  (B, Θ, t′) ← judge (infer (Δ ▹ varBnd x A from h) e′)
   give (Syntax.InfLet, B, solvedAndRight (kVar x) Θ, t & t′ & leaf)
 
 -- "InfIf applies none"; in strict mode "InfIf applies its third context to both branch types, first then second, before subtype; its result
@@ -379,21 +397,21 @@ branch true Γ A = apply Γ A
 -- Γ ⊢ e ⇐ Bool ⊣ Γ₁    Γ₁ ⊢ e′ ⇒ A ⊣ Γ₂    Γ₂ ⊢ e″ ⇒ B ⊣ Γ₃    Γ₃ ⊢ A <: B ⊣ Γ₄
 -- ---------------------------------------------------------------------------------- InfIf; strict: Γ₃ ⊢ [Γ₃]A <: [Γ₃]B ⊣ Γ₄
 -- Γ ⊢ if e then e′ else e″ ⇒ A ⊣ Γ₄
-unfoldable pub infIf : Mode → Judge → Ctx → Expr → Expr → Expr → M Fired
-infIf m judge Γ e e′ e″ = do
+unfoldable pub infIf : Here → Judge → Ctx → Expr → Expr → Expr → M Fired
+infIf h judge Γ e e′ e″ = do
   (C, Γ₁, t₁) ← judge (check Γ e bool)
   (A, Γ₂, t₂) ← judge (infer Γ₁ e′)
   (B, Γ₃, t₃) ← judge (infer Γ₂ e″)
-  A′ ← branch (m .appliesBranches) Γ₃ A
-  B′ ← branch (m .appliesBranches) Γ₃ B
+  A′ ← branch (h .manner .appliesBranches) Γ₃ A
+  B′ ← branch (h .manner .appliesBranches) Γ₃ B
   (D, Γ₄, t₄) ← judge (subtype Γ₃ A′ B′)
   give (Syntax.InfIf, A, Γ₄, t₁ & t₂ & t₃ & t₄ & leaf)
 
 -- Γ ⊢ e ⇐ A ⊣ Δ    Δ ⊢ e′ ⇐ A ⊣ Θ
 -- ---------------------------------- InfArith (1 to 4; A and C are Int), InfBool (5, 6; both are Bool), InfCmp (9 to 12; A is Int, C is Bool)
 -- Γ ⊢ e op e′ ⇒ C ⊣ Θ
-unfoldable pub infBoth : Judge → Rule → Ty → Ty → Ctx → Expr → Expr → M Fired
-infBoth judge r A C Γ e e′ = do
+unfoldable pub infBoth : Here → Judge → Rule → Ty → Ty → Ctx → Expr → Expr → M Fired
+infBoth h judge r A C Γ e e′ = do
   (D, Δ, t) ← judge (check Γ e A)
   (D′, Θ, t′) ← judge (check Δ e′ A)
   give (r, C, Θ, t & t′ & leaf)
@@ -401,34 +419,34 @@ infBoth judge r A C Γ e e′ = do
 -- Γ ⊢ e ⇒ A ⊣ Δ    Δ ⊢ e′ ⇐ A ⊣ Θ
 -- ---------------------------------- InfEq (7, 8)
 -- Γ ⊢ e == e′ ⇒ Bool ⊣ Θ
-unfoldable pub infEq : Judge → Ctx → Expr → Expr → M Fired
-infEq judge Γ e e′ = do
+unfoldable pub infEq : Here → Judge → Ctx → Expr → Expr → M Fired
+infEq h judge Γ e e′ = do
   (A, Δ, t) ← judge (infer Γ e)
   (D, Θ, t′) ← judge (check Δ e′ A)
   give (Syntax.InfEq, bool, Θ, t & t′ & leaf)
 
 -- 002's order: 1 to 4 + - * /, 5 and 6 && ||, 7 and 8 == !=, 9 to 12 < <= > >=
-unfoldable pub infBinOp : Judge → Ctx → ℕ → Expr → Expr → M Fired
-infBinOp judge Γ o e e′ =
-    when (leb o 4) (infBoth judge Syntax.InfArith int int Γ e e′)
-    orElse when (leb o 6) (infBoth judge Syntax.InfBool bool bool Γ e e′)
-    orElse when (leb o 8) (infEq judge Γ e e′)
-    orElse infBoth judge Syntax.InfCmp int bool Γ e e′
+unfoldable pub infBinOp : Here → Judge → Ctx → ℕ → Expr → Expr → M Fired
+infBinOp h judge Γ o e e′ =
+    when (leb o 4) (infBoth h judge Syntax.InfArith int int Γ e e′)
+    orElse when (leb o 6) (infBoth h judge Syntax.InfBool bool bool Γ e e′)
+    orElse when (leb o 8) (infEq h judge Γ e e′)
+    orElse infBoth h judge Syntax.InfCmp int bool Γ e e′
 
 -- Γ ⊢ e ⇐ A ⊣ Δ
 -- ------------------------ InfAnn
 -- Γ ⊢ (e : A) ⇒ A ⊣ Δ
-unfoldable pub infAnn : Judge → Ctx → Expr → Ty → M Fired
-infAnn judge Γ e A = do
+unfoldable pub infAnn : Here → Judge → Ctx → Expr → Ty → M Fired
+infAnn h judge Γ e A = do
   (C, Δ, t) ← judge (check Γ e A)
   give (Syntax.InfAnn, A, Δ, t & leaf)
 
 -- Γ, a ⊢ e ⇒ A ⊣ Δ, a, Θ
 -- -------------------------------------------- InfTAbs
 -- Γ ⊢ Λa. e ⇒ ∀a. [Δ, a, Θ]A ⊣ solved Δ, Θ
-unfoldable pub infTAbs : Judge → Ctx → TyVar → Expr → M Fired
-infTAbs judge Γ a e = do
-  (A, Δ, t) ← judge (infer (Γ ▹ tvarBnd a) e)
+unfoldable pub infTAbs : Here → Judge → Ctx → TyVar → Expr → M Fired
+infTAbs h judge Γ a e = do
+  (A, Δ, t) ← judge (infer (Γ ▹ tvarBnd a from h) e)
   A′ ← apply Δ A
   give (Syntax.InfTAbs, forall a A′, solvedAndRight (kTVar a) Δ, t & leaf)
 
@@ -438,53 +456,56 @@ infTAbs judge Γ a e = do
 unfoldable pub instantiate : Ty → Ty → M Ty
 instantiate B A = on (asForall A) (λ (a, T). subst a B T) orElse refuse (typeApplicationError A)
 
-unfoldable pub infTApp : Judge → Ctx → Expr → Ty → M Fired
-infTApp judge Γ e B = do
+unfoldable pub infTApp : Here → Judge → Ctx → Expr → Ty → M Fired
+infTApp h judge Γ e B = do
   (A, Δ, t) ← judge (infer Γ e)
   A′ ← instantiate B A
   give (Syntax.InfTApp, A′, Δ, t & leaf)
 
 -- ----------------- InfLitInt        --------------------- InfLitBool
 -- Γ ⊢ 1 ⇒ Int ⊣ Γ                    Γ ⊢ true ⇒ Bool ⊣ Γ
-unfoldable pub inferRule : Mode → Judge → Ctx → Expr → M Fired
-inferRule m judge Γ (evar p x) = infVar x Γ (find (kVar x) Γ)
-inferRule m judge Γ (ann p e A) = infAnn judge Γ e A
-inferRule m judge Γ (litInt p l h) = give (Syntax.InfLitInt, int, Γ, leaf)
-inferRule m judge Γ (litBool p b) = give (Syntax.InfLitBool, bool, Γ, leaf)
-inferRule m judge Γ (abs p x A e) = infLam judge Γ x A e
-inferRule m judge Γ (app p e e′) = infApp judge Γ e e′
-inferRule m judge Γ (tabs p a e) = infTAbs judge Γ a e
-inferRule m judge Γ (tapp p e B) = infTApp judge Γ e B
-inferRule m judge Γ (letIn p x e e′) = infLet judge Γ x e e′
-inferRule m judge Γ (ifThenElse p e e′ e″) = infIf m judge Γ e e′ e″
-inferRule m judge Γ (binOp p o e e′) = infBinOp judge Γ o e e′
+unfoldable pub inferRule : Here → Judge → Ctx → Expr → M Fired
+inferRule h judge Γ (evar p x) = infVar x Γ (find (kVar x) Γ)
+inferRule h judge Γ (ann p e A) = infAnn h judge Γ e A
+inferRule h judge Γ (litInt p low high) = give (Syntax.InfLitInt, int, Γ, leaf)
+inferRule h judge Γ (litBool p b) = give (Syntax.InfLitBool, bool, Γ, leaf)
+inferRule h judge Γ (abs p x A e) = infLam h judge Γ x A e
+inferRule h judge Γ (app p e e′) = infApp h judge Γ e e′
+inferRule h judge Γ (tabs p a e) = infTAbs h judge Γ a e
+inferRule h judge Γ (tapp p e B) = infTApp h judge Γ e B
+inferRule h judge Γ (letIn p x e e′) = infLet h judge Γ x e e′
+inferRule h judge Γ (ifThenElse p e e′ e″) = infIf h judge Γ e e′ e″
+inferRule h judge Γ (binOp p o e e′) = infBinOp h judge Γ o e e′
 
 -- ---- "Each judgement of kinds 1 to 6 entered is charged 1 plus the entries of its input context; each that succeeds, the entries of its
 -- output context. .. Charges fall in 000's order" (reading 16). Entries, not words (reading 12); on entering, before its rule; on leaving, after it.
 
-unfoldable pub rule : Mode → Judge → Judgement → M Fired
-rule m judge (infer Γ e) = inferRule m judge Γ e
-rule m judge (check Γ e B) = checkRule m judge Γ e B
-rule m judge (inferApp Γ e A) = inferAppRule judge Γ e A
-rule m judge (subtype Γ A B) = subtypeRule judge Γ A B
-rule m judge (inst s Γ a T) = instRule judge s Γ a T
+unfoldable pub rule : Rules
+rule h judge (infer Γ e) = inferRule h judge Γ e
+rule h judge (check Γ e B) = checkRule h judge Γ e B
+rule h judge (inferApp Γ e A) = inferAppRule h judge Γ e A
+rule h judge (subtype Γ A B) = subtypeRule h judge Γ A B
+rule h judge (inst s Γ a T) = instRule h judge s Γ a T
 
-unfoldable pub judgeStep : Mode → Judge → Judge
-judgeStep m judge j = do
+unfoldable pub judgeStep : Rules → (Here → Judge) → Here → Judge
+judgeStep rules judge h j = do
   u ← charge (1 + length (given j))
-  (r, C, Δ, ts) ← rule m judge j
+  (r, C, Δ, ts) ← rules h (judge h) j
   v ← charge (length Δ)
   give (C, Δ, node r j C Δ ts)
 
 -- to a depth; every judgement is charged, so the budget left is depth enough
-unfoldable pub judgeTo : Mode → ℕ → Judge
-judgeTo m zero j = halt
-judgeTo m (suc d) j = judgeStep m (λ i l n. judgeTo m d i l n) j
+unfoldable pub judgeTo : Rules → ℕ → Here → Judge
+judgeTo rules zero h j = halt
+judgeTo rules (suc d) h j = judgeStep rules (λ i k l n. judgeTo rules d i k l n) h j
 
-unfoldable pub judge : Mode → Judge
-judge m j l n = judgeTo m l j l n
+unfoldable pub judgeBy : Rules → Here → Judge
+judgeBy rules h j l n = judgeTo rules l h j l n
+
+abbrev pub judge : Here → Judge
+judge = judgeBy rule
 
 -- `unfolding rules-compute` opens every definition above, and those they rest on
 unfoldable pub rules-compute : Unit {0}
-unfolding closes _orElse_ when on onBoth tyCode asVar asETVar asArrow asForall other instSolve instReach instArr solve reach split instArrow instForall instRule subArr subAllR subAllL subInst notIn sameBase same subtypeRule exprCode asAbs parameter chkLam chkAll chkSub checkRule infAppArr infAppETVar inferAppRule infVar infLam infApp infLet branch infIf infBoth infEq infBinOp infAnn infTAbs instantiate infTApp inferRule rule judgeStep judgeTo judge types-compute
+unfolding closes _orElse_ when on onBoth tyCode asVar asETVar asArrow asForall other instSolve instReach instArr solve reach split instArrow instForall instRule subArr subAllR subAllL subInst notIn sameBase same subtypeRule exprCode asAbs parameter chkLam chkAll chkSub checkRule infAppArr infAppETVar inferAppRule infVar infLam infApp infLet branch infIf infBoth infEq infBinOp infAnn infTAbs instantiate infTApp inferRule rule judgeStep judgeTo judgeBy types-compute
 rules-compute = tt

@@ -65,21 +65,27 @@ placeOf (binOp p o e e′) = p
 
 -- ---- "Entries, oldest first: 32 VarBnd x T; 33 TVarBnd a; 34 ETVarBnd a; 35 SETVarBnd a T; 36 Mark a."
 
-pub data Entry : Type 0 where
-  varBnd : TmVar → Ty → Entry
-  tvarBnd etvarBnd : TyVar → Entry
-  setvarBnd : TyVar → Ty → Entry
-  mark : TyVar → Entry
+pub data Binding : Type 0 where
+  varBnd : TmVar → Ty → Binding
+  tvarBnd etvarBnd : TyVar → Binding
+  setvarBnd : TyVar → Ty → Binding
+  mark : TyVar → Binding
+
+pub record Entry : Type 0 where
+  pub binding : Binding
 
 abbrev pub Ctx : Type 0
 Ctx = List Entry
 
+unfoldable pub bindingWords : Binding → List ℕ
+bindingWords (varBnd x A) = 32 ∷ x .number ∷ tyWords A
+bindingWords (tvarBnd a) = 33 ∷ a .number ∷ []
+bindingWords (etvarBnd a) = 34 ∷ a .number ∷ []
+bindingWords (setvarBnd a A) = 35 ∷ a .number ∷ tyWords A
+bindingWords (mark a) = 36 ∷ a .number ∷ []
+
 unfoldable pub entryWords : Entry → List ℕ
-entryWords (varBnd x A) = 32 ∷ x .number ∷ tyWords A
-entryWords (tvarBnd a) = 33 ∷ a .number ∷ []
-entryWords (etvarBnd a) = 34 ∷ a .number ∷ []
-entryWords (setvarBnd a A) = 35 ∷ a .number ∷ tyWords A
-entryWords (mark a) = 36 ∷ a .number ∷ []
+entryWords e = bindingWords (e .binding)
 
 unfoldable pub ctxWords : Ctx → List ℕ
 ctxWords [] = []
@@ -208,17 +214,49 @@ unfoldable mutual
   treesWords leaf = []
   treesWords (t & ts) = treeWords t ++ treesWords ts
 
--- ---- Type errors, named as in 003, without "the `expr` fields (always None)"; the last is strict mode's.
+-- ---- Type errors, named as in 003, without "the `expr` fields (always None)"; the last is strict mode's: which it is, the name that it is
+-- about, and the types that it shows, "actual or ty in the first, or left and right".
 
-pub data TypeError : Type 0 where
-  unboundVariable : TmVar → TypeError
-  applicationTypeError typeApplicationError : Ty → TypeError
-  occursCheck : TyVar → Ty → TypeError
-  subtypingError : Ty → Ty → TypeError
-  instantiationError : TyVar → Ty → TypeError
-  parameterMismatch : Ty → Ty → TypeError
+pub data Error : Type 0 where
+  UnboundVariable ApplicationTypeError TypeApplicationError OccursCheck SubtypingError InstantiationError ParameterMismatch : Error
+
+pub data About : Type 0 where
+  noName : About
+  aVariable : TmVar → About
+  aTypeName : TyVar → About
+
+pub data Shown : Type 0 where
+  noType : Shown
+  oneType : Ty → Shown
+  twoTypes : Ty → Ty → Shown
+
+pub record TypeError : Type 0 where
+  pub error : Error
+  pub about : About
+  pub shown : Shown
+
+abbrev pub unboundVariable : TmVar → TypeError
+unboundVariable x = record { error = UnboundVariable; about = aVariable x; shown = noType }
+
+abbrev pub applicationTypeError : Ty → TypeError
+applicationTypeError A = record { error = ApplicationTypeError; about = noName; shown = oneType A }
+
+abbrev pub typeApplicationError : Ty → TypeError
+typeApplicationError A = record { error = TypeApplicationError; about = noName; shown = oneType A }
+
+abbrev pub occursCheck : TyVar → Ty → TypeError
+occursCheck a A = record { error = OccursCheck; about = aTypeName a; shown = oneType A }
+
+abbrev pub subtypingError : Ty → Ty → TypeError
+subtypingError A B = record { error = SubtypingError; about = noName; shown = twoTypes A B }
+
+abbrev pub instantiationError : TyVar → Ty → TypeError
+instantiationError a A = record { error = InstantiationError; about = aTypeName a; shown = oneType A }
+
+abbrev pub parameterMismatch : Ty → Ty → TypeError
+parameterMismatch A B = record { error = ParameterMismatch; about = noName; shown = twoTypes A B }
 
 -- `unfolding syntax-computes` opens every definition above: for theorems by computation
 unfoldable pub syntax-computes : Unit {0}
-unfolding pick tyWords placeOf entryWords ctxWords given ruleNumber section noSection sections ctxSection tySection judgementWords children treeWords
+unfolding pick tyWords placeOf bindingWords entryWords ctxWords given ruleNumber section noSection sections ctxSection tySection judgementWords children treeWords
 syntax-computes = tt

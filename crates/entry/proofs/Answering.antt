@@ -16,7 +16,7 @@ use Rattle.definition.specs.Memory.{workAfter, call}
 use Rattle.reading.specs.Questions.{Accepted}
 use Rattle.reading.specs.declared.Question.{Question}
 use Rattle.entry.specs.declared.Reply.{Reply}
-use Rattle.entry.proofs.Codes.{Late, error, error-late}
+use Rattle.laws.proofs.Codes.{Late, error, error-late}
 use Rattle.entry.specs.Entry.{Replied, outcome, Gives, Cleared}
 
 -- ## A run's reply is none of 1 to 5
@@ -33,7 +33,7 @@ reported-late room c p u ws h = late-pick (leb (length ws) room && leb (length w
 out-late : (k budget room : ℕ) (o : Out Result) → Late (outReply k budget room o .code)
 unfolding outReply refusal
 out-late k budget room (done r l n) = reported-late room 0 0 (budget - l) _ refl
-out-late k budget room (fail e l) = reported-late room (errorCode e) _ (budget - l) _ (error-late (error e))
+out-late k budget room (fail e l) = reported-late room (errorCode (e .error)) _ (budget - l) _ (error-late (error (e .error)))
 out-late k budget room stop = refl
 
 -- ## The reply

@@ -9,20 +9,21 @@ use lib.Dec.{eqb}
 use Rattle.definition.specs.Syntax.{pick, Ctx, onL, onR, Judgement}
 use Rattle.definition.specs.Question as question
 use Rattle.definition.specs.Run.{_>>=_}
-use Rattle.definition.specs.Rules.{judge}
+use Rattle.definition.specs.Rules.{outside, judge}
 use Rattle.definition.specs.Reply.{answer}
+use Rattle.laws.specs.Count.{charged}
 use Rattle.layout.specs.Denotes.{Run, written}
 use Rattle.layout.specs.declared.Span.{Span}
 use Rattle.layout.specs.declared.State.{State}
 use Rattle.layout.proofs.Places.{ty-code, expr-code}
 use Rattle.judging.specs.declared.Ask.{Ask}
-use Rattle.judging.specs.declared.Mode.{Mode}
+use Rattle.judging.specs.declared.Here.{Here}
 use Rattle.judging.specs.declared.Step.{Step}
-use Rattle.judging.specs.Ending.{RunsJ, Judged}
+use Rattle.judging.specs.Ending.{RunsJ, chargeOf, Judged}
 use Rattle.judging.specs.Asking.{Asks, as-infer, as-check, as-app, as-sub, as-inst-l, as-inst-r, inferAsk, checkAsk, appAsk, subAsk, instAsk, Small, JudgePre}
 use Rattle.reading.specs.Questions.{ContextAt, AsksAt, infers-at, checks-at, applies-at, compares-at, solves-left-at, solves-right-at, runs-at, ModeIs, plainly, strictly, Accepted}
 use Rattle.reading.specs.declared.Question.{Question}
-use Rattle.entry.specs.Entry.{ModeOf, AskPre, Answers, ResolvePre, Resolves}
+use Rattle.entry.specs.Entry.{OutsideOf, AskPre, Answers, ResolvePre, Resolves}
 
 module _ {q w : List ℕ} {t : ℕ} {g : Span} {x : Question} (run : (Γ : Ctx) → ContextAt q x Γ → Run q w t (g .at) (g .n) Γ) where
   pub asks-1 : (j : Judgement) → AsksAt q x 1 j → Asks q w t g (inferAsk (x .expr)) j
@@ -73,9 +74,12 @@ module _ {q w : List ℕ} {x : Question} {st : State} {g : Span} (pre : AskPre q
     asks = asks _ (asked-as (pre .accepted));
   }
 
-  module _ {m : Mode} (mo : ModeOf (x .mode) m) {w₁ : List ℕ} {z : Step} (call : Judged m q w w₁ st g a z) where
-    ran : (acc : Accepted q x) → RunsJ q w w₁ st z (judge (acc .asked .manner) (acc .asked .asks) (st .left) (st .fresh))
+  module _ {m : Here} (mo : OutsideOf (x .mode) m) {w₁ : List ℕ} {z : Step} (call : Judged m q w w₁ st g a z) where
+    ran : (acc : Accepted q x) → RunsJ q w w₁ st z (judge (outside (acc .asked .manner)) (acc .asked .asks) (st .left) (st .fresh))
     ran acc = rw (mo .is (acc .mode)) at (call .run (acc .asked .asks) (asks _ (asked-as acc)))
+
+    paid : (acc : Accepted q x) → chargeOf z ≡ charged (st .left) (judge (outside (acc .asked .manner)) (acc .asked .asks) (st .left) (st .fresh))
+    paid acc = rw (mo .is (acc .mode)) at (call .charge (acc .asked .asks) (asks _ (asked-as acc)))
 
     -- its answer is the question's, for every kind but 7
     pub kind-answers : eqb k 7 ≡ false → Answers q w w₁ x st z
@@ -83,6 +87,7 @@ module _ {q w : List ℕ} {x : Question} {st : State} {g : Span} (pre : AskPre q
     kind-answers e = record {
       keep = ran (pre .accepted) .keep .long;
       ends = λ acc. rw (sym (acc .kind) ∙ is, e) (ran acc .ends);
+      charge = λ acc. rw (sym (acc .kind) ∙ is, e) (paid acc);
     }
 
     -- and for kind 7, resolved
@@ -94,6 +99,7 @@ module _ {q w : List ℕ} {x : Question} {st : State} {g : Span} (pre : AskPre q
     kind7-answers e l h = record {
       keep = ran (pre .accepted) .keep .long ∙ l;
       ends = λ acc. rw (sym (acc .kind) ∙ is, e) (h .ends _ (ran acc .ends));
+      charge = λ acc. rw (sym (acc .kind) ∙ is, e) (h .charge _ (ran acc .ends) (paid acc));
     }
 
 -- ## No other kind
@@ -120,6 +126,6 @@ kind-seven pre n =
 
 -- ## The mode
 
-pub mode-is : {k : ℕ} {μ : question.Mode} → ModeIs k μ → record { comparesParameter = eqb k 1; appliesBranches = eqb k 1 } ≡ μ
-mode-is plainly = refl
-mode-is strictly = refl
+pub outside-is : {k : ℕ} {μ : question.Mode} → ModeIs k μ → record { manner = record { comparesParameter = eqb k 1; appliesBranches = eqb k 1 } } ≡ outside μ
+outside-is plainly = refl
+outside-is strictly = refl

@@ -2,6 +2,7 @@
 use mathlib.Core.Path.{_≡_, refl}
 use mathlib.Core.Bool.{false, _&&_}
 use mathlib.Core.List.{List}
+use mathlib.Core.Option.{Option·some-injective}
 use Prim.Native.Nat.{ℕ, _-_, _≤_, _<_, _^_}
 use native.Mathlib.Omega.{arith}
 use native.Mathlib.Nat.{lt-of-not-le}
@@ -9,25 +10,27 @@ use native.Mathlib.Decide.{decLe}
 use lib.ListN.{length}
 use lib.Dec.{leb, le→leb}
 use mir.Facts.{no-leb}
-use Rattle.definition.specs.Syntax.{pick, TypeError}
-use Rattle.definition.specs.Run.{Out, fail}
+use Rattle.definition.specs.Syntax.{pick}
+use Rattle.definition.specs.Run.{Out}
 use Rattle.definition.specs.Rules.{Result}
 use Rattle.definition.specs.Reply.{most, refusal, reported, outReply}
 use Rattle.definition.specs.Memory.{reportAfter}
+use Rattle.laws.specs.Count.{charged}
 use Rattle.laws.proofs.Steps.{is-true, is-false}
 use Rattle.layout.specs.declared.State.{State}
 use Rattle.judging.specs.declared.Answer.{Answer}
 use Rattle.judging.specs.declared.Bad.{Bad}
 use Rattle.judging.specs.declared.Step.{Step}
 use Rattle.judging.specs.declared.Step.the-variants.{Done, Fail, Spent}
-use Rattle.judging.specs.Ending.{Failed, EndsJ, failed, ran-out}
-use Rattle.judging.proofs.Steps.{came}
+use Rattle.judging.specs.Ending.{EndsJ, ran-out}
+use Rattle.judging.proofs.Steps.{came, failed-by}
 use Rattle.writing.specs.Spelling.{Spelled}
 use Rattle.report.specs.Reports.{OfResult, OfError, Reports, Reported}
 use Rattle.report.specs.Reports as told
 use Rattle.report.specs.declared.Report.{Report}
-use Rattle.report.proofs.Replies.{room-ground, landed-result, failed-error, result-spelled, result-reported, error-spelled, error-reported}
-use Rattle.entry.proofs.Codes.{error}
+use Rattle.report.proofs.Replies.{room-ground, landed-result, result-spelled, result-reported, error-spelled, error-reported}
+use Rattle.laws.proofs.Codes.{error}
+use Rattle.entry.specs.declared.Reply.{Reply}
 use Rattle.entry.specs.Entry.{Gives, toldOf, lengthOf, FinishPre, Finishes}
 
 -- ## What became of a report
@@ -58,8 +61,12 @@ told-small (told.no-room h e w) = omega arith
 -- ## An answer
 
 module _ {q w : List ℕ} {s : State} {z : Step} {a : Answer} (pre : FinishPre q w s z) (d : z ≡ Done a) (kind : ℕ) where
-  pub answer-left : a .st .left ≤ s .left
-  answer-left = came (pre .ends) d .land .less
+  answer-charge : a .charge ≡ s .left - a .st .left
+  unfolding charged
+  answer-charge = Option·some-injective (rw (d, came (pre .ends) d .is) at (pre .charge))
+
+  pub answer-units : a .charge < 2 ^ 32
+  answer-units = omega (arith, answer-charge, pre .budget)
 
   pub answer-spelled : Spelled q w (a .st .top) (OfResult q w kind a (s .low))
   answer-spelled = let x = came (pre .ends) d .land in result-spelled kind (landed-result x (pre .low)) (room-ground (x .room))
@@ -68,58 +75,51 @@ module _ {q w : List ℕ} {s : State} {z : Step} {a : Answer} (pre : FinishPre q
     pub answer-small : lengthOf y < 2 ^ 32
     answer-small = told-small (result-reported kind (landed-result (came (pre .ends) d .land) (pre .low)) rep)
 
-    pub answer-gives : Finishes q w kind s z sl sl′ (toldOf 0 0 (s .left - a .st .left) y)
+    pub answer-gives : Finishes q w kind s z sl sl′ (toldOf 0 0 (a .charge) y)
     unfolding outReply
     answer-gives = record {
       gives = λ R h.
           let c = came h d in
-          rw (c .is) (told-gives (s .left - a .st .left) _ refl refl (result-reported kind (landed-result (c .land) (pre .low)) rep));
+          rw (answer-charge, c .is) (told-gives (s .left - a .st .left) _ refl refl (result-reported kind (landed-result (c .land) (pre .low)) rep));
     }
 
 -- ## A type error
 
-pub record FailedBy (q w : List ℕ) (b : Bad) (R : Out Result) : Type 0 where
-  pub e : TypeError
-  pub is : R ≡ fail e (b .st .left)
-  pub fails : Failed q w b e (b .st .left)
-
-failed-by : {q w : List ℕ} {s : State} {z : Step} {b : Bad} {R : Out Result} → EndsJ q w s z R → z ≡ Fail b → FailedBy q w b R
-failed-by {q} {w} {s} {z} {b} {R} h d = go (rw d at h)
-  where
-    go : {S : Out Result} → EndsJ q w s (Fail b) S → FailedBy q w b S
-    go (failed {e = e} x) = record { e = e; is = rw (x .left) refl; fails = rw (← x .left) at x }
-
 module _ {q w : List ℕ} {s : State} {z : Step} {b : Bad} (pre : FinishPre q w s z) (d : z ≡ Fail b) where
-  pub error-left : b .st .left ≤ s .left
-  error-left = let f = failed-by (pre .ends) d in rw (f .is) at (pre .left)
+  error-charge : b .charge ≡ s .left - b .st .left
+  unfolding charged
+  error-charge = Option·some-injective (rw (d, failed-by (pre .ends) d .is) at (pre .charge))
+
+  pub error-units : b .charge < 2 ^ 32
+  error-units = omega (arith, error-charge, pre .budget)
 
   pub error-code : b .code < 2 ^ 32
-  error-code = let f = failed-by (pre .ends) d in omega (arith, f .fails .code, error (f .e) .most)
+  error-code = let f = failed-by (pre .ends) d in omega (arith, f .fails .code, error (f .e .error) .most)
 
   pub error-words : Spelled q w (b .st .top) (OfError q w b)
   error-words =
       let x = failed-by (pre .ends) d .fails in
-      error-spelled (failed-error x) (record { base = x .base; fits = x .within; cap = pre .cap })
+      error-spelled x (record { base = x .base; fits = x .within; cap = pre .cap })
 
   module _ {sl sl′ : List ℕ} {y : Report} (rep : Reports (OfError q w b) sl sl′ y) where
     pub error-length : lengthOf y < 2 ^ 32
-    error-length = told-small (error-reported (failed-error (failed-by (pre .ends) d .fails)) rep)
+    error-length = told-small (error-reported (failed-by (pre .ends) d .fails) rep)
 
-    pub error-gives : (kind : ℕ) → Finishes q w kind s z sl sl′ (toldOf (b .code) (b .name) (s .left - b .st .left) y)
+    pub error-gives : (kind : ℕ) → Finishes q w kind s z sl sl′ (toldOf (b .code) (b .name) (b .charge) y)
     unfolding outReply
     error-gives kind = record {
       gives = λ R h.
           let f = failed-by h d in
           let x = f .fails in
-          rw (f .is) (told-gives (s .left - b .st .left) _ (x .code) (x .name) (error-reported (failed-error x) rep));
+          rw (error-charge, f .is) (told-gives (s .left - b .st .left) _ (x .code) (x .name) (error-reported x rep));
     }
 
 -- ## Out of budget
 
-pub spent-gives : {q w : List ℕ} {s : State} {z : Step} {kind : ℕ} {sl : List ℕ} → z ≡ Spent
-    → Finishes q w kind s z sl sl (record { code = 6; at = 0; len = 0; units = s .left })
+pub spent-gives : {q w : List ℕ} {s : State} {z : Step} {kind : ℕ} {sl : List ℕ} {r : Reply} → z ≡ Spent
+    → r ≡ record { code = 6; at = 0; len = 0; units = s .left } → Finishes q w kind s z sl sl r
 unfolding outReply refusal reportAfter
-spent-gives {q} {w} {s} {z} {kind} {sl} d = record { gives = λ R h. go (rw d at h) }
+spent-gives {q} {w} {s} {z} {kind} {sl} d e = record { gives = λ R h. rw e (go (rw d at h)) }
   where
     go : {R : Out Result} → EndsJ q w s Spent R → Gives (outReply kind (s .left) (length sl) R) sl sl (record { code = 6; at = 0; len = 0; units = s .left })
     go ran-out = record { numbers = record { code = refl; at = refl; len = refl; units = refl }; report = refl }

@@ -1,6 +1,5 @@
 -- Laws of the entry.
 pub mod Clearing
-pub mod Codes
 pub mod Refusing
 pub mod Answering
 pub mod Opening

@@ -1,26 +1,27 @@
 -- From a question that was read to the judgement that it asks.
 use mathlib.Core.Path.{_≡_, sym, _∙_}
 use mathlib.Core.List.{List}
-use Prim.Native.Nat.{ℕ, _+_, _*_}
+use Prim.Native.Nat.{ℕ, _+_, _*_, _≤_}
 use native.Mathlib.Omega.{arith}
 use lib.ListN.{length}
 use Rattle.definition.specs.Syntax.{given}
 use Rattle.definition.specs.Reply.{workWords}
+use Rattle.layout.specs.States.{started}
 use Rattle.layout.specs.declared.State.{State}
 use Rattle.layout.proofs.Denotes.{base-frame}
 use Rattle.contexts.specs.declared.Opened.{Opened}
 use Rattle.reading.proofs.Questions.{asks-context}
-use Rattle.reading.specs.Table.{Sized, Laid}
+use Rattle.loading.specs.Table.{Sized, Laid}
 use Rattle.reading.specs.declared.Question.{Question}
 use Rattle.loading.specs.Loading.{Loading, Loaded}
 use Rattle.entry.specs.Entry.{OpenPre, Opens}
 
 -- ## Laying and loading
 
-abbrev start : ℕ → State
-start budget = record { top = 2064; low = 32 * budget + 4096; left = budget; fresh = 0 }
-
 module _ {q w : List ℕ} {budget : ℕ} {a : Question} (pre : OpenPre q w budget a) where
+  pub prepared : budget ≤ 8192
+  prepared = pre .run .high
+
   pub sized : Sized q w
   unfolding workWords
   sized = record { small = pre .run .few; room = omega (arith, pre .run .long, pre .run .low) }
@@ -30,11 +31,11 @@ module _ {q w : List ℕ} {budget : ℕ} {a : Question} (pre : OpenPre q w budge
     unfolding workWords
     size = sym (laid .keep .long) ∙ pre .run .long
 
-    pub loading : Loading q w₁ (start budget) (a .context) (a .entries)
-    loading =
+    pub loading : {low : ℕ} {s : State} → low ≡ workWords budget → s ≡ started low budget → Loading q w₁ s (a .context) (a .entries)
+    loading e f =
         let c = asks-context (pre .run .read .asks) in
         let z = size in
-        record {
+        rw f (record {
           loads = record {
             base = laid .base;
             room = omega (arith, pre .paid);
@@ -43,11 +44,13 @@ module _ {q w : List ℕ} {budget : ℕ} {a : Question} (pre : OpenPre q w budge
             end = c .past;
             list = c .list;
           };
-        }
+        })
 
-    pub opens : {w₂ : List ℕ} {o : Opened} → Loaded q w₁ w₂ (start budget) (a .context) (a .entries) o → Opens q w₂ budget a o
+    pub opens : {low : ℕ} {s : State} {w₂ : List ℕ} {o : Opened} → low ≡ workWords budget → s ≡ started low budget
+        → Loaded q w₁ w₂ s (a .context) (a .entries) o → Opens q w₂ budget a o
     unfolding workWords
-    opens l =
+    opens {low} {w₂ = w₂} {o} g h m =
+        let l : Loaded q w₁ w₂ (started low budget) (a .context) (a .entries) o = rw h at m in
         let z = size in
         let t = l .past .top in
         let n = l .past .count in
@@ -63,7 +66,7 @@ module _ {q w : List ℕ} {budget : ℕ} {a : Question} (pre : OpenPre q w budge
             cap = omega (arith, l .keep .long, pre .run .high);
             names = omega (arith, pre .run .high);
           };
-          low = b;
+          low = b ∙ g;
           left = e;
           fresh = f;
           count = n;

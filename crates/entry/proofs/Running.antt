@@ -11,7 +11,7 @@ use Rattle.definition.specs.Syntax.{pick, Ty}
 use Rattle.definition.specs.Question as question
 use Rattle.definition.specs.Run.{Out, done, fail, stop, andThen, _>>=_, give}
 use Rattle.definition.specs.Types.{apply}
-use Rattle.definition.specs.Rules.{Result, judge}
+use Rattle.definition.specs.Rules.{Result, outside, judge}
 use Rattle.definition.specs.Reply.{refusal, answer, outReply, workWords}
 use Rattle.definition.specs.Memory.{reportAfter}
 use Rattle.laws.proofs.Depth.{Left, apply-left, judge-left}
@@ -27,47 +27,26 @@ use Rattle.entry.specs.Entry.{Gives, RunPre, Runs, Opens, Answers, Finis
 -- ## Entering cannot be paid
 
 module _ {q : List ℕ} {a : Question} (acc : Accepted q a) (budget : ℕ) (few : budget ≤ a .entries) where
-  stops : judge (acc .asked .manner) (acc .asked .asks) budget 0 ≡ stop
+  stops : judge (outside (acc .asked .manner)) (acc .asked .asks) budget 0 ≡ stop
   stops =
       let c = asks-context (acc .asks) .list .count in
-      step-none (acc .asked .manner) (acc .asked .asks) budget 0 (omega arith)
+      step-none (outside (acc .asked .manner)) (acc .asked .asks) budget 0 (omega arith)
 
   answer-stops : answer (acc .asked) budget 0 ≡ stop
   unfolding answer pick _>>=_ andThen
   answer-stops = go (eqb (acc .asked .kind) 7)
     where
-      go : (b : Bool) → pick b (do r ← judge (acc .asked .manner) (acc .asked .asks); A ← apply (r .1) (r .0); give (A, r .1, r .2)) (judge (acc .asked .manner) (acc .asked .asks)) budget 0 ≡ stop
+      go : (b : Bool) → pick b (do r ← judge (outside (acc .asked .manner)) (acc .asked .asks); A ← apply (r .1) (r .0); give (A, r .1, r .2)) (judge (outside (acc .asked .manner)) (acc .asked .asks)) budget 0 ≡ stop
       go true = rw stops refl
       go false = stops
 
-pub unpaid : {q : List ℕ} {a : Question} {budget : ℕ} {s : List ℕ} → budget ≤ a .entries
-    → Runs q budget a s s (record { code = 6; at = 0; len = 0; units = budget })
+pub unpaid : {q : List ℕ} {a : Question} {budget : ℕ} {s : List ℕ} {r : Reply} → budget ≤ a .entries
+    → r ≡ record { code = 6; at = 0; len = 0; units = budget } → Runs q budget a s s r
 unfolding outReply refusal reportAfter
-unpaid {budget = budget} h = record {
+unpaid {budget = budget} h e = record {
   gives = λ acc.
-      rw (answer-stops acc budget h) (record { numbers = record { code = refl; at = refl; len = refl; units = refl }; report = refl });
+      rw (e, answer-stops acc budget h) (record { numbers = record { code = refl; at = refl; len = refl; units = refl }; report = refl });
 }
-
--- ## No more is left than there was
-
-left-then : (l : ℕ) (R : Out Result) → Left l R → Left {A = Result} l (andThen R (λ r. _>>=_ (apply (r .1) (r .0)) (λ A. give (A, r .1, r .2))))
-unfolding andThen _>>=_ give
-left-then l (done r k n) h = go (apply (r .1) (r .0) k n) (apply-left (r .1) (r .0) k n)
-  where
-    go : (o : Out Ty) → Left k o → Left {A = Result} l (andThen o (λ A. give (A, r .1, r .2)))
-    go (done A m n) p = le-trans p h
-    go (fail e m) p = le-trans p h
-    go stop p = tt
-left-then l (fail e k) h = h
-left-then l stop h = tt
-
-answer-left : (Q : question.Question) (l n : ℕ) → Left l (answer Q l n)
-unfolding answer pick _>>=_
-answer-left Q l n = go (eqb (Q .kind) 7)
-  where
-    go : (b : Bool) → Left {A = Result} l (pick b (do r ← judge (Q .manner) (Q .asks); A ← apply (r .1) (r .0); give (A, r .1, r .2)) (judge (Q .manner) (Q .asks)) l n)
-    go true = left-then l (judge (Q .manner) (Q .asks) l n) (judge-left (Q .manner) (Q .asks) l n)
-    go false = judge-left (Q .manner) (Q .asks) l n
 
 -- ## The reply
 
@@ -83,7 +62,7 @@ module _ {q w w₁ w₂ : List ℕ} {budget : ℕ} {a : Question} {o : Opened} {
         budget = omega (arith, op .left, pre .high);
         R = answer (pre .read .asked) (o .st .left) (o .st .fresh);
         ends = an .ends (pre .read);
-        left = answer-left (pre .read .asked) (o .st .left) (o .st .fresh);
+        charge = an .charge (pre .read);
       }
 
   pub runs : {s s′ : List ℕ} {r : Reply} → Finishes q w₂ (a .kind) (o .st) z s s′ r → Runs q budget a s s′ r

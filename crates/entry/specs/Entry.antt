@@ -10,18 +10,18 @@ use Rattle.definition.specs.Memory.{call, reportAfter}
 use Rattle.definition.specs.Syntax.{Ctx}
 use Rattle.definition.specs.Run.{Out, andThen, _>>=_, give}
 use Rattle.definition.specs.Types.{apply}
-use Rattle.definition.specs.Rules.{Result}
+use Rattle.definition.specs.Rules.{Result, outside}
 use Rattle.layout.specs.declared.State.{State}
 use Rattle.judging.specs.declared.Step.{Step}
-use Rattle.judging.specs.Ending.{EndsJ}
-use Rattle.laws.proofs.Depth.{Left}
+use Rattle.judging.specs.Ending.{EndsJ, chargeOf}
+use Rattle.laws.specs.Count.{charged}
 use Rattle.report.specs.declared.Report.{Report}
 use Rattle.report.specs.declared.Report.the-variants.{Written, NoRoom}
 use Rattle.layout.specs.Denotes.{Run}
 use Rattle.contexts.specs.declared.Opened.{Opened}
-use Rattle.judging.specs.Asking.{mode, Ready}
+use Rattle.judging.specs.Asking.{here, Ready}
 use Rattle.layout.specs.declared.Span.{Span}
-use Rattle.judging.specs.declared.Mode.{Mode}
+use Rattle.judging.specs.declared.Here.{Here}
 use Rattle.reading.specs.Questions.{ContextAt, ModeIs, Accepted}
 use Rattle.reading.specs.declared.Question.{Question}
 use Rattle.entry.specs.declared.Reply.{Reply}
@@ -104,6 +104,7 @@ pub record ResolvePre (q w : List ℕ) (s : State) (z : Step) : Type 0 where
 
 pub record Resolves (q w w′ : List ℕ) (s : State) (z z′ : Step) : Type 0 where
   pub ends : (R : Out Result) → EndsJ q w s z R → EndsJ q w′ s z′ (resolved R)
+  pub charge : (R : Out Result) → EndsJ q w s z R → chargeOf z ≡ charged (s .left) R → chargeOf z′ ≡ charged (s .left) (resolved R)
 
 -- ## From what a run came to, to its reply
 
@@ -116,14 +117,14 @@ abbrev pub lengthOf : Report → ℕ
 lengthOf (Written n) = n
 lengthOf (NoRoom n) = n
 
--- a run from the state s came to z, which is R in the definition, and no more is left than there was
+-- a run from the state s came to z, which is R in the definition, and was charged what R was
 pub record FinishPre (q w : List ℕ) (s : State) (z : Step) : Type 0 where
   pub low : s .low ≤ length w
   pub cap : length w ≤ 1000000
   pub budget : s .left ≤ 8192
   pub R : Out Result
   pub ends : EndsJ q w s z R
-  pub left : Left (s .left) R
+  pub charge : chargeOf z ≡ charged (s .left) R
 
 pub record Finishes (q w : List ℕ) (kind : ℕ) (s : State) (z : Step) (sl sl′ : List ℕ) (r : Reply) : Type 0 where
   pub gives : (R : Out Result) → EndsJ q w s z R → Gives (outReply kind (s .left) (length sl) R) sl sl′ r
@@ -138,6 +139,7 @@ pub record AskPre (q w : List ℕ) (a : Question) (st : State) (g : Span) : Type
 pub record Answers (q w w′ : List ℕ) (a : Question) (st : State) (z : Step) : Type 0 where
   pub keep : length w ≡ length w′
   pub ends : (acc : Accepted q a) → EndsJ q w′ st z (answer (acc .asked) (st .left) (st .fresh))
+  pub charge : (acc : Accepted q a) → chargeOf z ≡ charged (st .left) (answer (acc .asked) (st .left) (st .fresh))
 
-pub record ModeOf (k : ℕ) (m : Mode) : Type 0 where
-  pub is : {μ : question.Mode} → ModeIs k μ → mode m ≡ μ
+pub record OutsideOf (k : ℕ) (h : Here) : Type 0 where
+  pub is : {μ : question.Mode} → ModeIs k μ → here h ≡ outside μ

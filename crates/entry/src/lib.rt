@@ -3,12 +3,13 @@ ghost use mathlib.Core.Path.{_≡_};
 ghost use mathlib.Core.List.{_++_};
 ghost use Prim.Native.Nat.{_≤_, _<_, _^_};
 ghost use lib.ListN.{length, drop, replicate};
-ghost use Rattle.entry.specs.Entry.{ModeOf, AskPre, Answers, toldOf, lengthOf, FinishPre, Finishes, ResolvePre, Resolves, OpenPre, Opens, RunPre, Runs, ZeroBits, ClearedPre, Cleared, Replied};
+ghost use Rattle.definition.specs.Reply.{workWords};
+ghost use Rattle.entry.specs.Entry.{OutsideOf, AskPre, Answers, toldOf, lengthOf, FinishPre, Finishes, ResolvePre, Resolves, OpenPre, Opens, RunPre, Runs, ZeroBits, ClearedPre, Cleared, Replied};
 use contexts::Opened;
 use judging::Answer;
+use judging::Here;
 use judging::Mode;
 use judging::Step;
-use layout::FLOOR;
 use layout::Made;
 use layout::Span;
 use layout::State;
@@ -91,21 +92,24 @@ fn clear(work: &mut [u32], n: usize)
     zero(&mut work[i..n]);
 }
 
+// How many words of work a budget asks for.
+fn work_words(budget: usize) -> usize
+    requires { ⌜ budget ≤ 8192 ⌝ }
+    ensures { λ n. ⌜ n ≡ workWords budget ⌝ }
+{
+    32 * budget + 4096
+}
+
 // Lays the table of ends, and loads the context.
 fn prepare(q: &[u32], work: &mut [u32], budget: usize, a: Question) -> Opened
     requires { ⌜ OpenPre (now q) (now work) budget a ⌝ }
     ensures { λ o. ⌜ Opens (now (q .entry)) (now (work .exit)) budget a o ⌝ }
 {
-    let low = 32 * budget + 4096;
+    let low = work_words(budget);
     let from = a.context;
     let n = a.entries;
-    reading::ends::fill_ends(q, work);
-    let st = State {
-        top: FLOOR,
-        low: low,
-        left: budget,
-        fresh: 0,
-    };
+    loading::ends::fill_ends(q, work);
+    let st = layout::start(low, budget);
     loading::load_context(q, work, st, from, n)
 }
 
@@ -126,13 +130,28 @@ fn resolve(q: &[u32], work: &mut [u32], from: State, z: Step) -> Step
     };
     let rule = r.rule;
     let kids = r.kids;
+    let charge = after.charged_since(from);
     Step::Done(Answer {
         st: after,
         g: g,
         ty: found,
         rule: rule,
         kids: kids,
+        charge: charge,
     })
+}
+
+// A reply out of budget: the whole budget is spent.
+fn spent(budget: usize) -> Reply
+    requires { ⌜ budget < 2 ^ 32 ⌝ }
+    ensures { λ r. ⌜ r ≡ record { code = 6; at = 0; len = 0; units = budget } ⌝ }
+{
+    Reply {
+        code: 6,
+        at: 0,
+        len: 0,
+        units: budget as u32,
+    }
 }
 
 // The four numbers, by what became of the report.
@@ -158,7 +177,7 @@ fn told(code: usize, at: u32, units: usize, z: Report) -> Reply
     }
 }
 
-// The reply to what a run came to; from is the state in which it began.
+// The reply to what a run came to, whose charge is the units; from is the state in which it began.
 fn finish(q: &[u32], work: &[u32], kind: usize, from: State, z: Step, report: &mut [u32]) -> Reply
     requires { ⌜ FinishPre (now q) (now work) from z ⌝ }
     ensures { λ r. ⌜ Finishes (now (q .entry)) (now (work .entry)) kind from z (now (report .entry)) (now (report .exit)) r ⌝ }
@@ -167,38 +186,31 @@ fn finish(q: &[u32], work: &[u32], kind: usize, from: State, z: Step, report: &m
     let high = from.low;
     match z {
         Step::Done(a) => {
-            let st = a.st;
-            let left = st.left;
-            let units = budget - left;
+            let units = a.charge;
             let y = report::report_result(q, work, kind, a, high, report);
             told(0, 0, units, y)
         }
         Step::Fail(b) => {
-            let st = b.st;
-            let left = st.left;
             let code = b.code;
             let name = b.name;
-            let units = budget - left;
+            let units = b.charge;
             let y = report::report_error(q, work, b, report);
             told(code, name, units, y)
         }
-        Step::Spent => Reply {
-            code: 6,
-            at: 0,
-            len: 0,
-            units: budget as u32,
-        },
+        Step::Spent => spent(budget),
     }
 }
 
-// Mode 0 is plain, mode 1 strict.
-fn mode_of(mode: usize) -> Mode
-    ensures { λ m. ⌜ ModeOf mode m ⌝ }
+// What the question's judgement runs in: mode 0 is plain, mode 1 strict.
+fn outside(mode: usize) -> Here
+    ensures { λ h. ⌜ OutsideOf mode h ⌝ }
 {
     let strict = mode == 1;
-    Mode {
-        compares_parameter: strict,
-        applies_branches: strict,
+    Here {
+        manner: Mode {
+            compares_parameter: strict,
+            applies_branches: strict,
+        },
     }
 }
 
@@ -207,20 +219,20 @@ fn judge(q: &[u32], work: &mut [u32], a: Question, st: State, g: Span) -> Step
     requires { ⌜ AskPre (now q) (now work) a st g ⌝ }
     ensures { λ z. ⌜ Answers (now (q .entry)) (now (work .entry)) (now (work .exit)) a st z ⌝ }
 {
-    let m = mode_of(a.mode);
+    let h = outside(a.mode);
     let kind = a.kind;
     let ex = a.expr;
     let left = a.left;
     let right = a.right;
     match kind {
-        1 => inference::infer(q, work, m, st, g, ex),
-        2 => inference::check(q, work, m, st, g, ex, right),
-        3 => inference::infer_app(q, work, m, st, g, left, ex),
-        4 => subtyping::subtype(q, work, st, g, left, right),
-        5 => instantiation::inst_l(q, work, st, g, left, right),
-        6 => instantiation::inst_r(q, work, st, g, left, right),
+        1 => inference::infer(q, work, h, st, g, ex),
+        2 => inference::check(q, work, h, st, g, ex, right),
+        3 => inference::infer_app(q, work, h, st, g, left, ex),
+        4 => subtyping::subtype(q, work, h, st, g, left, right),
+        5 => instantiation::inst_l(q, work, h, st, g, left, right),
+        6 => instantiation::inst_r(q, work, h, st, g, left, right),
         _ => {
-            let z = inference::infer(q, work, m, st, g, ex);
+            let z = inference::infer(q, work, h, st, g, ex);
             resolve(q, work, st, z)
         }
     }
@@ -234,12 +246,7 @@ fn run(q: &[u32], work: &mut [u32], budget: usize, a: Question, report: &mut [u3
     let n = a.entries;
     let kind = a.kind;
     if budget <= n {
-        return Reply {
-            code: 6,
-            at: 0,
-            len: 0,
-            units: budget as u32,
-        };
+        return spent(budget);
     }
     let o = prepare(q, work, budget, a);
     let st = o.st;
@@ -253,7 +260,7 @@ fn run_cleared(q: &[u32], work: &mut [u32], budget: usize, a: Question, report: 
     requires { ⌜ ClearedPre (now q) (now work) budget a ⌝ }
     ensures { λ r. ⌜ Cleared (now (q .entry)) (now (work .entry)) (now (work .exit)) budget a (now (report .entry)) (now (report .exit)) r ⌝ }
 {
-    let need = 32 * budget + 4096;
+    let need = work_words(budget);
     let r = run(q, &mut work[0..need], budget, a, report);
     clear(work, need);
     r
@@ -266,18 +273,18 @@ pub fn check(question: &[u32], budget: u32, work: &mut [u32], report: &mut [u32]
     if budget < 1 {
         return refusal(1, 0);
     }
-    if 8192 < budget {
+    if definition::BUDGET_MOST < budget {
         return refusal(1, 0);
     }
     let b = budget as usize;
-    let need = 32 * b + 4096;
+    let need = work_words(b);
     if work.len() < need {
         return refusal(2, 0);
     }
     if question.len() < 1 {
         return refusal(3, 0);
     }
-    if 2048 < question.len() {
+    if definition::QUESTION_MOST < question.len() {
         return refusal(3, 0);
     }
     match reading::read_question(question) {

@@ -1,43 +1,24 @@
 -- From the reply in words to the reply slice.
 use mathlib.Core.Path.{_≡_, ap, _∙_}
-use mathlib.Core.List.{List, [], _∷_, _++_}
+use mathlib.Core.List.{List, _++_}
 use Prim.Native.Nat.{ℕ, suc, _+_, _-_, _*_, _/_, _≤_, _<_, min}
 use native.Mathlib.Omega.{arith}
 use native.Mathlib.Nat.{sub-zero}
 use lib.ListN.{length, take, drop}
-use lib.Seq.{take-at, drop-drop, drop-append-add}
-use lib.Dec.{ltb, lt→ltb}
-use mir.Facts.{no-ltb}
+use borrow.Author.Tests.{lt-ltb, le-ltb}
 use Rattle.definition.specs.Syntax.{pick}
 use Rattle.definition.specs.Reply.{Reply}
 use Rattle.definition.specs.Host.{bytesOf, deskReply, byteReply, numbers, hostCall}
-use Rattle.laws.proofs.Steps.{is-true, is-false}
 use Rattle.entry.specs.declared.Reply as entry
 use Rattle.entry.specs.Entry.{Numbers, Replied}
-use Rattle.wire.proofs.Bytes.{length-bytes}
 use Rattle.sized.specs.Sized.{Told, writtenOf}
 use Rattle.host.specs.Host.{Answered, Checked, numbersOf}
-
--- ## The bytes
-
--- the four numbers are put, then words
-pub put : (a b c e : ℕ) (ws d : List ℕ) {d₁ d₂ : List ℕ} → d₁ ≡ bytesOf (a ∷ b ∷ c ∷ e ∷ []) ++ drop 16 d
-    → d₂ ≡ take 16 d₁ ++ (bytesOf ws ++ drop (16 + 4 * length ws) d₁) → d₂ ≡ bytesOf (a ∷ b ∷ c ∷ e ∷ ws) ++ drop (16 + 4 * length ws) d
-unfolding bytesOf
-put a b c e ws d f g =
-    let four : List ℕ = bytesOf (a ∷ b ∷ c ∷ e ∷ []) in
-    let k : ℕ = 4 * length ws in
-    let tk : take 16 (four ++ drop 16 d) ≡ four = take-at four (drop 16 d) 16 (length-bytes (a ∷ b ∷ c ∷ e ∷ [])) in
-    let dp : drop (16 + k) (four ++ drop 16 d) ≡ drop (16 + k) d = drop-append-add four (drop 16 d) k ∙ drop-drop k 16 d in
-    g ∙ ap (λ (l : List ℕ). take 16 l ++ (bytesOf ws ++ drop (16 + k) l)) f
-    ∙ ap (λ (l : List ℕ). l ++ (bytesOf ws ++ drop (16 + k) (four ++ drop 16 d))) tk
-    ∙ ap (λ (l : List ℕ). four ++ (bytesOf ws ++ l)) dp
 
 -- ## The call
 
 pub short : {b s : List ℕ} → length s < 16 → Answered b s s 8
 unfolding hostCall pick
-short {b} {s} h = let t = is-true (ltb (length s) 16) (lt→ltb (length s) 16 h) in record { returns = rw t; reply = rw t }
+short {b} {s} h = let t = lt-ltb (length s) 16 h in record { returns = rw t; reply = rw t }
 
 capped : (room : ℕ) (b : List ℕ) → byteReply (min room 4096) b ≡ byteReply room b
 unfolding byteReply deskReply
@@ -52,7 +33,7 @@ answered {b} {s} {s′} {rep} {r} {room} {n} h e t w f =
     let i : byteReply room b ≡ R = ap (λ (m : ℕ). byteReply m b) e ∙ capped ((length s - 16) / 4) b in
     let p : Numbers R r = rw i at (t .numbers) in
     let q : take (n - 0) (drop 0 rep) ≡ R .report = rw (w, sub-zero) (rw i at (t .report)) in
-    let l = is-false (ltb (length s) 16) (no-ltb h) in
+    let l = le-ltb (length s) 16 h in
     let k : 16 + 4 * length (R .report) ≡ 4 * suc (suc (suc (suc (length (R .report))))) = omega arith in
     record { returns = rw l (p .code); reply = f ∙ rw (l, q, p .code, p .at, p .len, p .units, k) }
 

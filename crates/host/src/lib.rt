@@ -1,12 +1,8 @@
 // The functions for C: the telephone host's, in bytes, and one with every parameter free, in words.
 ghost use mathlib.Core.Path.{_≡_};
-ghost use mathlib.Core.List.{_∷_, _++_};
-ghost use Prim.Native.Nat.{_+_, _-_, _*_, _/_, _≤_, min};
-ghost use lib.ListN.{length, drop};
-ghost use Rattle.definition.specs.Host.{bytesOf};
-ghost use Rattle.host.specs.Host.{Answered, Checked, numbersOf};
+ghost use Prim.Native.Nat.{_-_, _/_, _≤_, min};
+ghost use Rattle.host.specs.Host.{Answered, Checked};
 ghost use Rattle.sized.specs.Sized.{Lent};
-use entry::Reply;
 
 // How many words of report a reply of n bytes has room for.
 fn room_for(n: usize) -> usize
@@ -15,16 +11,6 @@ fn room_for(n: usize) -> usize
 {
     let most = (n - 16) / 4;
     if 4096 < most { 4096 } else { most }
-}
-
-// The four numbers, then the words of the report, little-endian.
-pub fn put_reply(reply: &mut [u8], r: Reply, report: &[u32])
-    requires { ⌜ 16 + 4 * length (now report) ≤ length (now reply) ⌝ }
-    ensures { λ _. ⌜ now (reply .exit) ≡ bytesOf (numbersOf r ++ now (report .entry)) ++ drop (16 + 4 * length (now (report .entry))) (now (reply .entry)) ⌝ }
-{
-    let four = [r.code, r.at, r.len, r.units];
-    wire::put_words(reply, 0, &four);
-    wire::put_words(reply, 16, report);
 }
 
 // The telephone host's function, in what it lends itself.
@@ -44,7 +30,7 @@ fn answer_in(
     let room = room_for(reply.len());
     let r = sized::answer(question, words, work, report, room);
     let n = sized::written(r);
-    put_reply(reply, r, &report[0..n]);
+    wire::put_reply(reply, r.code, r.at, r.len, r.units, &report[0..n]);
     r.code
 }
 

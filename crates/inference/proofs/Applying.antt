@@ -15,16 +15,17 @@ use Rattle.layout.specs.declared.TyVar as tyvar
 use Rattle.types.specs.Reading.{HeldAs, HeldNamed, Named, LeftOf, RightOf}
 use Rattle.types.proofs.Held.{room-held, held-as}
 use Rattle.judging.specs.declared.Answer.{Answer}
-use Rattle.judging.specs.declared.Mode.{Mode}
+use Rattle.judging.specs.declared.Here.{Here}
 use Rattle.judging.specs.declared.Step.{Step}
 use Rattle.judging.specs.declared.Step.the-variants.{Done}
-use Rattle.judging.specs.Asking.{mode, checkAsk, appAsk}
+use Rattle.judging.specs.Asking.{here, checkAsk, appAsk}
 use Rattle.judging.specs.Ending.{Judged, Fires}
 use Rattle.judging.proofs.Asking.{app-asked}
-use Rattle.steps.specs.declared.Parted.{Parted}
-use Rattle.steps.specs.Parting.{freshName, PartPre, Parts}
-use Rattle.steps.proofs.Forms.{IsArrow, is-arrow, IsETVar, is-etvar}
-use Rattle.steps.proofs.Going.{unknown-named}
+use Rattle.rules.specs.declared.Parted.{Parted}
+use Rattle.layout.specs.States.{freshName}
+use Rattle.rules.specs.Parting.{PartPre, Parts}
+use Rattle.rules.proofs.TypeForms.{IsArrow, is-arrow, IsETVar, is-etvar}
+use Rattle.rules.proofs.Standing.{unknown-named}
 use Rattle.rules.specs.Taking.{AppPre}
 use Rattle.rules.specs.Going.{PlainOut}
 use Rattle.rules.proofs.Ways.{Way, went, finish}
@@ -33,7 +34,7 @@ use Rattle.inference.proofs.Premise.{At, Premise, ask-check, returns}
 
 -- ## InfAppArr
 
-module _ (m : Mode) {q w : List ℕ} {s : State} {g : Span} {r ex : ℕ} (pre : AppPre q w s g r ex 5) where
+module _ (m : Here) {q w : List ℕ} {s : State} {g : Span} {r ex : ℕ} (pre : AppPre q w s g r ex 5) where
   pub arr : {j : Judgement} (k : At (pre .rule) j) → IsArrow (app-asked r ex k .T)
   arr k = let v = app-asked r ex k in is-arrow (v .T) (sym (pre .tag .is (v .T) (v .den)))
 
@@ -45,7 +46,7 @@ module _ (m : Mode) {q w : List ℕ} {s : State} {g : Span} {r ex : ℕ} (pre : 
 
   pub arr-way : {j : Judgement} (k : At (pre .rule) j)
       → Way q w w s s leaf (20 + 28 * g .n) (outcome m s j)
-      (judge (mode m) (check (app-asked r ex k .Γ) (app-asked r ex k .e) (arr k .A)) >>= λ u. give (Syntax.InfAppArr, arr k .B, u .1, u .2 & leaf))
+      (judge (here m) (check (app-asked r ex k .Γ) (app-asked r ex k .e) (arr k .A)) >>= λ u. give (Syntax.InfAppArr, arr k .B, u .1, u .2 & leaf))
   unfolding inferAppRule on asArrow _orElse_ infAppArr
   arr-way k = begin-app m (pre .rule) (app-asked r ex k .is) (arr k .is) refl
 
@@ -65,7 +66,7 @@ module _ (m : Mode) {q w : List ℕ} {s : State} {g : Span} {r ex : ℕ} (pre : 
 
 -- ## InfAppETVar
 
-module _ (m : Mode) {q w : List ℕ} {s : State} {g : Span} {r ex : ℕ} (pre : AppPre q w s g r ex 4) where
+module _ (m : Here) {q w : List ℕ} {s : State} {g : Span} {r ex : ℕ} (pre : AppPre q w s g r ex 4) where
   pub unknown : {j : Judgement} (k : At (pre .rule) j) → IsETVar (app-asked r ex k .T)
   unknown k = let v = app-asked r ex k in is-etvar (v .T) (sym (pre .tag .is (v .T) (v .den)))
 
@@ -87,13 +88,13 @@ module _ (m : Mode) {q w : List ℕ} {s : State} {g : Span} {r ex : ℕ} (pre : 
         names = omega (arith, pre .rule .names);
       }
 
-  module _ {a : tyvar.TyVar} (n : Named q w (s .top) r a) {w₁ : List ℕ} {o : Parted} (i : Parts q w w₁ s g a o) where
+  module _ {a : tyvar.TyVar} (n : Named q w (s .top) r a) {w₁ : List ℕ} {o : Parted} (i : Parts m q w w₁ s g a o) where
     etvar-name : {j : Judgement} (k : At (pre .rule) j) → ty a ≡ unknown k .a
     etvar-name k = n .of-etvar (unknown k .a) (unknown-den k)
 
     pub etvar-way : {j : Judgement} (k : At (pre .rule) j)
         → Way q w w₁ s (o .st) leaf 0 (outcome m s j)
-        (judge (mode m) (check (split (unknown k .a) (freshName (s .fresh)) (freshName (suc (s .fresh))) (app-asked r ex k .Γ)) (app-asked r ex k .e) (etvar (freshName (s .fresh))))
+        (judge (here m) (check (split (here m) (unknown k .a) (freshName (s .fresh)) (freshName (suc (s .fresh))) (app-asked r ex k .Γ)) (app-asked r ex k .e) (etvar (freshName (s .fresh))))
         >>= λ u. give (Syntax.InfAppETVar, etvar (freshName (suc (s .fresh))), u .1, u .2 & leaf))
     unfolding inferAppRule on asArrow asETVar _orElse_ infAppETVar fresh _>>=_ andThen
     etvar-way k =

@@ -10,12 +10,14 @@ use Rattle.definition.specs.Syntax.{TyVar, Ty, int, arrow, Expr, Ctx, onR, Judg
 use Rattle.definition.specs.Run.{Out, done, M, _>>=_, give}
 use Rattle.definition.specs.Contexts.{kVar, kTVar, _▹_, rightOf}
 use Rattle.definition.specs.Types.{apply}
-use Rattle.definition.specs.Question as question
-use Rattle.definition.specs.Rules.{Result, Judge, judge, tyCode, exprCode, parameter, chkLam, chkAll, chkSub, checkRule, branch}
+use Rattle.definition.specs.Rules as rules
+use Rattle.definition.specs.Rules.{Result, Judge, _from_, judge, tyCode, exprCode, parameter, chkLam, chkAll, chkSub, checkRule, branch}
 use Rattle.layout.specs.Names.{tm, ty}
-use Rattle.layout.specs.Denotes.{Den, written, Run}
+use Rattle.layout.specs.Denotes.{Den, written, Run, SmallEntry}
 use Rattle.layout.specs.declared.Span.{Span}
 use Rattle.layout.specs.declared.State.{State}
+use Rattle.layout.specs.declared.Entry.{Entry}
+use Rattle.layout.specs.declared.Key.the-variants.{Var}
 use Rattle.layout.specs.declared.TmVar as tmvar
 use Rattle.layout.proofs.Places.{ty-code, expr-code}
 use Rattle.layout.proofs.Denotes.{run-frame, int-den}
@@ -23,21 +25,21 @@ use Rattle.types.specs.Reading.{HeldAs, LeftOf, RightOf}
 use Rattle.types.proofs.Held.{room-held, held-as}
 use Rattle.contexts.specs.Build.{Space, Pushed}
 use Rattle.contexts.specs.declared.Opened.{Opened}
-use Rattle.contexts.proofs.Build.{makes-var}
+use Rattle.judging.proofs.Entries.{entry-small, as-var}
 use Rattle.judging.specs.declared.Answer.{Answer}
-use Rattle.judging.specs.declared.Mode.{Mode}
+use Rattle.judging.specs.declared.Here.{Here}
 use Rattle.judging.specs.declared.Step.{Step}
 use Rattle.judging.specs.declared.Step.the-variants.{Done}
-use Rattle.judging.specs.Asking.{mode, inferAsk, checkAsk}
+use Rattle.judging.specs.Asking.{here, EntryFrom, inferAsk, checkAsk}
 use Rattle.judging.specs.Ending.{Judged, RunsJ, Fires}
 use Rattle.judging.proofs.Asking.{check-asked}
 use Rattle.judging.proofs.Steps.{NotDone}
-use Rattle.steps.specs.declared.Body.{Body}
-use Rattle.steps.specs.declared.Instance.the-variants.{Of}
-use Rattle.steps.specs.Built.{Built}
-use Rattle.steps.specs.Opening.{ForallPre, Opens, Instances, opened, OpensOn}
-use Rattle.steps.proofs.Forms.{IsArrow, is-arrow, IsForall, is-forall}
-use Rattle.steps.proofs.Going.{room-space, ref-small}
+use Rattle.rules.specs.declared.Body.{Body}
+use Rattle.rules.specs.declared.Instance.the-variants.{Of}
+use Rattle.rules.specs.Built.{Built}
+use Rattle.rules.specs.Opening.{ForallPre, Opens, Instances, opened, OpensOn}
+use Rattle.rules.proofs.TypeForms.{IsArrow, is-arrow, IsForall, is-forall}
+use Rattle.rules.proofs.Standing.{room-space, ref-small}
 use Rattle.rules.specs.declared.Mid.{Mid}
 use Rattle.rules.specs.declared.Mid.the-variants.{On, End}
 use Rattle.rules.specs.Taking.{Choice, lit-int, lit-bool, lam, all, sub, CheckPre}
@@ -67,8 +69,8 @@ chosen-all (all r a) = a
 chosen-all (sub r a b c d) = absurd (omega arith)
 
 -- no other arm fits: the definition subsumes
-chosen-sub : {k c : ℕ} (μ : question.Mode) (judge : Judge) (Γ : Ctx) (e : Expr) (B : Ty) → k ≡ exprCode e → c ≡ tyCode B → Choice k c 21
-    → checkRule μ judge Γ e B ≡ chkSub judge Γ e B
+chosen-sub : {k c : ℕ} (μ : rules.Here) (judge : Judge) (Γ : Ctx) (e : Expr) (B : Ty) → k ≡ exprCode e → c ≡ tyCode B → Choice k c 21
+    → checkRule μ judge Γ e B ≡ chkSub μ judge Γ e B
 chosen-sub μ judge Γ e B i h (lit-int r a b) = absurd (omega arith)
 chosen-sub μ judge Γ e B i h (lit-bool r a b) = absurd (omega arith)
 chosen-sub μ judge Γ e B i h (lam r a b) = absurd (omega arith)
@@ -78,7 +80,7 @@ chosen-sub μ judge Γ e B i h (sub r a b c d) =
 
 -- ## ChkLam
 
-module _ (m : Mode) {q w : List ℕ} {s : State} {g : Span} {ex r : ℕ} (pre : CheckPre q w s g ex r 19) where
+module _ (m : Here) {q w : List ℕ} {s : State} {g : Span} {ex r : ℕ} (pre : CheckPre q w s g ex r 19) where
   pub lam-parts : {j : Judgement} (k : At (pre .rule) j) → Abs q ex (check-asked ex r k .e)
   lam-parts k = form 18 (pre .code ∙ chosen-lam (pre .choice) .0) (check-asked ex r k .at)
 
@@ -107,16 +109,16 @@ module _ (m : Mode) {q w : List ℕ} {s : State} {g : Span} {ex r : ℕ} (pre : 
 
     lam-way : {j : Judgement} (k : At (pre .rule) j)
         → Way q w w s s leaf (20 + 28 * g .n) (outcome m s j)
-        (parameter (m .«compares_parameter») (check-asked ex r k .Γ) (lam-parts k .A) (lam-arrow k .A)
-        >>= λ u. judge (mode m) (check (check-asked ex r k .Γ ▹ varBnd (lam-parts k .x) (lam-arrow k .A)) (lam-parts k .d) (lam-arrow k .B))
+        (parameter (m .manner .«compares_parameter») (check-asked ex r k .Γ) (lam-parts k .A) (lam-arrow k .A)
+        >>= λ u. judge (here m) (check (check-asked ex r k .Γ ▹ varBnd (lam-parts k .x) (lam-arrow k .A) from here m) (lam-parts k .d) (lam-arrow k .B))
         >>= λ r. give (Syntax.ChkLam, int, rightOf (kVar (lam-parts k .x)) (r .1), r .2 & leaf))
     unfolding chkLam
     lam-way k = begin-check m (pre .rule) (check-asked ex r k .is) (lam-parts k .is) (lam-arrow k .is)
-        (chk-lam (mode m) (judge (mode m)) (check-asked ex r k .Γ) ex (lam-parts k .x) (lam-parts k .A) (lam-arrow k .A) (lam-arrow k .B) (lam-parts k .d))
+        (chk-lam (here m) (judge (here m)) (check-asked ex r k .Γ) ex (lam-parts k .x) (lam-parts k .A) (lam-arrow k .A) (lam-arrow k .B) (lam-parts k .d))
 
     module _ {w₁ : List ℕ} {y : Mid} (o : Compared m q w w₁ s g (ex + 2) p y) where
       lam-passes : {j : Judgement} (k : At (pre .rule) j)
-          → Passes q w w₁ s Nothing y (parameter (m .«compares_parameter») (check-asked ex r k .Γ) (lam-parts k .A) (lam-arrow k .A) (s .left) (s .fresh))
+          → Passes q w w₁ s Nothing y (parameter (m .manner .«compares_parameter») (check-asked ex r k .Γ) (lam-parts k .A) (lam-arrow k .A) (s .left) (s .fresh))
       lam-passes k = o .passes _ _ _ (check-asked ex r k .run) (written (lam-parts k .type)) (lam-left k)
 
       pub lam-end : {z : Step} → y ≡ End z → Fires m q w w₁ s g (checkAsk ex r) z
@@ -126,18 +128,18 @@ module _ (m : Mode) {q w : List ℕ} {s : State} {g : Span} {ex r : ℕ} (pre : 
         lam-onward : {j : Judgement} (k : At (pre .rule) j) → Onward Nothing _ _ (lam-way k) w₁ s₁ a b
         lam-onward k = onward Nothing _ _ (lam-way k) (lam-passes k) e
 
-        pub lam-space : Space w₁ s₁ g 1 × (p < 2 ^ 32)
-        lam-space = let k = pre .rule .asks in let u = lam-onward k in
-            (room-space (u .way .room) g 1 (run-frame (u .keep) (u .up) (check-asked ex r k .run)) (omega arith), ref-small (u .way .room) (den-on (u .way) (lam-left k)))
+        pub lam-space : {x : tmvar.TmVar} {n : Entry} → EntryFrom m (Var x) p n → Space w₁ s₁ g 1 × SmallEntry n
+        lam-space en = let k = pre .rule .asks in let u = lam-onward k in
+            (room-space (u .way .room) g 1 (run-frame (u .keep) (u .up) (check-asked ex r k .run)) (omega arith), entry-small en (ref-small (u .way .room) (den-on (u .way) (lam-left k))))
 
-        module _ {x : tmvar.TmVar} {body : ℕ} (n : x .0 ≡ getD q (ex + 1) 0) (h : body ≡ getD w (16 + (ex + 2)) 0) {w₂ : List ℕ} {v : Opened}
-            (i : Pushed w₁ w₂ s₁ g (kVar (tm x)) p v) where
+        module _ {x : tmvar.TmVar} {body : ℕ} (n : x .0 ≡ getD q (ex + 1) 0) (h : body ≡ getD w (16 + (ex + 2)) 0) {bound : Entry}
+            (en : EntryFrom m (Var x) p bound) {w₂ : List ℕ} {v : Opened} (i : Pushed w₁ w₂ s₁ g bound v) where
           lam-var : {j : Judgement} (k : At (pre .rule) j) → tm x ≡ lam-parts k .x
           lam-var k = rw (n ∙ lam-parts k .name .is) refl
 
           pub lam-way₂ : {j : Judgement} (k : At (pre .rule) j)
               → Way q w w₂ s (v .st) leaf 0 (outcome m s j)
-              (judge (mode m) (check (check-asked ex r k .Γ ▹ varBnd (lam-parts k .x) (lam-arrow k .A)) (lam-parts k .d) (lam-arrow k .B))
+              (judge (here m) (check (check-asked ex r k .Γ ▹ varBnd (lam-parts k .x) (lam-arrow k .A) from here m) (lam-parts k .d) (lam-arrow k .B))
               >>= λ r. give (Syntax.ChkLam, int, rightOf (kVar (lam-parts k .x)) (r .1), r .2 & leaf))
           lam-way₂ k = grown (lam-onward k .way) 0 (i .grown) (omega arith)
 
@@ -146,7 +148,7 @@ module _ (m : Mode) {q w : List ℕ} {s : State} {g : Span} {ex r : ℕ} (pre : 
             at = λ j k.
                 let u = lam-onward k in
                 let run₁ : Run q w₁ (s₁ .top) (g .at) (g .n) (check-asked ex r k .Γ) = run-frame (u .keep) (u .up) (check-asked ex r k .run) in
-                ask-check (rw (lam-var k) at (i .run run₁ (makes-var (tm x) (den-on (u .way) (lam-left k)))))
+                ask-check (rw (lam-var k) at (i .run run₁ (as-var en (den-on (u .way) (lam-left k)))))
                 (type-next (pre .rule .room .base) h (lam-parts k .type) (lam-parts k .body)) (den-on (lam-way₂ k) (rt .is _ _ (lam-den k) .den));
           }
 
@@ -174,7 +176,7 @@ opened-body : {q w w₁ : List ℕ} {s : State} {g : Span} {o : Body} {b : TyVar
     → Instances q w w₁ s g b Δ (Of o) O → Opened-body q w w₁ s g o b Δ T
 opened-body {T = T} e (opened {T = U} b p) = let i : U ≡ T = cc in record { built = b; opens = rw i at p; left = cc }
 
-module _ (m : Mode) {q w : List ℕ} {s : State} {g : Span} {ex r : ℕ} (pre : CheckPre q w s g ex r 20) where
+module _ (m : Here) {q w : List ℕ} {s : State} {g : Span} {ex r : ℕ} (pre : CheckPre q w s g ex r 20) where
   pub all-parts : {j : Judgement} (k : At (pre .rule) j) → IsForall (check-asked ex r k .T)
   all-parts k = let v = check-asked ex r k in is-forall (v .T) (sym (pre .tag .is (v .T) (v .den)) ∙ chosen-all (pre .choice))
 
@@ -182,13 +184,13 @@ module _ (m : Mode) {q w : List ℕ} {s : State} {g : Span} {ex r : ℕ} (pre : 
   all-pre = let v = check-asked ex r (pre .rule .asks) in
       record { room = pre .rule .room; Γ = _; run = v .run; held = held-as (room-held (pre .rule .room) (v .den)) (pre .tag) 6 (chosen-all (pre .choice)) }
 
-  module _ {w₁ : List ℕ} {o : Body} (i : OpensOn q w w₁ s g r onR (Of o)) where
-    all-opened : {j : Judgement} (k : At (pre .rule) j) → Opened-body q w w₁ s g o (all-parts k .a) (check-asked ex r k .Γ ▹ tvarBnd (all-parts k .a)) (all-parts k .A)
+  module _ {w₁ : List ℕ} {o : Body} (i : OpensOn m q w w₁ s g r onR (Of o)) where
+    all-opened : {j : Judgement} (k : At (pre .rule) j) → Opened-body q w w₁ s g o (all-parts k .a) (check-asked ex r k .Γ ▹ tvarBnd (all-parts k .a) from here m) (all-parts k .A)
     all-opened k = let v = check-asked ex r k in opened-body refl (i .opens (v .Γ) (all-parts k .a) (all-parts k .A) (v .run) (rw (all-parts k .is) at (v .den)))
 
     pub all-way : {j : Judgement} (k : At (pre .rule) j)
         → Way q w w₁ s (o .st) leaf 0 (outcome m s j)
-        (judge (mode m) (check (check-asked ex r k .Γ ▹ tvarBnd (all-parts k .a)) (check-asked ex r k .e) (all-parts k .A))
+        (judge (here m) (check (check-asked ex r k .Γ ▹ tvarBnd (all-parts k .a) from here m) (check-asked ex r k .e) (all-parts k .A))
         >>= λ r. give (Syntax.ChkAll, int, rightOf (kTVar (all-parts k .a)) (r .1), r .2 & leaf))
     unfolding chkAll
     all-way k =
@@ -198,7 +200,7 @@ module _ (m : Mode) {q w : List ℕ} {s : State} {g : Span} {ex r : ℕ} (pre : 
         let b = u .built in
         let l = u .left in
         let f = u .opens .fresh in
-        went (begin-check m (pre .rule) (v .is) refl (p .is) (chk-all (mode m) (judge (mode m)) (v .Γ) (v .e) (p .a) (p .A))) (o .st) 0 (b .keep) (b .up) (b .low) l
+        went (begin-check m (pre .rule) (v .is) refl (p .is) (chk-all (here m) (judge (here m)) (v .Γ) (v .e) (p .a) (p .A))) (o .st) 0 (b .keep) (b .up) (b .low) l
         (omega (arith, b .built)) (omega (arith, pre .rule .names)) (rw (l, f) refl)
 
     pub all-asks : Premise m (pre .rule) _ _ (λ j k. all-way k) (o .g) (checkAsk ex (o .ty))
@@ -220,7 +222,7 @@ module _ (m : Mode) {q w : List ℕ} {s : State} {g : Span} {ex r : ℕ} (pre : 
 
 -- it is asked; t is the cycle's measure
 pub record Sub (t : ℕ) : Type 0 where
-  pub m : Mode
+  pub m : Here
   pub q : List ℕ
   pub w : List ℕ
   pub s : State
@@ -242,12 +244,12 @@ pub record SubInferred (t : ℕ) : Type 0 where
 module _ {t : ℕ} (i : Sub t) where
   pub sub-way : {j : Judgement} (k : At (i .pre .rule) j)
       → let v = check-asked (i .ex) (i .r) k in Way (i .q) (i .w) (i .w) (i .s) (i .s) leaf (20 + 28 * i .g .n) (outcome (i .m) (i .s) j)
-      (judge (mode (i .m)) (infer (v .Γ) (v .e)) >>= λ r₁. apply (r₁ .1) (r₁ .0) >>= λ A. apply (r₁ .1) (v .T)
-      >>= λ B. judge (mode (i .m)) (subtype (r₁ .1) A B) >>= λ r₂. give (Syntax.ChkSub, int, r₂ .1, r₁ .2 & r₂ .2 & leaf))
+      (judge (here (i .m)) (infer (v .Γ) (v .e)) >>= λ r₁. apply (r₁ .1) (r₁ .0) >>= λ A. apply (r₁ .1) (v .T)
+      >>= λ B. judge (here (i .m)) (subtype (r₁ .1) A B) >>= λ r₂. give (Syntax.ChkSub, int, r₂ .1, r₁ .2 & r₂ .2 & leaf))
   unfolding chkSub
   sub-way k =
       let v = check-asked (i .ex) (i .r) k in
-      begin-check (i .m) (i .pre .rule) (v .is) refl refl (chosen-sub (mode (i .m)) (judge (mode (i .m))) (v .Γ) (v .e) (v .T)
+      begin-check (i .m) (i .pre .rule) (v .is) refl refl (chosen-sub (here (i .m)) (judge (here (i .m))) (v .Γ) (v .e) (v .T)
       (sym (i .pre .code) ∙ expr-code (v .at) .is) (i .pre .tag .is (v .T) (v .den)) (i .pre .choice))
 
   pub sub-asks : Premise (i .m) (i .pre .rule) _ _ (λ j k. sub-way k) (i .g) (inferAsk (i .ex))
@@ -268,7 +270,7 @@ module _ {t : ℕ} (c : SubInferred t) where
   abbrev sub-relates : {j : Judgement} (k : At (c .on .pre .rule) j) → M Result
   sub-relates k = relate (c .on .m) true (sub-back k .Δ) (sub-back k .C) (check-asked (c .on .ex) (c .on .r) k .T)
 
-  module _ {w₂ : List ℕ} {y : Step} (call₂ : Related true (c .on .q) (c .w) w₂ (c .u .st) (c .u .g) (c .u .ty) (c .on .r) y) where
+  module _ {w₂ : List ℕ} {y : Step} (call₂ : Related (c .on .m) true (c .on .q) (c .w) w₂ (c .u .st) (c .u .g) (c .u .ty) (c .on .r) y) where
     sub-way₂ : {j : Judgement} (k : At (c .on .pre .rule) j)
         → Way (c .on .q) (c .on .w) (c .w) (c .on .s) (c .u .st) (sub-back k .t & leaf) (4 * c .u .g .n + 4) (outcome (c .on .m) (c .on .s) j)
         (sub-relates k >>= λ r₂. give (Syntax.ChkSub, int, r₂ .1, sub-back k .t & r₂ .2 & leaf))
@@ -276,7 +278,7 @@ module _ {t : ℕ} (c : SubInferred t) where
     sub-way₂ k = turn (sub-back k .way) (regroup _ _ _ _)
 
     sub-runs : {j : Judgement} (k : At (c .on .pre .rule) j) → RunsJ (c .on .q) (c .w) w₂ (c .u .st) y (sub-relates k (c .u .st .left) (c .u .st .fresh))
-    sub-runs k = let b = sub-back k in call₂ .run (c .on .m) _ _ _ (b .run) (b .den) (sub-type k)
+    sub-runs k = let b = sub-back k in call₂ .run _ _ _ (b .run) (b .den) (sub-type k)
 
     pub sub-else₂ : NotDone y → Fires (c .on .m) (c .on .q) (c .on .w) w₂ (c .on .s) (c .on .g) (checkAsk (c .on .ex) (c .on .r)) y
     sub-else₂ nd = record { run = λ j k. otherwise _ _ (sub-way₂ k) (sub-runs k) nd }

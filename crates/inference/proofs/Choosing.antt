@@ -68,19 +68,19 @@ module _ {q w : List ℕ} {s : State} {g : Span} {ex : ℕ} (pre : RulePre q w s
 module _ {o : ℕ} where
   pub is-arith : o ≤ 4 → Operates o (false, 2048, 2048, 8)
   unfolding ruleNumber infBinOp infBoth when pick _orElse_
-  is-arith u = record { r = Syntax.InfArith; A = _; C = _; number = refl; side = int-den; gives = int-den; is = λ i judge Γ e e′. rw (le-leb o 4 u) refl }
+  is-arith u = record { r = Syntax.InfArith; A = _; C = _; number = refl; side = int-den; gives = int-den; is = λ i m judge Γ e e′. rw (le-leb o 4 u) refl }
 
   pub is-bool : 4 < o → o ≤ 6 → Operates o (false, 2049, 2049, 9)
   unfolding ruleNumber infBinOp infBoth when pick _orElse_
-  is-bool l u = record { r = Syntax.InfBool; A = _; C = _; number = refl; side = bool-den; gives = bool-den; is = λ i judge Γ e e′. rw (lt-leb o 4 l, le-leb o 6 u) refl }
+  is-bool l u = record { r = Syntax.InfBool; A = _; C = _; number = refl; side = bool-den; gives = bool-den; is = λ i m judge Γ e e′. rw (lt-leb o 4 l, le-leb o 6 u) refl }
 
   pub is-eq : 6 < o → o ≤ 8 → Operates o (true, 2048, 2049, 11)
   unfolding ruleNumber infBinOp infEq when pick _orElse_
-  is-eq l u = record { r = Syntax.InfEq; A = _; C = _; number = refl; side = int-den; gives = bool-den; is = λ i judge Γ e e′. let j : 4 < o = omega arith in rw (lt-leb o 4 j, lt-leb o 6 l, le-leb o 8 u) refl }
+  is-eq l u = record { r = Syntax.InfEq; A = _; C = _; number = refl; side = int-den; gives = bool-den; is = λ i m judge Γ e e′. let j : 4 < o = omega arith in rw (lt-leb o 4 j, lt-leb o 6 l, le-leb o 8 u) refl }
 
   pub is-cmp : (1 ≤ o → 8 < o) → Operates o (false, 2048, 2049, 10)
   unfolding ruleNumber infBinOp infBoth when pick _orElse_
-  is-cmp l = record { r = Syntax.InfCmp; A = _; C = _; number = refl; side = int-den; gives = bool-den; is = λ i judge Γ e e′. let h : 4 < o = omega (arith, l i) in let j : 6 < o = omega (arith, l i) in rw (lt-leb o 4 h, lt-leb o 6 j, lt-leb o 8 (l i)) refl }
+  is-cmp l = record { r = Syntax.InfCmp; A = _; C = _; number = refl; side = int-den; gives = bool-den; is = λ i m judge Γ e e′. let h : 4 < o = omega (arith, l i) in let j : 6 < o = omega (arith, l i) in rw (lt-leb o 4 h, lt-leb o 6 j, lt-leb o 8 (l i)) refl }
 
 -- ## check
 

@@ -14,10 +14,10 @@ use Rattle.layout.specs.declared.State.{State}
 use Rattle.layout.proofs.Places.{expr-code}
 use Rattle.layout.proofs.Denotes.{bool-den}
 use Rattle.judging.specs.declared.Answer.{Answer}
-use Rattle.judging.specs.declared.Mode.{Mode}
+use Rattle.judging.specs.declared.Here.{Here}
 use Rattle.judging.specs.declared.Step.{Step}
 use Rattle.judging.specs.declared.Step.the-variants.{Done}
-use Rattle.judging.specs.Asking.{mode, inferAsk, checkAsk}
+use Rattle.judging.specs.Asking.{here, inferAsk, checkAsk}
 use Rattle.judging.specs.Ending.{Judged, RunsJ, Fires}
 use Rattle.judging.proofs.Asking.{infer-asked}
 use Rattle.judging.proofs.Steps.{NotDone}
@@ -34,7 +34,7 @@ use Rattle.inference.proofs.Premise.{At, Premise, ask-infer, ask-check,
 
 -- it is asked, and the table has told where its branches stand; t is the cycle's measure
 pub record If (t : ℕ) : Type 0 where
-  pub m : Mode
+  pub m : Here
   pub q : List ℕ
   pub w : List ℕ
   pub s : State
@@ -102,12 +102,12 @@ module _ {t : ℕ} (i : If t) where
 
   pub if-way : {j : Judgement} (k : At (i .pre .rule) j)
       → Way (i .q) (i .w) (i .w) (i .s) (i .s) leaf (20 + 28 * i .g .n) (outcome (i .m) (i .s) j)
-      (judge (mode (i .m)) (check (infer-asked (i .ex) k .Γ) (ifs (i .pre) k .f) bool)
-      >>= λ r₁. judge (mode (i .m)) (infer (r₁ .1) (ifs (i .pre) k .d))
-      >>= λ r₂. judge (mode (i .m)) (infer (r₂ .1) (ifs (i .pre) k .d₂))
-      >>= λ r₃. branch (i .m .«applies_branches») (r₃ .1) (r₂ .0)
-      >>= λ A. branch (i .m .«applies_branches») (r₃ .1) (r₃ .0)
-      >>= λ B. judge (mode (i .m)) (subtype (r₃ .1) A B)
+      (judge (here (i .m)) (check (infer-asked (i .ex) k .Γ) (ifs (i .pre) k .f) bool)
+      >>= λ r₁. judge (here (i .m)) (infer (r₁ .1) (ifs (i .pre) k .d))
+      >>= λ r₂. judge (here (i .m)) (infer (r₂ .1) (ifs (i .pre) k .d₂))
+      >>= λ r₃. branch (i .m .manner .«applies_branches») (r₃ .1) (r₂ .0)
+      >>= λ A. branch (i .m .manner .«applies_branches») (r₃ .1) (r₃ .0)
+      >>= λ B. judge (here (i .m)) (subtype (r₃ .1) A B)
       >>= λ r₄. give (Syntax.InfIf, r₂ .0, r₄ .1, r₁ .2 & r₂ .2 & r₃ .2 & r₄ .2 & leaf))
   unfolding inferRule infIf
   if-way k = begin-infer (i .m) (i .pre .rule) (infer-asked (i .ex) k .is) (ifs (i .pre) k .is) refl
@@ -141,19 +141,19 @@ module _ {t : ℕ} (b : Both t) where
   if-two = let k = asked b .pre .rule .asks in let u = if-back₃ k in
       record { two = record { spare = _; room = u .way .room; A = _; B = _; left = u .stays (if-back₂ (b .on) k .den); right = u .den }; Γ = _; run = u .run }
 
-  module _ {w′ : List ℕ} {z : Step} (call : Related (asked b .m .«applies_branches») (asked b .q) (b .w) w′ (b .r .st) (b .r .g) (b .on .r .ty) (b .r .ty) z) where
+  module _ {w′ : List ℕ} {z : Step} (call : Related (asked b .m) (asked b .m .manner .«applies_branches») (asked b .q) (b .w) w′ (b .r .st) (b .r .g) (b .on .r .ty) (b .r .ty) z) where
     if-way₄ : {j : Judgement} (k : At (asked b .pre .rule) j)
         → Way (asked b .q) (asked b .w) (b .w) (asked b .s) (b .r .st) (if-back (b .on .on) k .t & if-back₂ (b .on) k .t & if-back₃ k .t & leaf)
         (4 * b .r .g .n + 4) (outcome (asked b .m) (asked b .s) j)
-        (relate (asked b .m) (asked b .m .«applies_branches») (if-back₃ k .Δ) (if-back₂ (b .on) k .C) (if-back₃ k .C)
+        (relate (asked b .m) (asked b .m .manner .«applies_branches») (if-back₃ k .Δ) (if-back₂ (b .on) k .C) (if-back₃ k .C)
         >>= λ r₄. give (Syntax.InfIf, if-back₂ (b .on) k .C, r₄ .1, if-back (b .on .on) k .t & if-back₂ (b .on) k .t & if-back₃ k .t & r₄ .2 & leaf))
     if-way₄ k = turn (if-back₃ k .way) (regroup _ _ _ _)
 
     if-runs : {j : Judgement} (k : At (asked b .pre .rule) j)
         → RunsJ (asked b .q) (b .w) w′ (b .r .st) z
-        (relate (asked b .m) (asked b .m .«applies_branches») (if-back₃ k .Δ) (if-back₂ (b .on) k .C) (if-back₃ k .C) (b .r .st .left) (b .r .st .fresh))
+        (relate (asked b .m) (asked b .m .manner .«applies_branches») (if-back₃ k .Δ) (if-back₂ (b .on) k .C) (if-back₃ k .C) (b .r .st .left) (b .r .st .fresh))
     if-runs k = let u = if-back₃ k in
-        call .run (asked b .m) (u .Δ) (if-back₂ (b .on) k .C) (u .C) (u .run) (u .stays (if-back₂ (b .on) k .den)) (u .den)
+        call .run (u .Δ) (if-back₂ (b .on) k .C) (u .C) (u .run) (u .stays (if-back₂ (b .on) k .den)) (u .den)
 
     pub if-else₄ : NotDone z → Fires (asked b .m) (asked b .q) (asked b .w) w′ (asked b .s) (asked b .g) (inferAsk (asked b .ex)) z
     if-else₄ nd = record { run = λ j k. otherwise _ _ (if-way₄ k) (if-runs k) nd }

@@ -11,11 +11,13 @@ use Rattle.definition.specs.Syntax.{etvar, arrow, forall, Judgement, infer, che
 use Rattle.definition.specs.Run.{_>>=_, andThen, give, fresh}
 use Rattle.definition.specs.Contexts.{kVar, kTVar, _▹_, solvedAndRight}
 use Rattle.definition.specs.Types.{apply}
-use Rattle.definition.specs.Rules.{judge, inferRule, infAnn, infLam, infTAbs, infTApp, instantiate}
+use Rattle.definition.specs.Rules.{_from_, judge, inferRule, infAnn, infLam, infTAbs, infTApp, instantiate}
 use Rattle.layout.specs.Names.{tm, ty}
-use Rattle.layout.specs.Denotes.{Den, written}
+use Rattle.layout.specs.Denotes.{Den, written, SmallEntry}
 use Rattle.layout.specs.declared.Span.{Span}
 use Rattle.layout.specs.declared.State.{State}
+use Rattle.layout.specs.declared.Entry.{Entry}
+use Rattle.layout.specs.declared.Key.the-variants.{TVar}
 use Rattle.layout.specs.declared.TmVar as tmvar
 use Rattle.layout.specs.declared.TyVar as tyvar
 use Rattle.layout.specs.declared.Made.{Made}
@@ -24,17 +26,17 @@ use Rattle.layout.proofs.Denotes.{run-frame}
 use Rattle.types.proofs.Held.{room-held}
 use Rattle.contexts.specs.Build.{Space, Pushed}
 use Rattle.contexts.specs.declared.Opened.{Opened}
-use Rattle.contexts.proofs.Build.{makes-tvar}
+use Rattle.judging.proofs.Entries.{entry-small, as-tvar}
 use Rattle.substitution.specs.Calls.{ApplyPre, Applied}
 use Rattle.judging.specs.declared.Answer.{Answer}
-use Rattle.judging.specs.declared.Mode.{Mode}
+use Rattle.judging.specs.declared.Here.{Here}
 use Rattle.judging.specs.declared.Step.{Step}
 use Rattle.judging.specs.declared.Step.the-variants.{Done, Spent}
-use Rattle.judging.specs.Asking.{mode, inferAsk, checkAsk}
+use Rattle.judging.specs.Asking.{here, EntryFrom, inferAsk, checkAsk}
 use Rattle.judging.specs.Ending.{Judged, Fires}
 use Rattle.judging.proofs.Asking.{infer-asked}
-use Rattle.steps.specs.Parting.{freshName}
-use Rattle.steps.proofs.Going.{room-space}
+use Rattle.layout.specs.States.{freshName}
+use Rattle.rules.proofs.Standing.{room-space}
 use Rattle.rules.specs.declared.Lam.{Lam}
 use Rattle.rules.specs.declared.Mid.{Mid}
 use Rattle.rules.specs.declared.Mid.the-variants.{On, End}
@@ -47,7 +49,7 @@ use Rattle.inference.proofs.Premise.{At, Premise, ask-infer, ask-check,
 
 -- ## InfAnn
 
-module _ (m : Mode) {q w : List ℕ} {s : State} {g : Span} {ex : ℕ} (pre : InferPre q w s g ex 21) where
+module _ (m : Here) {q w : List ℕ} {s : State} {g : Span} {ex : ℕ} (pre : InferPre q w s g ex 21) where
   pub ann : {j : Judgement} (k : At (pre .rule) j) → Typed Syntax.ann q ex (infer-asked ex k .e)
   ann k = shape pre k
 
@@ -57,7 +59,7 @@ module _ (m : Mode) {q w : List ℕ} {s : State} {g : Span} {ex : ℕ} (pre : In
 
     pub ann-way : {j : Judgement} (k : At (pre .rule) j)
         → Way q w w s s leaf (20 + 28 * g .n) (outcome m s j)
-        (judge (mode m) (check (infer-asked ex k .Γ) (ann k .f) (ann k .A)) >>= λ r. give (Syntax.InfAnn, ann k .A, r .1, r .2 & leaf))
+        (judge (here m) (check (infer-asked ex k .Γ) (ann k .f) (ann k .A)) >>= λ r. give (Syntax.InfAnn, ann k .A, r .1, r .2 & leaf))
     unfolding inferRule infAnn
     ann-way k = begin-infer m (pre .rule) (infer-asked ex k .is) (ann k .is) refl
 
@@ -76,7 +78,7 @@ module _ (m : Mode) {q w : List ℕ} {s : State} {g : Span} {ex : ℕ} (pre : In
 
 -- ## InfLam
 
-module _ (m : Mode) {q w : List ℕ} {s : State} {g : Span} {ex : ℕ} (pre : InferPre q w s g ex 18) where
+module _ (m : Here) {q w : List ℕ} {s : State} {g : Span} {ex : ℕ} (pre : InferPre q w s g ex 18) where
   pub lam : {j : Judgement} (k : At (pre .rule) j) → Abs q ex (infer-asked ex k .e)
   lam k = shape pre k
 
@@ -88,13 +90,13 @@ module _ (m : Mode) {q w : List ℕ} {s : State} {g : Span} {ex : ℕ} (pre : In
       record { room = pre .rule .room; names = pre .rule .names; below = infer-asked ex k .run .below; type = _; den = written (lam k .type) }
 
   module _ {x : tmvar.TmVar} {p : ℕ} (n : x .0 ≡ getD q (ex + 1) 0) (h : p ≡ getD w (16 + (ex + 2)) 0) {w₁ : List ℕ} {o : Lam}
-      (i : LamIn q w w₁ s g x (ex + 2) o) where
+      (i : LamIn m q w w₁ s g x (ex + 2) o) where
     abs-var : {j : Judgement} (k : At (pre .rule) j) → tm x ≡ lam k .x
     abs-var k = rw (n ∙ lam k .name .is) refl
 
     pub abs-way : {j : Judgement} (k : At (pre .rule) j)
         → Way q w w₁ s (o .st) leaf 0 (outcome m s j)
-        (judge (mode m) (check (infer-asked ex k .Γ ▹ varBnd (lam k .x) (lam k .A) ▹ etvarBnd (freshName (s .fresh))) (lam k .d) (etvar (freshName (s .fresh))))
+        (judge (here m) (check (infer-asked ex k .Γ ▹ varBnd (lam k .x) (lam k .A) from here m ▹ etvarBnd (freshName (s .fresh)) from here m) (lam k .d) (etvar (freshName (s .fresh))))
         >>= λ r. give (Syntax.InfLam, arrow (lam k .A) (etvar (freshName (s .fresh))), solvedAndRight (kVar (lam k .x)) (r .1), r .2 & leaf))
     unfolding inferRule infLam fresh _>>=_ andThen
     abs-way k =
@@ -122,29 +124,30 @@ module _ (m : Mode) {q w : List ℕ} {s : State} {g : Span} {ex : ℕ} (pre : In
 
 -- ## InfTAbs
 
-module _ (m : Mode) {q w : List ℕ} {s : State} {g : Span} {ex : ℕ} (pre : InferPre q w s g ex 20) where
+module _ (m : Here) {q w : List ℕ} {s : State} {g : Span} {ex : ℕ} (pre : InferPre q w s g ex 20) where
   pub tabs : {j : Judgement} (k : At (pre .rule) j) → TAbs q ex (infer-asked ex k .e)
   tabs k = shape pre k
 
   pub tabs-name : ex + 1 < length q
   tabs-name = tabs (pre .rule .asks) .name .within
 
-  pub tabs-space : Space w s g 1 × (2048 < 2 ^ 32)
-  tabs-space = (room-space (pre .rule .room) g 1 (infer-asked ex (pre .rule .asks) .run) (omega arith), omega arith)
+  pub tabs-space : {a : tyvar.TyVar} {n : Entry} → EntryFrom m (TVar a) 2048 n → Space w s g 1 × SmallEntry n
+  tabs-space en = (room-space (pre .rule .room) g 1 (infer-asked ex (pre .rule .asks) .run) (omega arith), entry-small en (omega arith))
 
-  module _ {a : tyvar.TyVar} (n : a .0 ≡ getD q (ex + 1) 0) {w₁ : List ℕ} {o : Opened} (i : Pushed w w₁ s g (kTVar (ty a)) 2048 o) where
+  module _ {a : tyvar.TyVar} (n : a .0 ≡ getD q (ex + 1) 0) {bound : Entry} (en : EntryFrom m (TVar a) 2048 bound) {w₁ : List ℕ} {o : Opened}
+      (i : Pushed w w₁ s g bound o) where
     tabs-var : {j : Judgement} (k : At (pre .rule) j) → ty a ≡ tabs k .a
     tabs-var k = rw (n ∙ tabs k .name .is) refl
 
     pub tabs-way : {j : Judgement} (k : At (pre .rule) j)
         → Way q w w₁ s (o .st) leaf 0 (outcome m s j)
-        (judge (mode m) (infer (infer-asked ex k .Γ ▹ tvarBnd (tabs k .a)) (tabs k .d))
+        (judge (here m) (infer (infer-asked ex k .Γ ▹ tvarBnd (tabs k .a) from here m) (tabs k .d))
         >>= λ r. apply (r .1) (r .0) >>= λ A. give (Syntax.InfTAbs, forall (tabs k .a) A, solvedAndRight (kTVar (tabs k .a)) (r .1), r .2 & leaf))
     unfolding inferRule infTAbs
     tabs-way k = grown (begin-infer m (pre .rule) (infer-asked ex k .is) (tabs k .is) refl) 0 (i .grown) (omega arith)
 
     pub tabs-asks : Premise m (pre .rule) _ _ (λ j k. tabs-way k) (o .g) (inferAsk (ex + 2))
-    tabs-asks = record { at = λ j k. ask-infer (rw (tabs-var k) at (i .run (infer-asked ex k .run) (makes-tvar (ty a) (pre .rule .room .base)))) (tabs k .body) }
+    tabs-asks = record { at = λ j k. ask-infer (rw (tabs-var k) at (i .run (infer-asked ex k .run) (as-tvar en (pre .rule .room .base)))) (tabs k .body) }
 
     module _ {w₂ : List ℕ} {z : Step} (call : Judged m q w₁ w₂ (o .st) (o .g) (inferAsk (ex + 2)) z) {r : Answer} (d : z ≡ Done r) where
       pub tabs-back : {j : Judgement} (k : At (pre .rule) j) → Returns tabs-asks call k r
@@ -178,13 +181,13 @@ module _ (m : Mode) {q w : List ℕ} {s : State} {g : Span} {ex : ℕ} (pre : In
 
 -- ## InfTApp
 
-module _ (m : Mode) {q w : List ℕ} {s : State} {g : Span} {ex : ℕ} (pre : InferPre q w s g ex 19) where
+module _ (m : Here) {q w : List ℕ} {s : State} {g : Span} {ex : ℕ} (pre : InferPre q w s g ex 19) where
   pub tapp : {j : Judgement} (k : At (pre .rule) j) → Typed Syntax.tapp q ex (infer-asked ex k .e)
   tapp k = shape pre k
 
   pub tapp-way : {j : Judgement} (k : At (pre .rule) j)
       → Way q w w s s leaf (20 + 28 * g .n) (outcome m s j)
-      (judge (mode m) (infer (infer-asked ex k .Γ) (tapp k .f)) >>= λ r. instantiate (tapp k .A) (r .0) >>= λ A. give (Syntax.InfTApp, A, r .1, r .2 & leaf))
+      (judge (here m) (infer (infer-asked ex k .Γ) (tapp k .f)) >>= λ r. instantiate (tapp k .A) (r .0) >>= λ A. give (Syntax.InfTApp, A, r .1, r .2 & leaf))
   unfolding inferRule infTApp
   tapp-way k = begin-infer m (pre .rule) (infer-asked ex k .is) (tapp k .is) refl
 

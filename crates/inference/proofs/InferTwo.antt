@@ -11,28 +11,30 @@ use Rattle.definition.specs.Syntax.{pick, Ty, Expr, Ctx, Judgement, infer, chec
 use Rattle.definition.specs.Run.{Out, M, _>>=_, give}
 use Rattle.definition.specs.Contexts.{kVar, _▹_, solvedAndRight}
 use Rattle.definition.specs.Types.{apply}
-use Rattle.definition.specs.Rules.{Fired, Result, judge, inferRule, infApp, infLet}
+use Rattle.definition.specs.Rules.{Fired, Result, _from_, judge, inferRule, infApp, infLet}
 use Rattle.layout.specs.Names.{tm}
 use Rattle.layout.specs.Places.{ExprAt}
-use Rattle.layout.specs.Denotes.{Den, Run}
+use Rattle.layout.specs.Denotes.{Den, Run, SmallEntry}
 use Rattle.layout.specs.declared.Span.{Span}
 use Rattle.layout.specs.declared.State.{State}
+use Rattle.layout.specs.declared.Entry.{Entry}
+use Rattle.layout.specs.declared.Key.the-variants.{Var}
 use Rattle.layout.specs.declared.TmVar as tmvar
 use Rattle.layout.specs.declared.Made.{Made}
 use Rattle.layout.specs.declared.Made.the-variants as made
 use Rattle.contexts.specs.Build.{Space, Pushed}
 use Rattle.contexts.specs.declared.Opened.{Opened}
-use Rattle.contexts.proofs.Build.{makes-var}
+use Rattle.judging.proofs.Entries.{entry-small, as-var}
 use Rattle.substitution.specs.Calls.{ApplyPre, Applied}
 use Rattle.judging.specs.declared.Answer.{Answer}
 use Rattle.judging.specs.declared.Ask.{Ask}
-use Rattle.judging.specs.declared.Mode.{Mode}
+use Rattle.judging.specs.declared.Here.{Here}
 use Rattle.judging.specs.declared.Step.{Step}
 use Rattle.judging.specs.declared.Step.the-variants.{Done, Spent}
-use Rattle.judging.specs.Asking.{mode, inferAsk, checkAsk, appAsk}
+use Rattle.judging.specs.Asking.{here, EntryFrom, inferAsk, checkAsk, appAsk}
 use Rattle.judging.specs.Ending.{Judged, Fires}
 use Rattle.judging.proofs.Asking.{infer-asked}
-use Rattle.steps.proofs.Going.{room-space, ref-small}
+use Rattle.rules.proofs.Standing.{room-space, ref-small}
 use Rattle.rules.specs.Taking.{InferPre}
 use Rattle.rules.specs.Going.{PlainOut, kept, KeepOut}
 use Rattle.rules.proofs.Forms.{App, Let, BinOp}
@@ -46,7 +48,7 @@ use Rattle.inference.proofs.Premise.{At, Asked, Premise, ask-infer, ask
 
 -- it is asked, at an expression of kind k; t is the cycle's measure
 pub record Begun (k t : ℕ) : Type 0 where
-  pub m : Mode
+  pub m : Here
   pub q : List ℕ
   pub w : List ℕ
   pub s : State
@@ -85,9 +87,11 @@ pub record Bound (t : ℕ) : Type 0 where
   pub on : First 24 2 t
   pub w : List ℕ
   pub x : tmvar.TmVar
+  pub e : Entry
   pub o : Opened
+  pub made : EntryFrom (on .on .on .m) (Var x) (on .r .ty) e
   pub name : x .0 ≡ getD (on .on .on .q) (on .on .on .ex + 1) 0
-  pub call : Pushed (on .w) w (on .r .st) (on .r .g) (kVar (tm x)) (on .r .ty) o
+  pub call : Pushed (on .w) w (on .r .st) (on .r .g) e o
 
 -- how the rule begins, and how it ends
 module _ {k t : ℕ} (i : Begun k t) where
@@ -104,8 +108,8 @@ module _ {t : ℕ} (i : Begun 17 t) where
   app k = shape (i .pre) k
 
   pub app-way : {j : Judgement} (k : At (i .pre .rule) j)
-      → Starts i j (judge (mode (i .m)) (infer (infer-asked (i .ex) k .Γ) (app k .f)) >>= λ r. apply (r .1) (r .0)
-      >>= λ A. judge (mode (i .m)) (inferApp (r .1) (app k .d) A) >>= λ u. give (Syntax.InfApp, u .0, u .1, r .2 & u .2 & leaf))
+      → Starts i j (judge (here (i .m)) (infer (infer-asked (i .ex) k .Γ) (app k .f)) >>= λ r. apply (r .1) (r .0)
+      >>= λ A. judge (here (i .m)) (inferApp (r .1) (app k .d) A) >>= λ u. give (Syntax.InfApp, u .0, u .1, r .2 & u .2 & leaf))
   unfolding inferRule infApp
   app-way k = begin-infer (i .m) (i .pre .rule) (infer-asked (i .ex) k .is) (app k .is) refl
 
@@ -155,8 +159,8 @@ module _ {t : ℕ} (i : Begun 24 t) where
   let-name = lets (i .pre .rule .asks) .name .within
 
   pub let-way : {j : Judgement} (k : At (i .pre .rule) j)
-      → Starts i j (judge (mode (i .m)) (infer (infer-asked (i .ex) k .Γ) (lets k .f))
-      >>= λ r. judge (mode (i .m)) (infer (r .1 ▹ varBnd (lets k .x) (r .0)) (lets k .d))
+      → Starts i j (judge (here (i .m)) (infer (infer-asked (i .ex) k .Γ) (lets k .f))
+      >>= λ r. judge (here (i .m)) (infer (r .1 ▹ varBnd (lets k .x) (r .0) from here (i .m)) (lets k .d))
       >>= λ u. give (Syntax.InfLet, u .0, solvedAndRight (kVar (lets k .x)) (u .1), r .2 & u .2 & leaf))
   unfolding inferRule infLet
   let-way k = begin-infer (i .m) (i .pre .rule) (infer-asked (i .ex) k .is) (lets k .is) refl
@@ -168,9 +172,9 @@ module _ {t : ℕ} (c : First 24 2 t) where
   pub let-back : {j : Judgement} (k : At (c .on .on .pre .rule) j) → Returns (let-asks (c .on .on)) (c .call) k (c .r)
   let-back k = returns (let-asks (c .on .on)) (c .call) (c .done) k
 
-  pub let-space : Space (c .w) (c .r .st) (c .r .g) 1 × (c .r .ty < 2 ^ 32)
-  let-space = let b = let-back (c .on .on .pre .rule .asks) in
-      (room-space (b .way .room) (c .r .g) 1 (b .run) (omega arith), ref-small (b .way .room) (b .den))
+  pub let-space : {x : tmvar.TmVar} {n : Entry} → EntryFrom (c .on .on .m) (Var x) (c .r .ty) n → Space (c .w) (c .r .st) (c .r .g) 1 × SmallEntry n
+  let-space en = let b = let-back (c .on .on .pre .rule .asks) in
+      (room-space (b .way .room) (c .r .g) 1 (b .run) (omega arith), entry-small en (ref-small (b .way .room) (b .den)))
 
 module _ {t : ℕ} (n : Bound t) where
   let-var : {j : Judgement} (k : At (n .on .on .on .pre .rule) j) → tm (n .x) ≡ lets (n .on .on .on) k .x
@@ -179,7 +183,7 @@ module _ {t : ℕ} (n : Bound t) where
   pub let-way₂ : {j : Judgement} (k : At (n .on .on .on .pre .rule) j)
       → let i = n .on .on .on in let b = let-back (n .on) k in let v = lets i k in
       Way (i .q) (i .w) (n .w) (i .s) (n .o .st) (b .t & leaf) 0 (outcome (i .m) (i .s) j)
-      (judge (mode (i .m)) (infer (b .Δ ▹ varBnd (v .x) (b .C)) (v .d))
+      (judge (here (i .m)) (infer (b .Δ ▹ varBnd (v .x) (b .C) from here (i .m)) (v .d))
       >>= λ u. give (Syntax.InfLet, u .0, solvedAndRight (kVar (v .x)) (u .1), b .t & u .2 & leaf))
   let-way₂ k = grown (let-back (n .on) k .way) 0 (n .call .grown) (omega arith)
 
@@ -187,7 +191,7 @@ module _ {t : ℕ} (n : Bound t) where
   let-asks₂ = record {
     at = λ j k.
         let i = n .on .on .on in let b = let-back (n .on) k in
-        ask-infer (rw (let-var k) at (n .call .run (b .run) (makes-var (tm (n .x)) (b .den))))
+        ask-infer (rw (let-var k) at (n .call .run (b .run) (as-var (n .made) (b .den))))
         (expr-next (i .pre .rule .room .base) (n .on .on .second) (lets i k .first) (lets i k .second));
   }
 
@@ -207,8 +211,8 @@ module _ {t : ℕ} (n : Bound t) where
 abbrev pub leftAsk : Bool → ℕ → ℕ → Ask
 leftAsk b e a = pick b (inferAsk e) (checkAsk e a)
 
-left-asks : (b : Bool) {m : Mode} {q w w₁ : List ℕ} {s s₁ : State} {ts : Trees} {n : ℕ} {R : Out Fired} {Γ : Ctx} {f : Expr} {A : Ty} {h : Result → M Fired} {e a : ℕ}
-    {y : Way q w w₁ s s₁ ts n R (judge (mode m) (pick b (infer Γ f) (check Γ f A)) >>= h)} {g : Span} → Run q w₁ (s₁ .top) (g .at) (g .n) Γ → ExprAt q e f
+left-asks : (b : Bool) {m : Here} {q w w₁ : List ℕ} {s s₁ : State} {ts : Trees} {n : ℕ} {R : Out Fired} {Γ : Ctx} {f : Expr} {A : Ty} {h : Result → M Fired} {e a : ℕ}
+    {y : Way q w w₁ s s₁ ts n R (judge (here m) (pick b (infer Γ f) (check Γ f A)) >>= h)} {g : Span} → Run q w₁ (s₁ .top) (g .at) (g .n) Γ → ExprAt q e f
     → Den q w₁ (s₁ .top) a A → Asked m (pick b (infer Γ f) (check Γ f A)) h y g (leftAsk b e a)
 unfolding pick
 left-asks true r x d = ask-infer r x
@@ -262,12 +266,12 @@ module _ {t : ℕ} (c : Operator t) where
 
   pub op-way : {j : Judgement} (k : At (c .on .on .pre .rule) j)
       → let i = c .on .on in
-      Starts i j (infSides (judge (mode (i .m))) (c .o .0) (c .by .r) (c .by .A) (c .by .C) (infer-asked (i .ex) k .Γ) (op i k .f) (op i k .d))
+      Starts i j (infSides (judge (here (i .m))) (c .o .0) (c .by .r) (c .by .A) (c .by .C) (infer-asked (i .ex) k .Γ) (op i k .f) (op i k .d))
   unfolding inferRule
   op-way k =
       let i = c .on .on in let v = op i k in let a = infer-asked (i .ex) k in
       let e : c .n ≡ v .o = c .name ∙ v .op .is in
-      begin-infer (i .m) (i .pre .rule) (a .is) (v .is) (rw (← e) (c .by .is (omega (arith, v .some)) (judge (mode (i .m))) (a .Γ) (v .f) (v .d)))
+      begin-infer (i .m) (i .pre .rule) (a .is) (v .is) (rw (← e) (c .by .is (omega (arith, v .some)) (here (i .m)) (judge (here (i .m))) (a .Γ) (v .f) (v .d)))
 
   pub op-asks : let i = c .on .on in Premise (i .m) (i .pre .rule) _ _ (λ j k. op-way k) (i .g) (leftAsk (c .o .0) (i .ex + 2) (c .o .1))
   op-asks = record { at = λ j k. left-asks (c .o .0) (infer-asked (c .on .on .ex) k .run) (op (c .on .on) k .first) op-side }

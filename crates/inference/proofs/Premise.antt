@@ -13,13 +13,13 @@ use Rattle.layout.specs.declared.State.{State}
 use Rattle.contexts.specs.Build.{Space}
 use Rattle.judging.specs.declared.Answer.{Answer}
 use Rattle.judging.specs.declared.Ask.{Ask}
-use Rattle.judging.specs.declared.Mode.{Mode}
+use Rattle.judging.specs.declared.Here.{Here}
 use Rattle.judging.specs.declared.Step.{Step}
 use Rattle.judging.specs.declared.Step.the-variants.{Done}
-use Rattle.judging.specs.Asking.{mode, Asks, as-infer, as-check, as-app, inferAsk, checkAsk, appAsk, JudgePre, RulePre}
+use Rattle.judging.specs.Asking.{here, Asks, as-infer, as-check, as-app, inferAsk, checkAsk, appAsk, JudgePre, RulePre}
 use Rattle.judging.specs.Ending.{Judged, Fires}
 use Rattle.judging.proofs.Steps.{NotDone}
-use Rattle.steps.proofs.Going.{room-space}
+use Rattle.rules.proofs.Standing.{room-space}
 use Rattle.rules.proofs.Ways.{Way, asks-infer, asks-check, asks-app, otherwise, Back, back}
 use Rattle.inference.proofs.Starting.{outcome}
 
@@ -28,33 +28,33 @@ abbrev pub At : {q w : List ℕ} {s : State} {g : Span} {a : Ask} → RulePre q 
 At {q} {w} {s} {g} {a} pre j = Asks q w (s .top) g a j
 
 -- on the way y the judgement i is asked, by the code as b
-pub record Asked (m : Mode) {q w w₁ : List ℕ} {s s₁ : State} {ts : Trees} {n : ℕ} {R : Out Fired} (i : Judgement) (f : Result → M Fired)
-    (y : Way q w w₁ s s₁ ts n R (judge (mode m) i >>= f)) (g : Span) (b : Ask) : Type 0 where
+pub record Asked (m : Here) {q w w₁ : List ℕ} {s s₁ : State} {ts : Trees} {n : ℕ} {R : Out Fired} (i : Judgement) (f : Result → M Fired)
+    (y : Way q w w₁ s s₁ ts n R (judge (here m) i >>= f)) (g : Span) (b : Ask) : Type 0 where
   pub asks : Asks q w₁ (s₁ .top) g b i
   pub pre : JudgePre q w₁ s₁ g b
 
-module _ {m : Mode} {q w w₁ : List ℕ} {s s₁ : State} {ts : Trees} {n : ℕ} {R : Out Fired} {Γ : Ctx} {e : Expr} {f : Result → M Fired} {g : Span} {p : ℕ} where
-  pub ask-infer : {y : Way q w w₁ s s₁ ts n R (judge (mode m) (infer Γ e) >>= f)} → Run q w₁ (s₁ .top) (g .at) (g .n) Γ → ExprAt q p e
+module _ {m : Here} {q w w₁ : List ℕ} {s s₁ : State} {ts : Trees} {n : ℕ} {R : Out Fired} {Γ : Ctx} {e : Expr} {f : Result → M Fired} {g : Span} {p : ℕ} where
+  pub ask-infer : {y : Way q w w₁ s s₁ ts n R (judge (here m) (infer Γ e) >>= f)} → Run q w₁ (s₁ .top) (g .at) (g .n) Γ → ExprAt q p e
       → Asked m (infer Γ e) f y g (inferAsk p)
   ask-infer {y} r x = let k : Asks q w₁ (s₁ .top) g (inferAsk p) (infer Γ e) = as-infer refl r x in record { asks = k; pre = asks-infer (y .room) k }
 
-  pub ask-check : {B : Ty} {t : ℕ} {y : Way q w w₁ s s₁ ts n R (judge (mode m) (check Γ e B) >>= f)} → Run q w₁ (s₁ .top) (g .at) (g .n) Γ → ExprAt q p e
+  pub ask-check : {B : Ty} {t : ℕ} {y : Way q w w₁ s s₁ ts n R (judge (here m) (check Γ e B) >>= f)} → Run q w₁ (s₁ .top) (g .at) (g .n) Γ → ExprAt q p e
       → Den q w₁ (s₁ .top) t B → Asked m (check Γ e B) f y g (checkAsk p t)
   ask-check {B} {t} {y} r x d = let k : Asks q w₁ (s₁ .top) g (checkAsk p t) (check Γ e B) = as-check refl r x d in record { asks = k; pre = asks-check (y .room) k }
 
-  pub ask-app : {A : Ty} {t : ℕ} {y : Way q w w₁ s s₁ ts n R (judge (mode m) (inferApp Γ e A) >>= f)} → Run q w₁ (s₁ .top) (g .at) (g .n) Γ → ExprAt q p e
+  pub ask-app : {A : Ty} {t : ℕ} {y : Way q w w₁ s s₁ ts n R (judge (here m) (inferApp Γ e A) >>= f)} → Run q w₁ (s₁ .top) (g .at) (g .n) Γ → ExprAt q p e
       → Den q w₁ (s₁ .top) t A → Asked m (inferApp Γ e A) f y g (appAsk t p)
   ask-app {A} {t} {y} r x d = let k : Asks q w₁ (s₁ .top) g (appAsk t p) (inferApp Γ e A) = as-app refl r x d in record { asks = k; pre = asks-app (y .room) k }
 
 -- the same for all judgements that the rule may be asked as
-pub record Premise (m : Mode) {q w w₁ : List ℕ} {s s₁ : State} {g : Span} {a : Ask} (rule : RulePre q w s g a) {n : ℕ} {ts : (j : Judgement) → At rule j → Trees}
+pub record Premise (m : Here) {q w w₁ : List ℕ} {s s₁ : State} {g : Span} {a : Ask} (rule : RulePre q w s g a) {n : ℕ} {ts : (j : Judgement) → At rule j → Trees}
     (i : (j : Judgement) → At rule j → Judgement) (f : (j : Judgement) → At rule j → Result → M Fired)
-    (y : (j : Judgement) (k : At rule j) → Way q w w₁ s s₁ (ts j k) n (outcome m s j) (judge (mode m) (i j k) >>= f j k)) (g₁ : Span) (b : Ask) : Type 0 where
+    (y : (j : Judgement) (k : At rule j) → Way q w w₁ s s₁ (ts j k) n (outcome m s j) (judge (here m) (i j k) >>= f j k)) (g₁ : Span) (b : Ask) : Type 0 where
   pub at : (j : Judgement) (k : At rule j) → Asked m (i j k) (f j k) (y j k) g₁ b
 
-module _ {m : Mode} {q w w₁ : List ℕ} {s s₁ : State} {g : Span} {a : Ask} {rule : RulePre q w s g a} {n : ℕ} {ts : (j : Judgement) → At rule j → Trees}
+module _ {m : Here} {q w w₁ : List ℕ} {s s₁ : State} {g : Span} {a : Ask} {rule : RulePre q w s g a} {n : ℕ} {ts : (j : Judgement) → At rule j → Trees}
     {i : (j : Judgement) → At rule j → Judgement} {f : (j : Judgement) → At rule j → Result → M Fired}
-    {y : (j : Judgement) (k : At rule j) → Way q w w₁ s s₁ (ts j k) n (outcome m s j) (judge (mode m) (i j k) >>= f j k)} {g₁ : Span} {b : Ask}
+    {y : (j : Judgement) (k : At rule j) → Way q w w₁ s s₁ (ts j k) n (outcome m s j) (judge (here m) (i j k) >>= f j k)} {g₁ : Span} {b : Ask}
     (p : Premise m rule i f y g₁ b) where
   -- it may be asked: less of the budget is left, so that the cycle's measure falls
   pub may-ask : {t : ℕ} → 3 * s .left + 1 ≡ t → (3 * s₁ .left < t) × JudgePre q w₁ s₁ g₁ b

@@ -15,12 +15,11 @@ use Rattle.layout.specs.declared.State.{State}
 use Rattle.layout.proofs.Denotes.{run-frame}
 use Rattle.substitution.specs.Passing.{Passed}
 use Rattle.substitution.proofs.Passing as sub
-use Rattle.judging.specs.declared.Mode.{Mode}
+use Rattle.judging.specs.declared.Here.{Here}
 use Rattle.judging.specs.declared.Step.{Step}
 use Rattle.judging.specs.Asking.{Asks, as-sub, subAsk, JudgePre}
-use Rattle.judging.specs.Ending.{EndsJ, landed, failed, ran-out, RunsJ}
+use Rattle.judging.specs.Ending.{EndsJ, landed, failed, ran-out, RunsJ, Judged}
 use Rattle.judging.proofs.Nodes.{nodes-at}
-use Rattle.steps.specs.Modes.{JudgedBoth}
 use Rattle.rules.specs.declared.Mid.{Mid}
 use Rattle.rules.specs.declared.Mid.the-variants.{On, End}
 use Rattle.rules.specs.Going.{Passes, fails, stops, TwoIn, Dens, applyBoth, AppliedBoth}
@@ -71,13 +70,13 @@ later p (failed f) = failed f
 later p ran-out = ran-out
 
 module _ {b : Bool} {q w w₁ : List ℕ} {s : State} {g : Span} {x y : ℕ} {v : Mid} (o : AppliedBoth b q w w₁ s g x y v) where
-  pub related-end : {z : Step} → v ≡ End z → Related b q w w₁ s g x y z
-  related-end {z} e = record { run = λ m Γ A B n d f. go m Γ A B refl (rw e at (o .passes Γ A B n d f)) }
+  pub related-end : {m : Here} {z : Step} → v ≡ End z → Related m b q w w₁ s g x y z
+  related-end {m} {z} e = record { run = λ Γ A B n d f. go Γ A B refl (rw e at (o .passes Γ A B n d f)) }
     where
-      go : (m : Mode) (Γ : Ctx) (A B : Ty) {O : Out (Ty × Ty)} {u : Step} → applyBoth b Γ A B (s .left) (s .fresh) ≡ O → Passes q w w₁ s (Dens q w₁) (End u) O
+      go : (Γ : Ctx) (A B : Ty) {O : Out (Ty × Ty)} {u : Step} → applyBoth b Γ A B (s .left) (s .fresh) ≡ O → Passes q w w₁ s (Dens q w₁) (End u) O
           → RunsJ q w w₁ s u (relate m b Γ A B (s .left) (s .fresh))
-      go m Γ A B i (fails kp h) = record { keep = kp; ends = rw (bind-fail (applyBoth b Γ A B) _ _ _ i) (failed h) }
-      go m Γ A B i (stops kp) = record { keep = kp; ends = rw (bind-stop (applyBoth b Γ A B) _ _ _ i) ran-out }
+      go Γ A B i (fails kp h) = record { keep = kp; ends = rw (bind-fail (applyBoth b Γ A B) _ _ _ i) (failed h) }
+      go Γ A B i (stops kp) = record { keep = kp; ends = rw (bind-stop (applyBoth b Γ A B) _ _ _ i) ran-out }
 
   module _ {s₁ : State} {c d : ℕ} (e : v ≡ On s₁ c d) where
     both : (Γ : Ctx) (A B : Ty) → Run q w (s .top) (g .at) (g .n) Γ → Den q w (s .top) x A → Den q w (s .top) y B
@@ -93,12 +92,12 @@ module _ {b : Bool} {q w w₁ : List ℕ} {s : State} {g : Span} {x y : ℕ} {v 
         let u = both (pre .Γ) (pre .two .A) (pre .two .B) (pre .run) (pre .two .left) (pre .two .right) in
         asks-sub (sub.room-on (u .passed) (pre .two .room)) (related-asks (pre .run) u)
 
-    pub related-done : {w₂ : List ℕ} {z : Step} → JudgedBoth q w₁ w₂ s₁ g (subAsk c d) z → Related b q w w₂ s g x y z
-    related-done {w₂} {z} call = record {
-      run = λ m Γ A B n h i.
+    pub related-done : {m : Here} {w₂ : List ℕ} {z : Step} → Judged m q w₁ w₂ s₁ g (subAsk c d) z → Related m b q w w₂ s g x y z
+    related-done {m} {w₂} {z} call = record {
+      run = λ Γ A B n h i.
           let u = both Γ A B n h i in
           let p = u .passed in
-          let k = call .in-mode m .run _ (related-asks n u) in
+          let k = call .run _ (related-asks n u) in
           let is : applyBoth b Γ A B (s .left) (s .fresh) ≡ done (u .x) (s₁ .left) (s₁ .fresh) = u .is ∙ ap (λ (f : ℕ). done (u .x) (s₁ .left) f) (sym (p .fresh)) in
           record { keep = sub.keep-on p (k .keep); ends = rw (bind-done (applyBoth b Γ A B) _ _ _ is) (later p (k .ends)) };
     }

@@ -14,8 +14,8 @@ use Rattle.layout.specs.declared.Span.{Span}
 use Rattle.layout.specs.declared.State.{State}
 use Rattle.layout.proofs.Places.{expr-code}
 use Rattle.judging.specs.declared.Ask.{Ask}
-use Rattle.judging.specs.declared.Mode.{Mode}
-use Rattle.judging.specs.Asking.{mode, Asks, inferAsk, checkAsk, RulePre}
+use Rattle.judging.specs.declared.Here.{Here}
+use Rattle.judging.specs.Asking.{here, Asks, inferAsk, checkAsk, RulePre}
 use Rattle.judging.proofs.Asking.{infer-asked, check-asked}
 use Rattle.rules.specs.Taking.{InferPre}
 use Rattle.rules.proofs.Forms.{Form, form}
@@ -25,21 +25,21 @@ use Rattle.rules.proofs.Ways.{Way, start}
 -- ## What is to be done
 
 -- what a rule comes to that starts in s
-abbrev pub outcome : Mode → State → Judgement → Out Fired
-outcome m s j = rule (mode m) (judge (mode m)) j (s .left) (s .fresh)
+abbrev pub outcome : Here → State → Judgement → Out Fired
+outcome m s j = rule (here m) (judge (here m)) j (s .left) (s .fresh)
 
-module _ (m : Mode) {q w : List ℕ} {s : State} {g : Span} {a : Ask} (pre : RulePre q w s g a) {j : Judgement} {Γ : Ctx} {e : Expr} where
-  pub begin-infer : {e′ : Expr} {K : M Fired} → j ≡ infer Γ e → e ≡ e′ → inferRule (mode m) (judge (mode m)) Γ e′ ≡ K
+module _ (m : Here) {q w : List ℕ} {s : State} {g : Span} {a : Ask} (pre : RulePre q w s g a) {j : Judgement} {Γ : Ctx} {e : Expr} where
+  pub begin-infer : {e′ : Expr} {K : M Fired} → j ≡ infer Γ e → e ≡ e′ → inferRule (here m) (judge (here m)) Γ e′ ≡ K
       → Way q w w s s leaf (20 + 28 * g .n) (outcome m s j) K
-  begin-infer p f i = start (pre .room) (infers (mode m) _ _ p f (rw i refl))
+  begin-infer p f i = start (pre .room) (infers (here m) _ _ p f (rw i refl))
 
-  pub begin-check : {e′ : Expr} {B B′ : Ty} {K : M Fired} → j ≡ check Γ e B → e ≡ e′ → B ≡ B′ → checkRule (mode m) (judge (mode m)) Γ e′ B′ ≡ K
+  pub begin-check : {e′ : Expr} {B B′ : Ty} {K : M Fired} → j ≡ check Γ e B → e ≡ e′ → B ≡ B′ → checkRule (here m) (judge (here m)) Γ e′ B′ ≡ K
       → Way q w w s s leaf (20 + 28 * g .n) (outcome m s j) K
-  begin-check p f h i = start (pre .room) (checks (mode m) _ _ p f h (rw i refl))
+  begin-check p f h i = start (pre .room) (checks (here m) _ _ p f h (rw i refl))
 
-  pub begin-app : {A A′ : Ty} {K : M Fired} → j ≡ inferApp Γ e A → A ≡ A′ → inferAppRule (judge (mode m)) Γ e A′ ≡ K
+  pub begin-app : {A A′ : Ty} {K : M Fired} → j ≡ inferApp Γ e A → A ≡ A′ → inferAppRule (here m) (judge (here m)) Γ e A′ ≡ K
       → Way q w w s s leaf (20 + 28 * g .n) (outcome m s j) K
-  begin-app p h i = start (pre .room) (applies (mode m) _ _ p h (rw i refl))
+  begin-app p h i = start (pre .room) (applies (here m) _ _ p h (rw i refl))
 
 -- ## Where parts stand
 

@@ -5,13 +5,14 @@ use mathlib.Core.List.{List}
 use Prim.Native.Nat.{ℕ, _≤_}
 use Rattle.definition.specs.Syntax.{pick, Ty, Expr, Ctx, infer, check, subtype, Rule, ruleNumber, leaf, _&_}
 use Rattle.definition.specs.Run.{M, _>>=_, give}
+use Rattle.definition.specs.Rules as rules
 use Rattle.definition.specs.Rules.{Fired, Result, Judge, infBinOp, judge}
 use Rattle.layout.specs.Denotes.{Base, Den, Run}
 use Rattle.layout.specs.declared.Span.{Span}
 use Rattle.layout.specs.declared.State.{State}
-use Rattle.judging.specs.declared.Mode.{Mode}
+use Rattle.judging.specs.declared.Here.{Here}
 use Rattle.judging.specs.declared.Step.{Step}
-use Rattle.judging.specs.Asking.{mode}
+use Rattle.judging.specs.Asking.{here}
 use Rattle.judging.specs.Ending.{RunsJ}
 use Rattle.rules.specs.Going.{applyBoth}
 use Rattle.inference.specs.declared.Sides.{Sides}
@@ -29,12 +30,12 @@ pub record Operates (k : ℕ) (o : Sides) : Type 0 where
   pub number : o .3 ≡ ruleNumber r
   pub side : {q w : List ℕ} {t : ℕ} → Base q w t → Den q w t (o .1) A
   pub gives : {q w : List ℕ} {t : ℕ} → Base q w t → Den q w t (o .2) C
-  pub is : 1 ≤ k → (judge : Judge) (Γ : Ctx) (e e′ : Expr) → infBinOp judge Γ k e e′ ≡ infSides judge (o .0) r A C Γ e e′
+  pub is : 1 ≤ k → (h : rules.Here) (judge : Judge) (Γ : Ctx) (e e′ : Expr) → infBinOp h judge Γ k e e′ ≡ infSides judge (o .0) r A C Γ e e′
 
 -- the context is applied to both types, where b says so, and then the first is below the second
-abbrev pub relate : Mode → Bool → Ctx → Ty → Ty → M Result
-relate m b Γ A B = applyBoth b Γ A B >>= λ T. judge (mode m) (subtype Γ (T .0) (T .1))
+abbrev pub relate : Here → Bool → Ctx → Ty → Ty → M Result
+relate h b Γ A B = applyBoth b Γ A B >>= λ T. judge (here h) (subtype Γ (T .0) (T .1))
 
-pub record Related (b : Bool) (q w w′ : List ℕ) (s : State) (g : Span) (x y : ℕ) (z : Step) : Type 0 where
-  pub run : (m : Mode) (Γ : Ctx) (A B : Ty) → Run q w (s .top) (g .at) (g .n) Γ → Den q w (s .top) x A → Den q w (s .top) y B
-      → RunsJ q w w′ s z (relate m b Γ A B (s .left) (s .fresh))
+pub record Related (h : Here) (b : Bool) (q w w′ : List ℕ) (s : State) (g : Span) (x y : ℕ) (z : Step) : Type 0 where
+  pub run : (Γ : Ctx) (A B : Ty) → Run q w (s .top) (g .at) (g .n) Γ → Den q w (s .top) x A → Den q w (s .top) y B
+      → RunsJ q w w′ s z (relate h b Γ A B (s .left) (s .fresh))

@@ -1,7 +1,7 @@
 // The judgements infer, check and infer_app and their rules, after 000: one cycle of calls, which ends because the budget left falls.
 use judging::Ask;
 use judging::Entered;
-use judging::Mode;
+use judging::Here;
 use judging::Step;
 use layout::BOOL;
 use layout::ENDS;
@@ -23,56 +23,52 @@ ghost use Rattle.inference.specs.Rules.{Operates, Related};
 // ---- infer
 
 // The type of an expression.
-pub fn infer(q: &[u32], work: &mut [u32], m: Mode, st: State, g: Span, ex: usize) -> Step
+pub fn infer(q: &[u32], work: &mut [u32], h: Here, st: State, g: Span, ex: usize) -> Step
     requires { ⌜ JudgePre (now q) (now work) st g (inferAsk ex) ⌝ }
-    ensures { λ z. ⌜ Judged m (now (q .entry)) (now (work .entry)) (now (work .exit)) st g (inferAsk ex) z ⌝ }
+    ensures { λ z. ⌜ Judged h (now (q .entry)) (now (work .entry)) (now (work .exit)) st g (inferAsk ex) z ⌝ }
 {
     let Entered::In(inner) = judging::enter(st, g) else {
         return Step::Spent;
     };
-    let z = inf_rule(q, work, m, inner, g, ex);
-    let Step::Done(r) = z else {
-        return z;
-    };
-    let node = inner.low;
+    let z = inf_rule(q, work, h, inner, g, ex);
     let ask = Ask {
         kind: 1,
         ex: ex,
         left: 0,
         right: 0,
     };
-    judging::leave(work, node, g, ask, r)
+    judging::leave(work, st, g, ask, z)
 }
 
 // The rule for the expression's form, as 000's infer matches.
-fn inf_rule(q: &[u32], work: &mut [u32], m: Mode, st: State, g: Span, ex: usize) -> Step
+fn inf_rule(q: &[u32], work: &mut [u32], h: Here, st: State, g: Span, ex: usize) -> Step
     requires { ⌜ RulePre (now q) (now work) st g (inferAsk ex) ⌝ }
-    ensures { λ z. ⌜ Fires m (now (q .entry)) (now (work .entry)) (now (work .exit)) st g (inferAsk ex) z ⌝ }
+    ensures { λ z. ⌜ Fires h (now (q .entry)) (now (work .entry)) (now (work .exit)) st g (inferAsk ex) z ⌝ }
 {
     let k = word(q, ex);
     match k {
-        16 => rules::infer_var(q, work, st, g, ex),
-        21 => infer_ann(q, work, m, st, g, ex),
-        22 => rules::infer_lit_int(q, work, st, g, ex),
-        23 => rules::infer_lit_bool(q, work, st, g, ex),
-        18 => infer_abs(q, work, m, st, g, ex),
-        17 => infer_application(q, work, m, st, g, ex),
-        20 => infer_tabs(q, work, m, st, g, ex),
-        19 => infer_tapp(q, work, m, st, g, ex),
-        24 => infer_let(q, work, m, st, g, ex),
-        25 => infer_if(q, work, m, st, g, ex),
-        _ => infer_binop(q, work, m, st, g, ex),
+        16 => rules::infer_var(q, work, h, st, g, ex),
+        21 => infer_ann(q, work, h, st, g, ex),
+        22 => rules::infer_lit_int(q, work, h, st, g, ex),
+        23 => rules::infer_lit_bool(q, work, h, st, g, ex),
+        18 => infer_abs(q, work, h, st, g, ex),
+        17 => infer_application(q, work, h, st, g, ex),
+        20 => infer_tabs(q, work, h, st, g, ex),
+        19 => infer_tapp(q, work, h, st, g, ex),
+        24 => infer_let(q, work, h, st, g, ex),
+        25 => infer_if(q, work, h, st, g, ex),
+        _ => infer_binop(q, work, h, st, g, ex),
     }
 }
 
 // InfAnn: the expression is checked against the written type.
-fn infer_ann(q: &[u32], work: &mut [u32], m: Mode, st: State, g: Span, ex: usize) -> Step
+fn infer_ann(q: &[u32], work: &mut [u32], h: Here, st: State, g: Span, ex: usize) -> Step
     requires { ⌜ InferPre (now q) (now work) st g ex 21 ⌝ }
-    ensures { λ z. ⌜ Fires m (now (q .entry)) (now (work .entry)) (now (work .exit)) st g (inferAsk ex) z ⌝ }
+    ensures { λ z. ⌜ Fires h (now (q .entry)) (now (work .entry)) (now (work .exit)) st g (inferAsk ex) z ⌝ }
 {
     let e = ex + 1;
     let a = word(work, ENDS + e);
-    let z = check(q, work, m, st, g, e, a);
+    let z = check(q, work, h, st, g, e, a);
     let Step::Done(r) = z else {
         return z;
     };
@@ -82,21 +78,21 @@ fn infer_ann(q: &[u32], work: &mut [u32], m: Mode, st: State, g: Span, ex: usize
 }
 
 // InfLam: the body is checked against a fresh unknown; solved entries of left, then right.
-fn infer_abs(q: &[u32], work: &mut [u32], m: Mode, st: State, g: Span, ex: usize) -> Step
+fn infer_abs(q: &[u32], work: &mut [u32], h: Here, st: State, g: Span, ex: usize) -> Step
     requires { ⌜ InferPre (now q) (now work) st g ex 18 ⌝ }
-    ensures { λ z. ⌜ Fires m (now (q .entry)) (now (work .entry)) (now (work .exit)) st g (inferAsk ex) z ⌝ }
+    ensures { λ z. ⌜ Fires h (now (q .entry)) (now (work .entry)) (now (work .exit)) st g (inferAsk ex) z ⌝ }
 {
     let at = ex + 1;
     let a = ex + 2;
     let name = q[at];
     let x = TmVar(name);
     let body = word(work, ENDS + a);
-    let o = rules::lam_in(q, work, st, g, x, a);
+    let o = rules::lam_in(q, work, h, st, g, x, a);
     let st1 = o.st;
     let g1 = o.g;
     let b = o.b;
     let ty = o.ty;
-    let z = check(q, work, m, st1, g1, body, b);
+    let z = check(q, work, h, st1, g1, body, b);
     let Step::Done(r) = z else {
         return z;
     };
@@ -104,13 +100,13 @@ fn infer_abs(q: &[u32], work: &mut [u32], m: Mode, st: State, g: Span, ex: usize
 }
 
 // InfApp: the function's type, with the context applied, takes the argument.
-fn infer_application(q: &[u32], work: &mut [u32], m: Mode, st: State, g: Span, ex: usize) -> Step
+fn infer_application(q: &[u32], work: &mut [u32], h: Here, st: State, g: Span, ex: usize) -> Step
     requires { ⌜ InferPre (now q) (now work) st g ex 17 ⌝ }
-    ensures { λ z. ⌜ Fires m (now (q .entry)) (now (work .entry)) (now (work .exit)) st g (inferAsk ex) z ⌝ }
+    ensures { λ z. ⌜ Fires h (now (q .entry)) (now (work .entry)) (now (work .exit)) st g (inferAsk ex) z ⌝ }
 {
     let e = ex + 1;
     let d = word(work, ENDS + e);
-    let z = infer(q, work, m, st, g, e);
+    let z = infer(q, work, h, st, g, e);
     let Step::Done(r) = z else {
         return z;
     };
@@ -120,7 +116,7 @@ fn infer_application(q: &[u32], work: &mut [u32], m: Mode, st: State, g: Span, e
     let Made::Done(st2, a2) = substitution::apply_ctx_type(q, work, st1, g1, a) else {
         return Step::Spent;
     };
-    let y = infer_app(q, work, m, st2, g1, a2, d);
+    let y = infer_app(q, work, h, st2, g1, a2, d);
     let Step::Done(u) = y else {
         return y;
     };
@@ -131,18 +127,19 @@ fn infer_application(q: &[u32], work: &mut [u32], m: Mode, st: State, g: Span, e
 }
 
 // InfTAbs: the body is inferred under the name; solved entries of left, then right.
-fn infer_tabs(q: &[u32], work: &mut [u32], m: Mode, st: State, g: Span, ex: usize) -> Step
+fn infer_tabs(q: &[u32], work: &mut [u32], h: Here, st: State, g: Span, ex: usize) -> Step
     requires { ⌜ InferPre (now q) (now work) st g ex 20 ⌝ }
-    ensures { λ z. ⌜ Fires m (now (q .entry)) (now (work .entry)) (now (work .exit)) st g (inferAsk ex) z ⌝ }
+    ensures { λ z. ⌜ Fires h (now (q .entry)) (now (work .entry)) (now (work .exit)) st g (inferAsk ex) z ⌝ }
 {
     let at = ex + 1;
     let body = ex + 2;
     let name = q[at];
     let a = TyVar(name);
-    let o = contexts::push(work, st, g, Key::TVar(a), INT);
+    let e = judging::entry(h, Key::TVar(a), INT);
+    let o = contexts::push(work, st, g, e);
     let st1 = o.st;
     let g1 = o.g;
-    let z = infer(q, work, m, st1, g1, body);
+    let z = infer(q, work, h, st1, g1, body);
     let Step::Done(r) = z else {
         return z;
     };
@@ -156,13 +153,13 @@ fn infer_tabs(q: &[u32], work: &mut [u32], m: Mode, st: State, g: Span, ex: usiz
 }
 
 // InfTApp: the written type for the name that the Forall binds.
-fn infer_tapp(q: &[u32], work: &mut [u32], m: Mode, st: State, g: Span, ex: usize) -> Step
+fn infer_tapp(q: &[u32], work: &mut [u32], h: Here, st: State, g: Span, ex: usize) -> Step
     requires { ⌜ InferPre (now q) (now work) st g ex 19 ⌝ }
-    ensures { λ z. ⌜ Fires m (now (q .entry)) (now (work .entry)) (now (work .exit)) st g (inferAsk ex) z ⌝ }
+    ensures { λ z. ⌜ Fires h (now (q .entry)) (now (work .entry)) (now (work .exit)) st g (inferAsk ex) z ⌝ }
 {
     let e = ex + 1;
     let b = word(work, ENDS + e);
-    let z = infer(q, work, m, st, g, e);
+    let z = infer(q, work, h, st, g, e);
     let Step::Done(r) = z else {
         return z;
     };
@@ -177,26 +174,27 @@ fn infer_tapp(q: &[u32], work: &mut [u32], m: Mode, st: State, g: Span, ex: usiz
 }
 
 // InfLet: the body is inferred under the name with the first expression's type; solved entries of left, then right.
-fn infer_let(q: &[u32], work: &mut [u32], m: Mode, st: State, g: Span, ex: usize) -> Step
+fn infer_let(q: &[u32], work: &mut [u32], h: Here, st: State, g: Span, ex: usize) -> Step
     requires { ⌜ InferPre (now q) (now work) st g ex 24 ⌝ }
-    ensures { λ z. ⌜ Fires m (now (q .entry)) (now (work .entry)) (now (work .exit)) st g (inferAsk ex) z ⌝ }
+    ensures { λ z. ⌜ Fires h (now (q .entry)) (now (work .entry)) (now (work .exit)) st g (inferAsk ex) z ⌝ }
 {
     let at = ex + 1;
     let e = ex + 2;
     let name = q[at];
     let x = TmVar(name);
     let d = word(work, ENDS + e);
-    let z = infer(q, work, m, st, g, e);
+    let z = infer(q, work, h, st, g, e);
     let Step::Done(r) = z else {
         return z;
     };
     let st1 = r.st;
     let g1 = r.g;
     let a = r.ty;
-    let o = contexts::push(work, st1, g1, Key::Var(x), a);
+    let n = judging::entry(h, Key::Var(x), a);
+    let o = contexts::push(work, st1, g1, n);
     let st2 = o.st;
     let g2 = o.g;
-    let y = infer(q, work, m, st2, g2, d);
+    let y = infer(q, work, h, st2, g2, d);
     let Step::Done(u) = y else {
         return y;
     };
@@ -205,35 +203,35 @@ fn infer_let(q: &[u32], work: &mut [u32], m: Mode, st: State, g: Span, ex: usize
 }
 
 // InfIf: a Bool, two branches, the first's type below the second's; strict mode applies the context to both before.
-fn infer_if(q: &[u32], work: &mut [u32], m: Mode, st: State, g: Span, ex: usize) -> Step
+fn infer_if(q: &[u32], work: &mut [u32], h: Here, st: State, g: Span, ex: usize) -> Step
     requires { ⌜ InferPre (now q) (now work) st g ex 25 ⌝ }
-    ensures { λ z. ⌜ Fires m (now (q .entry)) (now (work .entry)) (now (work .exit)) st g (inferAsk ex) z ⌝ }
+    ensures { λ z. ⌜ Fires h (now (q .entry)) (now (work .entry)) (now (work .exit)) st g (inferAsk ex) z ⌝ }
 {
     let e = ex + 1;
     let d = word(work, ENDS + e);
     let f = word(work, ENDS + d);
-    let z = check(q, work, m, st, g, e, BOOL);
+    let z = check(q, work, h, st, g, e, BOOL);
     let Step::Done(r) = z else {
         return z;
     };
     let st1 = r.st;
     let g1 = r.g;
-    let y = infer(q, work, m, st1, g1, d);
+    let y = infer(q, work, h, st1, g1, d);
     let Step::Done(u) = y else {
         return y;
     };
     let st2 = u.st;
     let g2 = u.g;
     let a = u.ty;
-    let x = infer(q, work, m, st2, g2, f);
+    let x = infer(q, work, h, st2, g2, f);
     let Step::Done(v) = x else {
         return x;
     };
     let st3 = v.st;
     let g3 = v.g;
     let b = v.ty;
-    let applies = m.applies_branches;
-    let t = subtype_applied(q, work, applies, st3, g3, a, b);
+    let manner = h.manner;
+    let t = subtype_applied(q, work, h, manner.applies_branches, st3, g3, a, b);
     let Step::Done(o) = t else {
         return t;
     };
@@ -258,9 +256,9 @@ fn operator(op: usize) -> Sides
 }
 
 // The operator's rule: the left side is inferred or checked, then the right side is checked against the same type.
-fn infer_binop(q: &[u32], work: &mut [u32], m: Mode, st: State, g: Span, ex: usize) -> Step
+fn infer_binop(q: &[u32], work: &mut [u32], h: Here, st: State, g: Span, ex: usize) -> Step
     requires { ⌜ InferPre (now q) (now work) st g ex 26 ⌝ }
-    ensures { λ z. ⌜ Fires m (now (q .entry)) (now (work .entry)) (now (work .exit)) st g (inferAsk ex) z ⌝ }
+    ensures { λ z. ⌜ Fires h (now (q .entry)) (now (work .entry)) (now (work .exit)) st g (inferAsk ex) z ⌝ }
 {
     let at = ex + 1;
     let e = ex + 2;
@@ -268,9 +266,9 @@ fn infer_binop(q: &[u32], work: &mut [u32], m: Mode, st: State, g: Span, ex: usi
     let d = word(work, ENDS + e);
     let Sides(infers, a, c, rule) = operator(k);
     let z = if infers {
-        infer(q, work, m, st, g, e)
+        infer(q, work, h, st, g, e)
     } else {
-        check(q, work, m, st, g, e, a)
+        check(q, work, h, st, g, e, a)
     };
     let Step::Done(r) = z else {
         return z;
@@ -278,7 +276,7 @@ fn infer_binop(q: &[u32], work: &mut [u32], m: Mode, st: State, g: Span, ex: usi
     let st1 = r.st;
     let g1 = r.g;
     let b = if infers { r.ty } else { a };
-    let y = check(q, work, m, st1, g1, d, b);
+    let y = check(q, work, h, st1, g1, d, b);
     let Step::Done(u) = y else {
         return y;
     };
@@ -290,48 +288,44 @@ fn infer_binop(q: &[u32], work: &mut [u32], m: Mode, st: State, g: Span, ex: usi
 // ---- check
 
 // Whether an expression has a type.
-pub fn check(q: &[u32], work: &mut [u32], m: Mode, st: State, g: Span, ex: usize, ty: usize) -> Step
+pub fn check(q: &[u32], work: &mut [u32], h: Here, st: State, g: Span, ex: usize, ty: usize) -> Step
     requires { ⌜ JudgePre (now q) (now work) st g (checkAsk ex ty) ⌝ }
-    ensures { λ z. ⌜ Judged m (now (q .entry)) (now (work .entry)) (now (work .exit)) st g (checkAsk ex ty) z ⌝ }
+    ensures { λ z. ⌜ Judged h (now (q .entry)) (now (work .entry)) (now (work .exit)) st g (checkAsk ex ty) z ⌝ }
 {
     let Entered::In(inner) = judging::enter(st, g) else {
         return Step::Spent;
     };
-    let z = chk_rule(q, work, m, inner, g, ex, ty);
-    let Step::Done(r) = z else {
-        return z;
-    };
-    let node = inner.low;
+    let z = chk_rule(q, work, h, inner, g, ex, ty);
     let ask = Ask {
         kind: 2,
         ex: ex,
         left: 0,
         right: ty,
     };
-    judging::leave(work, node, g, ask, r)
+    judging::leave(work, st, g, ask, z)
 }
 
 // The first arm of 000's check that fits.
-fn chk_rule(q: &[u32], work: &mut [u32], m: Mode, st: State, g: Span, ex: usize, ty: usize) -> Step
+fn chk_rule(q: &[u32], work: &mut [u32], h: Here, st: State, g: Span, ex: usize, ty: usize) -> Step
     requires { ⌜ RulePre (now q) (now work) st g (checkAsk ex ty) ⌝ }
-    ensures { λ z. ⌜ Fires m (now (q .entry)) (now (work .entry)) (now (work .exit)) st g (checkAsk ex ty) z ⌝ }
+    ensures { λ z. ⌜ Fires h (now (q .entry)) (now (work .entry)) (now (work .exit)) st g (checkAsk ex ty) z ⌝ }
 {
     let top = st.top;
     let k = word(q, ex);
     let c = types::tag(q, work, top, ty);
     let rule = rules::check_choice(k, c);
     match rule {
-        17..=18 => rules::check_lit(q, work, st, g, ex, ty, rule),
-        19 => chk_lam(q, work, m, st, g, ex, ty),
-        20 => chk_all(q, work, m, st, g, ex, ty),
-        _ => chk_sub(q, work, m, st, g, ex, ty),
+        17..=18 => rules::check_lit(q, work, h, st, g, ex, ty, rule),
+        19 => chk_lam(q, work, h, st, g, ex, ty),
+        20 => chk_all(q, work, h, st, g, ex, ty),
+        _ => chk_sub(q, work, h, st, g, ex, ty),
     }
 }
 
 // ChkLam: the body under the expected parameter, which strict mode compares first; right alone.
-fn chk_lam(q: &[u32], work: &mut [u32], m: Mode, st: State, g: Span, ex: usize, ty: usize) -> Step
+fn chk_lam(q: &[u32], work: &mut [u32], h: Here, st: State, g: Span, ex: usize, ty: usize) -> Step
     requires { ⌜ CheckPre (now q) (now work) st g ex ty 19 ⌝ }
-    ensures { λ z. ⌜ Fires m (now (q .entry)) (now (work .entry)) (now (work .exit)) st g (checkAsk ex ty) z ⌝ }
+    ensures { λ z. ⌜ Fires h (now (q .entry)) (now (work .entry)) (now (work .exit)) st g (checkAsk ex ty) z ⌝ }
 {
     let top = st.top;
     let at = ex + 1;
@@ -341,13 +335,14 @@ fn chk_lam(q: &[u32], work: &mut [u32], m: Mode, st: State, g: Span, ex: usize, 
     let body = word(work, ENDS + a);
     let p = types::left_of(q, work, top, ty);
     let c = types::right_of(q, work, top, ty);
-    let mid = rules::parameter(q, work, m, st, g, a, p);
+    let mid = rules::parameter(q, work, h, st, g, a, p);
     match mid {
         Mid::On(st1, _, _) => {
-            let o = contexts::push(work, st1, g, Key::Var(x), p);
+            let e = judging::entry(h, Key::Var(x), p);
+            let o = contexts::push(work, st1, g, e);
             let st2 = o.st;
             let g2 = o.g;
-            let z = check(q, work, m, st2, g2, body, c);
+            let z = check(q, work, h, st2, g2, body, c);
             let Step::Done(r) = z else {
                 return z;
             };
@@ -358,16 +353,16 @@ fn chk_lam(q: &[u32], work: &mut [u32], m: Mode, st: State, g: Span, ex: usize, 
 }
 
 // ChkAll: under the name that the Forall binds; right alone.
-fn chk_all(q: &[u32], work: &mut [u32], m: Mode, st: State, g: Span, ex: usize, ty: usize) -> Step
+fn chk_all(q: &[u32], work: &mut [u32], h: Here, st: State, g: Span, ex: usize, ty: usize) -> Step
     requires { ⌜ CheckPre (now q) (now work) st g ex ty 20 ⌝ }
-    ensures { λ z. ⌜ Fires m (now (q .entry)) (now (work .entry)) (now (work .exit)) st g (checkAsk ex ty) z ⌝ }
+    ensures { λ z. ⌜ Fires h (now (q .entry)) (now (work .entry)) (now (work .exit)) st g (checkAsk ex ty) z ⌝ }
 {
-    let o = steps::open_right(q, work, st, g, ty);
+    let o = rules::open_right(q, work, h, st, g, ty);
     let st1 = o.st;
     let g1 = o.g;
     let b = o.b;
     let t = o.ty;
-    let z = check(q, work, m, st1, g1, ex, t);
+    let z = check(q, work, h, st1, g1, ex, t);
     let Step::Done(r) = z else {
         return z;
     };
@@ -375,18 +370,18 @@ fn chk_all(q: &[u32], work: &mut [u32], m: Mode, st: State, g: Span, ex: usize, 
 }
 
 // ChkSub: the inferred type below the expected one, both with the context applied.
-fn chk_sub(q: &[u32], work: &mut [u32], m: Mode, st: State, g: Span, ex: usize, ty: usize) -> Step
+fn chk_sub(q: &[u32], work: &mut [u32], h: Here, st: State, g: Span, ex: usize, ty: usize) -> Step
     requires { ⌜ CheckPre (now q) (now work) st g ex ty 21 ⌝ }
-    ensures { λ z. ⌜ Fires m (now (q .entry)) (now (work .entry)) (now (work .exit)) st g (checkAsk ex ty) z ⌝ }
+    ensures { λ z. ⌜ Fires h (now (q .entry)) (now (work .entry)) (now (work .exit)) st g (checkAsk ex ty) z ⌝ }
 {
-    let z = infer(q, work, m, st, g, ex);
+    let z = infer(q, work, h, st, g, ex);
     let Step::Done(r) = z else {
         return z;
     };
     let st1 = r.st;
     let g1 = r.g;
     let a = r.ty;
-    let y = subtype_applied(q, work, true, st1, g1, a, ty);
+    let y = subtype_applied(q, work, h, true, st1, g1, a, ty);
     let Step::Done(u) = y else {
         return y;
     };
@@ -399,6 +394,7 @@ fn chk_sub(q: &[u32], work: &mut [u32], m: Mode, st: State, g: Span, ex: usize, 
 fn subtype_applied(
     q: &[u32],
     work: &mut [u32],
+    h: Here,
     applies: bool,
     st: State,
     g: Span,
@@ -406,11 +402,11 @@ fn subtype_applied(
     b: usize,
 ) -> Step
     requires { ⌜ TwoIn (now q) (now work) st g a b ⌝ }
-    ensures { λ z. ⌜ Related applies (now (q .entry)) (now (work .entry)) (now (work .exit)) st g a b z ⌝ }
+    ensures { λ z. ⌜ Related h applies (now (q .entry)) (now (work .entry)) (now (work .exit)) st g a b z ⌝ }
 {
     let mid = rules::apply_both(q, work, applies, st, g, a, b);
     match mid {
-        Mid::On(st1, a1, b1) => subtyping::subtype(q, work, st1, g, a1, b1),
+        Mid::On(st1, a1, b1) => subtyping::subtype(q, work, h, st1, g, a1, b1),
         Mid::End(z) => z,
     }
 }
@@ -421,55 +417,51 @@ fn subtype_applied(
 pub fn infer_app(
     q: &[u32],
     work: &mut [u32],
-    m: Mode,
+    h: Here,
     st: State,
     g: Span,
     ty: usize,
     ex: usize,
 ) -> Step
     requires { ⌜ JudgePre (now q) (now work) st g (appAsk ty ex) ⌝ }
-    ensures { λ z. ⌜ Judged m (now (q .entry)) (now (work .entry)) (now (work .exit)) st g (appAsk ty ex) z ⌝ }
+    ensures { λ z. ⌜ Judged h (now (q .entry)) (now (work .entry)) (now (work .exit)) st g (appAsk ty ex) z ⌝ }
 {
     let Entered::In(inner) = judging::enter(st, g) else {
         return Step::Spent;
     };
-    let z = app_rule(q, work, m, inner, g, ty, ex);
-    let Step::Done(r) = z else {
-        return z;
-    };
-    let node = inner.low;
+    let z = app_rule(q, work, h, inner, g, ty, ex);
     let ask = Ask {
         kind: 3,
         ex: ex,
         left: ty,
         right: 0,
     };
-    judging::leave(work, node, g, ask, r)
+    judging::leave(work, st, g, ask, z)
 }
 
 // The rule for the form of the function's type.
-fn app_rule(q: &[u32], work: &mut [u32], m: Mode, st: State, g: Span, ty: usize, ex: usize) -> Step
+fn app_rule(q: &[u32], work: &mut [u32], h: Here, st: State, g: Span, ty: usize, ex: usize) -> Step
     requires { ⌜ RulePre (now q) (now work) st g (appAsk ty ex) ⌝ }
-    ensures { λ z. ⌜ Fires m (now (q .entry)) (now (work .entry)) (now (work .exit)) st g (appAsk ty ex) z ⌝ }
+    ensures { λ z. ⌜ Fires h (now (q .entry)) (now (work .entry)) (now (work .exit)) st g (appAsk ty ex) z ⌝ }
 {
     let top = st.top;
     let k = types::tag(q, work, top, ty);
     match k {
-        5 => app_arr(q, work, m, st, g, ty, ex),
-        4 => app_etvar(q, work, m, st, g, ty, ex),
-        _ => rules::refuse_app(q, work, st, g, ty, ex),
+        5 => app_arr(q, work, h, st, g, ty, ex),
+        4 => app_etvar(q, work, h, st, g, ty, ex),
+        _ => rules::refuse_app(q, work, h, st, g, ty, ex),
     }
 }
 
 // InfAppArr: the argument is checked against what the Arrow takes.
-fn app_arr(q: &[u32], work: &mut [u32], m: Mode, st: State, g: Span, ty: usize, ex: usize) -> Step
+fn app_arr(q: &[u32], work: &mut [u32], h: Here, st: State, g: Span, ty: usize, ex: usize) -> Step
     requires { ⌜ AppPre (now q) (now work) st g ty ex 5 ⌝ }
-    ensures { λ z. ⌜ Fires m (now (q .entry)) (now (work .entry)) (now (work .exit)) st g (appAsk ty ex) z ⌝ }
+    ensures { λ z. ⌜ Fires h (now (q .entry)) (now (work .entry)) (now (work .exit)) st g (appAsk ty ex) z ⌝ }
 {
     let top = st.top;
     let a = types::left_of(q, work, top, ty);
     let c = types::right_of(q, work, top, ty);
-    let z = check(q, work, m, st, g, ex, a);
+    let z = check(q, work, h, st, g, ex, a);
     let Step::Done(r) = z else {
         return z;
     };
@@ -479,18 +471,18 @@ fn app_arr(q: &[u32], work: &mut [u32], m: Mode, st: State, g: Span, ty: usize, 
 }
 
 // InfAppETVar: the unknown becomes an Arrow of two fresh ones.
-fn app_etvar(q: &[u32], work: &mut [u32], m: Mode, st: State, g: Span, ty: usize, ex: usize) -> Step
+fn app_etvar(q: &[u32], work: &mut [u32], h: Here, st: State, g: Span, ty: usize, ex: usize) -> Step
     requires { ⌜ AppPre (now q) (now work) st g ty ex 4 ⌝ }
-    ensures { λ z. ⌜ Fires m (now (q .entry)) (now (work .entry)) (now (work .exit)) st g (appAsk ty ex) z ⌝ }
+    ensures { λ z. ⌜ Fires h (now (q .entry)) (now (work .entry)) (now (work .exit)) st g (appAsk ty ex) z ⌝ }
 {
     let top = st.top;
     let a = types::name_of(q, work, top, ty);
-    let o = steps::part(q, work, st, g, a);
+    let o = rules::part(q, work, h, st, g, a);
     let st1 = o.st;
     let g1 = o.g;
     let b = o.b;
     let c = o.c;
-    let z = check(q, work, m, st1, g1, ex, b);
+    let z = check(q, work, h, st1, g1, ex, b);
     let Step::Done(r) = z else {
         return z;
     };

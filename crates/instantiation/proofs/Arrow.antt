@@ -22,21 +22,23 @@ use Rattle.substitution.specs.Passing.{Passed, Makes}
 use Rattle.substitution.specs.Calls.{ApplyPre, Applied}
 use Rattle.substitution.proofs.Passing.{Reached, reached}
 use Rattle.substitution.proofs.Passing as passing
-use Rattle.judging.specs.Asking.{mode, Asks, instAsk, JudgePre}
+use Rattle.judging.specs.Asking.{here, Asks, instAsk, JudgePre}
 use Rattle.judging.specs.declared.Answer.{Answer}
-use Rattle.judging.specs.declared.Mode.{Mode}
+use Rattle.judging.specs.declared.Here.{Here}
 use Rattle.judging.specs.declared.Step.{Step}
 use Rattle.judging.specs.declared.Step.the-variants.{Done, Spent}
 use Rattle.judging.proofs.Asking.{InstAsked, inst-asked, asks-inst}
 use Rattle.judging.proofs.Steps.{NotDone, Came}
 use Rattle.judging.proofs.Chain.{Sofar, begin, built, gave, on, stopped}
-use Rattle.steps.specs.Ending.{Through}
-use Rattle.steps.specs.Modes.{JudgedBoth, FiresBoth}
-use Rattle.steps.specs.Parting.{freshName, PartPre, Parts}
-use Rattle.steps.specs.declared.Parted.{Parted}
-use Rattle.steps.proofs.Forms.{IsArrow, is-arrow}
-use Rattle.steps.proofs.Going.{held-is, unknown-named, built-room, passed-built, built-on, either, inst-pre, else-fires, then-done, then-stop, through-ends}
-use Rattle.steps.proofs.Parting.{part-pre, parts-built}
+use Rattle.rules.specs.Going.{PlainOut}
+use Rattle.judging.specs.Ending.{Judged, Fires}
+use Rattle.layout.specs.States.{freshName}
+use Rattle.rules.specs.Parting.{PartPre, Parts}
+use Rattle.rules.specs.declared.Parted.{Parted}
+use Rattle.rules.proofs.TypeForms.{IsArrow, is-arrow}
+use Rattle.rules.proofs.Standing.{held-is, unknown-named, built-room, passed-built, built-on}
+use Rattle.rules.proofs.Premises.{inst-pre, else-fires, then-done, then-stop, through-ends}
+use Rattle.rules.proofs.Parting.{part-pre, parts-built}
 use Rattle.instantiation.specs.Sides.{FormPre}
 use Rattle.instantiation.proofs.Equations.{arr-is}
 
@@ -65,6 +67,7 @@ module _ {q w : List ℕ} {s : State} {g : Span} {sd : Side} {a t : ℕ} (pre : 
 
 -- it is asked, its number is n, its type's halves and its unknown's name are read, and the unknown is parted; t is the cycle's measure
 pub record Halved (t : ℕ) : Type 0 where
+  pub m : Here
   pub q : List ℕ
   pub w : List ℕ
   pub s : State
@@ -84,7 +87,7 @@ pub record Halved (t : ℕ) : Type 0 where
   pub left : LeftOf q w (s .top) ty l
   pub right : RightOf q w (s .top) ty r
   pub name : Named q w (s .top) a x
-  pub parts : Parts q w w₁ s g x o
+  pub parts : Parts m q w w₁ s g x o
   pub back : od ≡ other sd
   pub number : n ≡ ruleNumber (instArr sd)
 
@@ -94,7 +97,7 @@ pub record First (t : ℕ) : Type 0 where
   pub w : List ℕ
   pub z : Step
   pub u : Answer
-  pub call : JudgedBoth (on .q) (on .w₁) w (on .o .st) (on .o .g) (instAsk (on .od) (on .o .b) (on .l)) z
+  pub call : Judged (on .m) (on .q) (on .w₁) w (on .o .st) (on .o .g) (instAsk (on .od) (on .o .b) (on .l)) z
   pub done : z ≡ Done u
 
 -- the context was applied to the second
@@ -114,11 +117,11 @@ module _ {t : ℕ} (h : Halved t) where
   abbrev At : Judgement → Type 0
   At j = Asks (h .q) (h .w) (h .s .top) (h .g) (instAsk (h .sd) (h .a) (h .ty)) j
 
-  abbrev outcome : Mode → Judgement → Out Fired
-  outcome m j = rule (mode m) (judge (mode m)) j (h .s .left) (h .s .fresh)
+  abbrev outcome : Judgement → Out Fired
+  outcome j = rule (here (h .m)) (judge (here (h .m))) j (h .s .left) (h .s .fresh)
 
   abbrev Ends : List ℕ → Step → Type 0
-  Ends w′ z = FiresBoth (h .q) (h .w) w′ (h .s) (h .g) (instAsk (h .sd) (h .a) (h .ty)) z
+  Ends w′ z = Fires (h .m) (h .q) (h .w) w′ (h .s) (h .g) (instAsk (h .sd) (h .a) (h .ty)) z
 
   -- the two fresh names
   abbrev b₁ : syntax.TyVar
@@ -128,7 +131,7 @@ module _ {t : ℕ} (h : Halved t) where
   b₂ = freshName (suc (h .s .fresh))
 
   abbrev first : {j : Judgement} → At j → Judgement
-  first k = inst (h .od) (split (askd (h .pre) k .x) b₁ b₂ (askd (h .pre) k .Γ)) b₁ (halves (h .pre) k .A)
+  first k = inst (h .od) (split (here (h .m)) (askd (h .pre) k .x) b₁ b₂ (askd (h .pre) k .Γ)) b₁ (halves (h .pre) k .A)
 
   left₁ : {j : Judgement} (k : At j) → Den (h .q) (h .w₁) (h .o .st .top) (h .l) (halves (h .pre) k .A)
   left₁ k = den-frame (h .parts .keep) (h .parts .up) (h .left .is _ _ (whole (h .pre) k) .den)
@@ -148,56 +151,54 @@ module _ {t : ℕ} (h : Halved t) where
   so₁ : Sofar (h .q) (h .w) (h .w₁) (h .s) (h .o .st) leaf
   so₁ = built-on begin (parts-built (h .parts))
 
-  says₁ : (m : Mode) {j : Judgement} (k : At j) → outcome m j
-      ≡ andThen (judge (mode m) (first k) (h .o .st .left) (h .o .st .fresh))
+  says₁ : {j : Judgement} (k : At j) → outcome j
+      ≡ andThen (judge (here (h .m)) (first k) (h .o .st .left) (h .o .st .fresh))
       (λ u l n. andThen (apply (u .1) (halves (h .pre) k .B) l n)
-      (λ B l n. andThen (judge (mode m) (inst (h .sd) (u .1) b₂ B) l n) (λ v. give (instArr (h .sd), int, v .1, u .2 & v .2 & leaf))))
-  says₁ m k = let v = askd (h .pre) k in let p = halves (h .pre) k in
-      ap (outcome m) (v .is ∙ ap (λ (T : Ty). inst (h .sd) (v .Γ) (v .x) T) (p .is))
-      ∙ rw (h .parts .left, h .parts .fresh, h .back) (arr-is (mode m) (judge (mode m)) (v .Γ) (v .x) (h .s .left) (h .s .fresh) (h .sd) (p .A) (p .B))
+      (λ B l n. andThen (judge (here (h .m)) (inst (h .sd) (u .1) b₂ B) l n) (λ v. give (instArr (h .sd), int, v .1, u .2 & v .2 & leaf))))
+  says₁ k = let v = askd (h .pre) k in let p = halves (h .pre) k in
+      ap outcome (v .is ∙ ap (λ (T : Ty). inst (h .sd) (v .Γ) (v .x) T) (p .is))
+      ∙ rw (h .parts .left, h .parts .fresh, h .back) (arr-is (here (h .m)) (judge (here (h .m))) (v .Γ) (v .x) (h .s .left) (h .s .fresh) (h .sd) (p .A) (p .B))
 
-  pub arr-else₁ : {w₂ : List ℕ} {z : Step} → JudgedBoth (h .q) (h .w₁) w₂ (h .o .st) (h .o .g) (instAsk (h .od) (h .o .b) (h .l)) z → NotDone z → Ends w₂ z
-  arr-else₁ call nd = else-fires (λ m j k. record { ts = leaf; so = so₁; i = _; asks = asks₁ k; next = _; says = says₁ m k }) call nd
+  pub arr-else₁ : {w₂ : List ℕ} {z : Step} → Judged (h .m) (h .q) (h .w₁) w₂ (h .o .st) (h .o .g) (instAsk (h .od) (h .o .b) (h .l)) z → NotDone z → Ends w₂ z
+  arr-else₁ call nd = else-fires (λ j k. record { ts = leaf; so = so₁; i = _; asks = asks₁ k; next = _; says = says₁ k }) call nd
 
 -- ## The context is applied to the second half
 
 module _ {t : ℕ} (c : First t) where
-  came : (m : Mode) {j : Judgement} (k : At (c .on) j)
-      → Came (c .on .q) (c .w) (c .on .o .st) (c .u) (judge (mode m) (first (c .on) k) (c .on .o .st .left) (c .on .o .st .fresh))
-  came m k = gave (so₁ (c .on)) (c .call .in-mode m) (asks₁ (c .on) k) (c .done)
+  came : {j : Judgement} (k : At (c .on) j)
+      → Came (c .on .q) (c .w) (c .on .o .st) (c .u) (judge (here (c .on .m)) (first (c .on) k) (c .on .o .st .left) (c .on .o .st .fresh))
+  came k = gave (so₁ (c .on)) (c .call) (asks₁ (c .on) k) (c .done)
 
-  so₂ : (m : Mode) {j : Judgement} (k : At (c .on) j) → Sofar (c .on .q) (c .on .w) (c .w) (c .on .s) (c .u .st) (came m k .t & leaf)
-  so₂ m k = on (so₁ (c .on)) (c .call .in-mode m) (asks₁ (c .on) k) (came m k)
+  so₂ : {j : Judgement} (k : At (c .on) j) → Sofar (c .on .q) (c .on .w) (c .w) (c .on .s) (c .u .st) (came k .t & leaf)
+  so₂ k = on (so₁ (c .on)) (c .call) (asks₁ (c .on) k) (came k)
 
   -- what was denoted once the unknown was parted is denoted now
   stays : {n : ℕ} {T : Ty} → Den (c .on .q) (c .on .w₁) (c .on .o .st .top) n T → Den (c .on .q) (c .w) (c .u .st .top) n T
-  stays d = let k = c .on .pre .pre .asks in den-frame (c .call .in-mode either .run _ (asks₁ (c .on) k) .keep) (came either k .land .up) d
+  stays d = let k = c .on .pre .pre .asks in den-frame (c .call .run _ (asks₁ (c .on) k) .keep) (came k .land .up) d
 
   right₂ : {j : Judgement} (k : At (c .on) j) → Den (c .on .q) (c .w) (c .u .st .top) (c .on .r) (halves (c .on .pre) k .B)
   right₂ k = stays (den-frame (c .on .parts .keep) (c .on .parts .up) (c .on .right .is _ _ (whole (c .on .pre) k) .den))
 
   pub arr-apply : ApplyPre (c .on .q) (c .w) (c .u .st) (c .u .g) (c .on .r)
-  arr-apply = let k = c .on .pre .pre .asks in let x = came either k .land in
+  arr-apply = let k = c .on .pre .pre .asks in let x = came k .land in
       record { spare = _; room = x .room; ctx = _; run = x .run; type = _; den = right₂ k }
 
-  says₂ : (m : Mode) {j : Judgement} (k : At (c .on) j) → outcome (c .on) m j
-      ≡ andThen (apply (came m k .Δ) (halves (c .on .pre) k .B) (c .u .st .left) (c .u .st .fresh))
-      (λ B l n. andThen (judge (mode m) (inst (c .on .sd) (came m k .Δ) (b₂ (c .on)) B) l n)
-      (λ v. give (instArr (c .on .sd), int, v .1, came m k .t & v .2 & leaf)))
-  says₂ m k = says₁ (c .on) m k ∙ then-done _ (came m k .is)
+  says₂ : {j : Judgement} (k : At (c .on) j) → outcome (c .on) j
+      ≡ andThen (apply (came k .Δ) (halves (c .on .pre) k .B) (c .u .st .left) (c .u .st .fresh))
+      (λ B l n. andThen (judge (here (c .on .m)) (inst (c .on .sd) (came k .Δ) (b₂ (c .on)) B) l n)
+      (λ v. give (instArr (c .on .sd), int, v .1, came k .t & v .2 & leaf)))
+  says₂ k = says₁ (c .on) k ∙ then-done _ (came k .is)
 
   module _ {w₃ : List ℕ} {y : Made} (call : Applied (c .on .q) (c .w) w₃ (c .u .st) (c .u .g) (c .on .r) y) where
-    makes : (m : Mode) {j : Judgement} (k : At (c .on) j)
-        → Makes (c .on .q) (c .w) w₃ (c .u .st) y (apply (came m k .Δ) (halves (c .on .pre) k .B) (c .u .st .left) (c .u .st .fresh))
-    makes m k = call .makes (came m k .Δ) (came m k .land .run) (halves (c .on .pre) k .B) (right₂ k)
+    makes : {j : Judgement} (k : At (c .on) j)
+        → Makes (c .on .q) (c .w) w₃ (c .u .st) y (apply (came k .Δ) (halves (c .on .pre) k .B) (c .u .st .left) (c .u .st .fresh))
+    makes k = call .makes (came k .Δ) (came k .land .run) (halves (c .on .pre) k .B) (right₂ k)
 
     pub arr-spent : y ≡ made.Spent → Ends (c .on) w₃ Spent
     arr-spent e = record {
-      in-mode = λ m. record {
-        run = λ j k.
-            let n = passing.ended (makes m k) e in
-            stopped (built (c .u .st) (so₂ m k) (n .keep) (le-refl _) refl (le-refl _)) _ (says₂ m k ∙ then-stop _ (n .is));
-      };
+      run = λ j k.
+          let n = passing.ended (makes k) e in
+          stopped (built (c .u .st) (so₂ k) (n .keep) (le-refl _) refl (le-refl _)) _ (says₂ k ∙ then-stop _ (n .is));
     }
 
 -- ## The second half, on this side
@@ -207,45 +208,43 @@ module _ {t : ℕ} (b : Between t) where
   abbrev asked : Halved t
   asked = b .on .on
 
-  applied : (m : Mode) {j : Judgement} (k : At asked j) → Reached (asked .q) (b .on .w) (b .w) (b .on .u .st) (b .s) (b .ty)
-      (apply (came (b .on) m k .Δ) (halves (asked .pre) k .B) (b .on .u .st .left) (b .on .u .st .fresh))
-  applied m k = reached (makes (b .on) (b .call) m k) (b .done)
+  applied : {j : Judgement} (k : At asked j) → Reached (asked .q) (b .on .w) (b .w) (b .on .u .st) (b .s) (b .ty)
+      (apply (came (b .on) k .Δ) (halves (asked .pre) k .B) (b .on .u .st .left) (b .on .u .st .fresh))
+  applied k = reached (makes (b .on) (b .call) k) (b .done)
 
   passed : Passed (b .on .w) (b .w) (b .on .u .st) (b .s) 1
-  passed = applied either (asked .pre .pre .asks) .passed
+  passed = applied (asked .pre .pre .asks) .passed
 
   unknown₂ : Den (asked .q) (b .w) (b .s .top) (asked .o .c) (etvar (b₂ asked))
   unknown₂ = den-frame (passed .keep) (passed .up) (stays (b .on) (asked .parts .second))
 
-  asks₂ : (m : Mode) {j : Judgement} (k : At asked j)
+  asks₂ : {j : Judgement} (k : At asked j)
       → Asks (asked .q) (b .w) (b .s .top) (b .on .u .g) (instAsk (asked .sd) (asked .o .c) (b .ty))
-      (inst (asked .sd) (came (b .on) m k .Δ) (b₂ asked) (applied m k .type))
-  asks₂ m k = asks-inst (asked .sd) (run-frame (passed .keep) (passed .up) (came (b .on) m k .land .run)) unknown₂ (applied m k .den)
+      (inst (asked .sd) (came (b .on) k .Δ) (b₂ asked) (applied k .type))
+  asks₂ k = asks-inst (asked .sd) (run-frame (passed .keep) (passed .up) (came (b .on) k .land .run)) unknown₂ (applied k .den)
 
-  so₃ : (m : Mode) {j : Judgement} (k : At asked j) → Sofar (asked .q) (asked .w) (b .w) (asked .s) (b .s) (came (b .on) m k .t & leaf)
-  so₃ m k = built-on (so₂ (b .on) m k) (passed-built passed)
+  so₃ : {j : Judgement} (k : At asked j) → Sofar (asked .q) (asked .w) (b .w) (asked .s) (b .s) (came (b .on) k .t & leaf)
+  so₃ k = built-on (so₂ (b .on) k) (passed-built passed)
 
   pub arr-second : (5 * b .s .left + 2 < t) × JudgePre (asked .q) (b .w) (b .s) (b .on .u .g) (instAsk (asked .sd) (asked .o .c) (b .ty))
-  arr-second = let k = asked .pre .pre .asks in let x = came (b .on) either k .land in (
-    omega (arith, asked .falls, so₃ either k .less),
-    inst-pre (asked .sd) (passing.room-on passed (x .room)) (run-frame (passed .keep) (passed .up) (x .run)) unknown₂ (applied either k .den),
+  arr-second = let k = asked .pre .pre .asks in let x = came (b .on) k .land in (
+    omega (arith, asked .falls, so₃ k .less),
+    inst-pre (asked .sd) (passing.room-on passed (x .room)) (run-frame (passed .keep) (passed .up) (x .run)) unknown₂ (applied k .den),
   )
 
-  says₃ : (m : Mode) {j : Judgement} (k : At asked j) → outcome asked m j
-      ≡ andThen (judge (mode m) (inst (asked .sd) (came (b .on) m k .Δ) (b₂ asked) (applied m k .type)) (b .s .left) (b .s .fresh))
-      (λ v. give (instArr (asked .sd), int, v .1, came (b .on) m k .t & v .2 & leaf))
-  says₃ m k =
-      let f = ap (λ (n : ℕ). done (applied m k .type) (b .s .left) n) (sym (passed .fresh)) in
-      says₂ (b .on) m k ∙ then-done _ (applied m k .is ∙ f)
+  says₃ : {j : Judgement} (k : At asked j) → outcome asked j
+      ≡ andThen (judge (here (asked .m)) (inst (asked .sd) (came (b .on) k .Δ) (b₂ asked) (applied k .type)) (b .s .left) (b .s .fresh))
+      (λ v. give (instArr (asked .sd), int, v .1, came (b .on) k .t & v .2 & leaf))
+  says₃ k =
+      let f = ap (λ (n : ℕ). done (applied k .type) (b .s .left) n) (sym (passed .fresh)) in
+      says₂ (b .on) k ∙ then-done _ (applied k .is ∙ f)
 
-  module _ {w₄ : List ℕ} {z : Step} (call : JudgedBoth (asked .q) (b .w) w₄ (b .s) (b .on .u .g) (instAsk (asked .sd) (asked .o .c) (b .ty)) z) where
+  module _ {w₄ : List ℕ} {z : Step} (call : Judged (asked .m) (asked .q) (b .w) w₄ (b .s) (b .on .u .g) (instAsk (asked .sd) (asked .o .c) (b .ty)) z) where
     pub arr-else₂ : NotDone z → Ends asked w₄ z
-    arr-else₂ nd = else-fires (λ m j k. record { ts = _; so = so₃ m k; i = _; asks = asks₂ m k; next = _; says = says₃ m k }) call nd
+    arr-else₂ nd = else-fires (λ j k. record { ts = _; so = so₃ k; i = _; asks = asks₂ k; next = _; says = says₃ k }) call nd
 
-    pub arr-done : {v : Answer} {y : Step} → z ≡ Done v → Through v (asked .n) 2 y → Ends asked w₄ y
+    pub arr-done : {v : Answer} {y : Step} → z ≡ Done v → PlainOut (v .st) (v .g) 2048 (asked .n) 2 y → Ends asked w₄ y
     unfolding children
     arr-done d th = record {
-      in-mode = λ m. record {
-        run = λ j k. through-ends (so₃ m k) (call .in-mode m) (asks₂ m k) d (instArr (asked .sd)) (asked .number) (λ t. refl) (omega arith) th _ (says₃ m k);
-      };
+      run = λ j k. through-ends (so₃ k) (call) (asks₂ k) d (instArr (asked .sd)) (asked .number) (λ t. refl) (omega arith) th _ (says₃ k);
     }

@@ -5,21 +5,20 @@ use mathlib.Core.List.{_∷_, []}
 use Prim.Native.Nat.{ℕ, suc, _<_}
 use native.Mathlib.Omega.{arith}
 use Rattle.definition.specs.Syntax.{pick, TyVar, Ty, int, bool, var, etvar, arrow, forall, setvarBnd, Ctx, Side, onL, onR, inst, leaf, _&_, occursCheck}
-use Rattle.definition.specs.Question.{Mode}
 use Rattle.definition.specs.Run.{done, fail, andThen, give, refuse, fresh, _>>=_}
 use Rattle.definition.specs.Contexts.{rightOf, replace, before}
 use Rattle.definition.specs.Types.{isMono, occurs, apply}
-use Rattle.definition.specs.Rules.{Judge, closes, tyCode, other, instSolve, instReach, instArr, solve, reach, split, instArrow, instForall, instRule, rule}
-use Rattle.steps.specs.Parting.{freshName}
-use Rattle.steps.specs.Sides.{openedTy, openedCtx, binder}
+use Rattle.definition.specs.Rules.{Judge, Here, _from_, closes, tyCode, other, instSolve, instReach, instArr, solve, reach, split, instArrow, instForall, instRule, rule}
+use Rattle.layout.specs.States.{freshName}
+use Rattle.rules.specs.Sides.{openedTy, openedCtx, binder}
 use Rattle.instantiation.proofs.Sides.{instAll}
 
-module _ (μ : Mode) (judge : Judge) (Γ : Ctx) (a : TyVar) (l n : ℕ) where
+module _ (μ : Here) (judge : Judge) (Γ : Ctx) (a : TyVar) (l n : ℕ) where
   module _ (s : Side) where
     -- a type without parts, unless it is an unknown that can be reached
     solve-is : (T : Ty) → tyCode T < 5 → ((b : TyVar) → T ≡ etvar b → before Γ a b ≡ false)
         → rule μ judge (inst s Γ a T) l n
-        ≡ (pick (occurs a T) (refuse (occursCheck a T)) (closes (instSolve s) (replace a (setvarBnd a T ∷ []) Γ))) l n
+        ≡ (pick (occurs a T) (refuse (occursCheck a T)) (closes (instSolve s) (replace a (setvarBnd a T from μ ∷ []) Γ))) l n
     unfolding rule instRule solve isMono pick tyCode
     solve-is int h f = refl
     solve-is bool h f = refl
@@ -34,17 +33,17 @@ module _ (μ : Mode) (judge : Judge) (Γ : Ctx) (a : TyVar) (l n : ℕ) where
       occurs-is e = rw (solve-is T h f, e)
 
       pub solved-is : occurs a T ≡ false
-          → rule μ judge (inst s Γ a T) l n ≡ done (instSolve s, int, replace a (setvarBnd a T ∷ []) Γ, leaf) l n
+          → rule μ judge (inst s Γ a T) l n ≡ done (instSolve s, int, replace a (setvarBnd a T from μ ∷ []) Γ, leaf) l n
       unfolding pick closes give
       solved-is e = rw (solve-is T h f, e)
 
     pub reach-is : (b : TyVar) → before Γ a b ≡ true
-        → rule μ judge (inst s Γ a (etvar b)) l n ≡ done (instReach s, int, replace b (setvarBnd b (etvar a) ∷ []) Γ, leaf) l n
+        → rule μ judge (inst s Γ a (etvar b)) l n ≡ done (instReach s, int, replace b (setvarBnd b (etvar a) from μ ∷ []) Γ, leaf) l n
     unfolding rule instRule reach pick closes give
     reach-is b e = rw e
 
     pub arr-is : (A B : Ty) → rule μ judge (inst s Γ a (arrow A B)) l n
-        ≡ andThen (judge (inst (other s) (split a (freshName n) (freshName (suc n)) Γ) (freshName n) A) l (suc (suc n)))
+        ≡ andThen (judge (inst (other s) (split μ a (freshName n) (freshName (suc n)) Γ) (freshName n) A) l (suc (suc n)))
         (λ r l n′. andThen (apply (r .1) B l n′)
         (λ B′ l n′. andThen (judge (inst s (r .1) (freshName (suc n)) B′) l n′)
         (λ u. give (instArr s, int, u .1, r .2 & u .2 & leaf))))
@@ -53,7 +52,7 @@ module _ (μ : Mode) (judge : Judge) (Γ : Ctx) (a : TyVar) (l n : ℕ) where
 
   pub all-is : (s : Side) (b : TyVar) (T : Ty) → rule μ judge (inst s Γ a (forall b T)) l n
       ≡ andThen (openedTy (other s) b T l n)
-      (λ T′ l n. andThen (judge (inst s (openedCtx (other s) Γ b) a T′) l n)
+      (λ T′ l n. andThen (judge (inst s (openedCtx μ (other s) Γ b) a T′) l n)
       (λ r. give (instAll s, int, rightOf (binder (other s) b) (r .1), r .2 & leaf)))
   unfolding rule instRule instForall _>>=_ andThen other
   all-is onL b T = refl

@@ -5,9 +5,9 @@ use native.Mathlib.Omega.{arith}
 use Rattle.definition.specs.Syntax as syntax
 use Rattle.definition.specs.Syntax.{onL, onR, Rule, ruleNumber}
 use Rattle.definition.specs.Rules.{other, instSolve, instReach, instArr}
-use Rattle.steps.specs.declared.Side.{Side}
-use Rattle.steps.specs.declared.Side.the-variants.{L, R}
-use Rattle.steps.specs.Sides.{side}
+use Rattle.rules.specs.declared.Side.{Side}
+use Rattle.rules.specs.declared.Side.the-variants.{L, R}
+use Rattle.rules.specs.Sides.{side}
 use Rattle.instantiation.specs.Sides.{firstOf, otherOf}
 
 pub other-is : {z : Side} (s : Side) → z ≡ otherOf s → side z ≡ other (side s)

@@ -11,7 +11,7 @@ use Rattle.definition.specs.Syntax.{Ty, int, etvar, setvarBnd, Ctx, Side, Judge
 use Rattle.definition.specs.Run.{Out, done}
 use Rattle.definition.specs.Contexts.{before, replace}
 use Rattle.definition.specs.Types.{occurs}
-use Rattle.definition.specs.Rules.{Fired, instSolve, instReach, rule, judge}
+use Rattle.definition.specs.Rules.{Fired, _from_, instSolve, instReach, rule, judge}
 use Rattle.definition.specs.Reply.{errorCode, errorAt}
 use Rattle.layout.specs.Names.{ty}
 use Rattle.layout.specs.Words.{Keep}
@@ -22,29 +22,33 @@ use Rattle.layout.specs.declared.State.{State}
 use Rattle.layout.specs.declared.TyVar.{TyVar}
 use Rattle.layout.proofs.Words.{keep-less}
 use Rattle.types.specs.Reading.{Held, HeldNamed, Named}
-use Rattle.steps.specs.Modes.{FiresBoth}
-use Rattle.steps.proofs.Forms.{is-etvar}
+use Rattle.judging.specs.Ending.{Fires}
+use Rattle.rules.proofs.TypeForms.{is-etvar}
 use Rattle.walks.specs.Walks.{Occurs}
 use Rattle.types.proofs.Held.{room-held}
 use Rattle.contexts.specs.Build.{Space}
 use Rattle.contexts.specs.Search.{Before}
-use Rattle.judging.specs.Asking.{mode, instAsk, RulePre}
-use Rattle.judging.specs.Ending.{e-occurs, Failed, RunsR}
+use Rattle.judging.specs.Asking.{here, instAsk, RulePre}
+use Rattle.judging.specs.Ending.{one-type, Failed, RunsR}
+use Rattle.judging.specs.declared.Here.{Here}
+use Rattle.judging.specs.declared.Shown.the-variants.{OneType}
 use Rattle.judging.specs.declared.Step.{Step}
 use Rattle.judging.specs.declared.Step.the-variants.{Fail}
 use Rattle.judging.proofs.Asking.{InstAsked, inst-asked}
+use Rattle.judging.proofs.Entries.{as-solved}
 use Rattle.judging.proofs.Chain.{begin, built, refuses, room-on, room-within}
 use Rattle.instantiation.specs.Sides.{FormPre, Meets, SolvePre, ReachPre, Closed}
 use Rattle.instantiation.proofs.Equations.{occurs-is, solved-is, reach-is}
-use Rattle.steps.proofs.Going.{unknown-named, room-space, ref-small, ends}
+use Rattle.rules.proofs.Standing.{unknown-named, room-space, ref-small}
+use Rattle.rules.proofs.Premises.{ends}
 
 -- ## A context that was built by solving an unknown is a rule's output
 
-pub closed : {q w w₁ : List ℕ} {s : State} {g : Span} {x : syntax.TyVar} {r n : ℕ} {z : Step} {T : Ty} {Γ : Ctx} (R : Rule) → n ≡ ruleNumber R
-    → Room q w s (20 + 28 * g .n) → Run q w (s .top) (g .at) (g .n) Γ → Den q w (s .top) r T → Closed w w₁ s g x r n z
-    → (O : Out Fired) → O ≡ done (R, int, replace x (setvarBnd x T ∷ []) Γ, leaf) (s .left) (s .fresh) → RunsR q w w₁ s z O
+pub closed : {m : Here} {q w w₁ : List ℕ} {s : State} {g : Span} {x : TyVar} {y : syntax.TyVar} {r n : ℕ} {z : Step} {T : Ty} {Γ : Ctx} (R : Rule) → n ≡ ruleNumber R
+    → ty x ≡ y → Room q w s (20 + 28 * g .n) → Run q w (s .top) (g .at) (g .n) Γ → Den q w (s .top) r T → Closed m w w₁ s g x r n z
+    → (O : Out Fired) → O ≡ done (R, int, replace y (setvarBnd y T from here m ∷ []) Γ, leaf) (s .left) (s .fresh) → RunsR q w w₁ s z O
 unfolding children
-closed {q} {w} {w₁} {s} {g} R e room run d c O eq =
+closed {w = w} {w₁} {s} {g} R e ex room run d c O eq =
     let p = c .replaced .grown .past in
     let t = p .top in
     let few = c .replaced .few in
@@ -55,7 +59,7 @@ closed {q} {w} {w₁} {s} {g} R e room run d c O eq =
     rw (c .is)
     (ends (c .o .st) (c .o .g) R e refl (omega arith) (built (c .o .st) begin kp (omega arith) lo (omega arith))
     (room-on (c .o .st) 4 room kp (omega arith) (omega arith) (omega (arith, room .fits)) (omega (arith, room .names)))
-    (c .replaced .run run d) O (rw (lf, ff) eq))
+    (rw ex at (c .replaced .run run (as-solved (c .made) d))) O (rw (lf, ff) eq))
 
 -- ## What the code may read and build
 
@@ -93,33 +97,28 @@ module _ {q w : List ℕ} {s : State} {g : Span} {sd : Side} {a t : ℕ} (pre : 
       → (y : syntax.TyVar) → T ≡ etvar y → before Γ v y ≡ false
   late Γ v T r d e y eq = pre .late .is Γ v y r d (rw eq at e)
 
-  pub solve-occurs : b ≡ true → FiresBoth q w w s g (instAsk sd a t) (Fail (record { st = s; code = 14; name = x .0; left = t; right = 0 }))
+  pub solve-occurs : {m : Here} → b ≡ true → Fires m q w w s g (instAsk sd a t) (Fail (record { st = s; code = 14; name = x .0; shown = OneType t; charge = 0 }))
   unfolding errorCode errorAt
-  solve-occurs h = record {
-    in-mode = λ m. record {
-      run = λ j k.
-          let v = inst-asked sd a t k in
-          let f : Failed q w (record { st = s; code = 14; name = x .0; left = t; right = 0 }) (occursCheck (v .x) (v .T)) (s .left) =
-          record { base = pre .pre .room .base; within = room-within (pre .pre .room); code = refl; name = ap (λ (y : syntax.TyVar). y .number) (nm .of-etvar (v .x) (v .unknown)); types = e-occurs (v .den); left = refl } in
-          refuses begin f _
-          (ap (λ (i : Judgement). rule (mode m) (judge (mode m)) i (s .left) (s .fresh)) (v .is)
-          ∙ occurs-is (mode m) (judge (mode m)) (v .Γ) (v .x) (s .left) (s .fresh) sd (v .T) (pre .plain (v .T) (v .den))
-          (late (v .Γ) (v .x) (v .T) (v .run) (v .unknown) (v .den)) (occurs-so (v .x) (v .T) (v .unknown) (v .den) ∙ h));
-    };
+  solve-occurs {m} h = record {
+    run = λ j k.
+        let v = inst-asked sd a t k in
+        let f : Failed q w (record { st = s; code = 14; name = x .0; shown = OneType t; charge = 0 }) (occursCheck (v .x) (v .T)) (s .left) =
+        record { base = pre .pre .room .base; within = room-within (pre .pre .room); code = refl; name = ap (λ (y : syntax.TyVar). y .number) (nm .of-etvar (v .x) (v .unknown)); shown = one-type (v .den); left = refl } in
+        refuses begin f _
+        (ap (λ (i : Judgement). rule (here m) (judge (here m)) i (s .left) (s .fresh)) (v .is)
+        ∙ occurs-is (here m) (judge (here m)) (v .Γ) (v .x) (s .left) (s .fresh) sd (v .T) (pre .plain (v .T) (v .den))
+        (late (v .Γ) (v .x) (v .T) (v .run) (v .unknown) (v .den)) (occurs-so (v .x) (v .T) (v .unknown) (v .den) ∙ h));
   }
 
-  pub solve-done : {w₁ : List ℕ} {n : ℕ} {z : Step} → b ≡ false → n ≡ ruleNumber (instSolve sd) → Closed w w₁ s g (ty x) t n z
-      → FiresBoth q w w₁ s g (instAsk sd a t) z
-  solve-done {n = n} h e c = record {
-    in-mode = λ m. record {
-      run = λ j k.
-          let v = inst-asked sd a t k in
-          let c′ : Closed _ _ s g (v .x) t n _ = rw (nm .of-etvar (v .x) (v .unknown)) at c in
-          closed (instSolve sd) e (pre .pre .room) (v .run) (v .den) c′ _
-          (ap (λ (i : Judgement). rule (mode m) (judge (mode m)) i (s .left) (s .fresh)) (v .is)
-          ∙ solved-is (mode m) (judge (mode m)) (v .Γ) (v .x) (s .left) (s .fresh) sd (v .T) (pre .plain (v .T) (v .den))
-          (late (v .Γ) (v .x) (v .T) (v .run) (v .unknown) (v .den)) (occurs-so (v .x) (v .T) (v .unknown) (v .den) ∙ h));
-    };
+  pub solve-done : {m : Here} {w₁ : List ℕ} {n : ℕ} {z : Step} → b ≡ false → n ≡ ruleNumber (instSolve sd) → Closed m w w₁ s g x t n z
+      → Fires m q w w₁ s g (instAsk sd a t) z
+  solve-done {m} h e c = record {
+    run = λ j k.
+        let v = inst-asked sd a t k in
+        closed (instSolve sd) e (nm .of-etvar (v .x) (v .unknown)) (pre .pre .room) (v .run) (v .den) c _
+        (ap (λ (i : Judgement). rule (here m) (judge (here m)) i (s .left) (s .fresh)) (v .is)
+        ∙ solved-is (here m) (judge (here m)) (v .Γ) (v .x) (s .left) (s .fresh) sd (v .T) (pre .plain (v .T) (v .den))
+        (late (v .Γ) (v .x) (v .T) (v .run) (v .unknown) (v .den)) (occurs-so (v .x) (v .T) (v .unknown) (v .den) ∙ h));
   }
 
 -- ## The unknown a against the unknown t
@@ -145,17 +144,14 @@ module _ {q w : List ℕ} {s : State} {g : Span} {sd : Side} {a t : ℕ} (pre : 
     pub meet-solve : r ≡ false → SolvePre sd q w s g a t
     meet-solve e = record { pre = pre .pre; plain = λ T d. let c = pre .code T d in omega arith; late = meets e }
 
-pub reach-done : {q w w₁ : List ℕ} {s : State} {g : Span} {sd : Side} {a t n : ℕ} {y : TyVar} {z : Step} → ReachPre sd q w s g a t → Named q w (s .top) t y
-    → n ≡ ruleNumber (instReach sd) → Closed w w₁ s g (ty y) a n z → FiresBoth q w w₁ s g (instAsk sd a t) z
-reach-done {s = s} {g = g} {sd = sd} {a = a} {t = t} {n = n} pre nm e c = record {
-  in-mode = λ m. record {
-    run = λ j k.
-        let v = inst-asked sd a t k in
-        let u = is-etvar (v .T) (pre .form .code (v .T) (v .den)) in
-        let d = rw (u .is) at (v .den) in
-        let c′ : Closed _ _ s g (u .a) a n _ = rw (nm .of-etvar (u .a) d) at c in
-        closed (instReach sd) e (pre .form .pre .room) (v .run) (v .unknown) c′ _
-        (ap (λ (i : Judgement). rule (mode m) (judge (mode m)) i (s .left) (s .fresh)) (v .is ∙ ap (λ (T : Ty). inst sd (v .Γ) (v .x) T) (u .is))
-        ∙ reach-is (mode m) (judge (mode m)) (v .Γ) (v .x) (s .left) (s .fresh) sd (u .a) (pre .early .is (v .Γ) (v .x) (u .a) (v .run) (v .unknown) d));
-  };
+pub reach-done : {m : Here} {q w w₁ : List ℕ} {s : State} {g : Span} {sd : Side} {a t n : ℕ} {y : TyVar} {z : Step} → ReachPre sd q w s g a t → Named q w (s .top) t y
+    → n ≡ ruleNumber (instReach sd) → Closed m w w₁ s g y a n z → Fires m q w w₁ s g (instAsk sd a t) z
+reach-done {m} {s = s} {sd = sd} {a = a} {t = t} pre nm e c = record {
+  run = λ j k.
+      let v = inst-asked sd a t k in
+      let u = is-etvar (v .T) (pre .form .code (v .T) (v .den)) in
+      let d = rw (u .is) at (v .den) in
+      closed (instReach sd) e (nm .of-etvar (u .a) d) (pre .form .pre .room) (v .run) (v .unknown) c _
+      (ap (λ (i : Judgement). rule (here m) (judge (here m)) i (s .left) (s .fresh)) (v .is ∙ ap (λ (T : Ty). inst sd (v .Γ) (v .x) T) (u .is))
+      ∙ reach-is (here m) (judge (here m)) (v .Γ) (v .x) (s .left) (s .fresh) sd (u .a) (pre .early .is (v .Γ) (v .x) (u .a) (v .run) (v .unknown) d));
 }

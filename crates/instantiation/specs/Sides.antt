@@ -7,15 +7,20 @@ use Rattle.definition.specs.Syntax.{TyVar, Ty, etvar, Ctx, Side}
 use Rattle.definition.specs.Contexts.{before}
 use Rattle.definition.specs.Rules.{tyCode}
 use Rattle.layout.specs.Denotes.{Den, Run}
+use Rattle.layout.specs.Names.{ty}
+use Rattle.layout.specs.declared.Entry.{Entry}
+use Rattle.layout.specs.declared.Key.the-variants.{SETVar}
 use Rattle.layout.specs.declared.Span.{Span}
 use Rattle.layout.specs.declared.State.{State}
-use Rattle.judging.specs.Asking.{instAsk, RulePre}
+use Rattle.layout.specs.declared.TyVar as declared
+use Rattle.judging.specs.Asking.{EntryFrom, instAsk, RulePre}
+use Rattle.judging.specs.declared.Here.{Here}
 use Rattle.judging.specs.declared.Step.{Step}
 use Rattle.judging.specs.declared.Step.the-variants.{Done}
 use Rattle.contexts.specs.Build.{Replaced}
 use Rattle.contexts.specs.declared.Opened.{Opened}
-use Rattle.steps.specs.declared.Side as program
-use Rattle.steps.specs.declared.Side.the-variants.{L, R}
+use Rattle.rules.specs.declared.Side as program
+use Rattle.rules.specs.declared.Side.the-variants.{L, R}
 
 -- the number of a side's first rule
 abbrev pub firstOf : program.Side → ℕ
@@ -50,7 +55,9 @@ pub record ReachPre (side : Side) (q w : List ℕ) (s : State) (g : Span) (a t :
   pub early : Meets q w s g a t true
 
 -- a context with a solved by the type r was built, and the rule of number n gives it
-pub record Closed (w w′ : List ℕ) (s : State) (g : Span) (a : TyVar) (r n : ℕ) (z : Step) : Type 0 where
+pub record Closed (h : Here) (w w′ : List ℕ) (s : State) (g : Span) (a : declared.TyVar) (r n : ℕ) (z : Step) : Type 0 where
   pub o : Opened
-  pub replaced : Replaced w w′ s g a r o
-  pub is : z ≡ Done (record { st = o .st; g = o .g; ty = 2048; rule = n; kids = 0 })
+  pub e : Entry
+  pub made : EntryFrom h (SETVar a) r e
+  pub replaced : Replaced w w′ s g (ty a) e o
+  pub is : z ≡ Done (record { st = o .st; g = o .g; ty = 2048; rule = n; kids = 0; charge = 0 })

@@ -3,21 +3,24 @@ use judging::Answer;
 use judging::Ask;
 use judging::Bad;
 use judging::Entered;
+use judging::Here;
+use judging::Shown;
 use judging::Step;
+use layout::INT;
+use layout::Key;
 use layout::Made;
 use layout::Span;
 use layout::State;
 use layout::TyVar;
-use steps::Instance;
-use steps::Side;
+use rules::Instance;
+use rules::Side;
 ghost use mathlib.Core.Path.{_≡_};
 ghost use Prim.Native.Nat.{_<_, _^_};
 ghost use Rattle.definition.specs.Syntax.{onL, onR};
-ghost use Rattle.layout.specs.Names.{ty};
 ghost use Rattle.contexts.specs.Build.{Space};
 ghost use Rattle.judging.specs.Asking.{instAsk, JudgePre, RulePre};
-ghost use Rattle.steps.specs.Modes.{JudgedBoth, FiresBoth};
-ghost use Rattle.steps.specs.Sides.{side};
+ghost use Rattle.judging.specs.Ending.{Judged, Fires};
+ghost use Rattle.rules.specs.Sides.{side};
 ghost use Rattle.instantiation.specs.Sides.{firstOf, otherOf, FormPre, Closed, SolvePre, ReachPre};
 
 // The other side.
@@ -61,26 +64,37 @@ fn asked(s: Side, a: usize, ty: usize) -> Ask
 }
 
 // The output context with a solved by the type r, and no children.
-fn solved(work: &mut [u32], st: State, g: Span, a: TyVar, r: usize, rule: usize) -> Step
+fn solved(work: &mut [u32], h: Here, st: State, g: Span, a: TyVar, r: usize, rule: usize) -> Step
     requires { ⌜ (Space (now work) st g 1) × (r < 2 ^ 32) ⌝ }
-    ensures { λ z. ⌜ Closed (now (work .entry)) (now (work .exit)) st g (ty a) r rule z ⌝ }
+    ensures { λ z. ⌜ Closed h (now (work .entry)) (now (work .exit)) st g a r rule z ⌝ }
 {
-    let o = contexts::replace(work, st, g, a, r);
+    let e = judging::entry(h, Key::SETVar(a), r);
+    let o = contexts::replace(work, st, g, a, e);
     let end = o.st;
-    let h = o.g;
+    let g1 = o.g;
     Step::Done(Answer {
         st: end,
-        g: h,
-        ty: layout::INT,
+        g: g1,
+        ty: INT,
         rule: rule,
         kids: 0,
+        charge: 0,
     })
 }
 
 // InstLSolve (30), InstRSolve (34). Arrow and Forall have rules of their own, so that only monotypes come here: 16 is never given.
-fn solve(q: &[u32], work: &mut [u32], st: State, g: Span, s: Side, a: usize, ty: usize) -> Step
+fn solve(
+    q: &[u32],
+    work: &mut [u32],
+    h: Here,
+    st: State,
+    g: Span,
+    s: Side,
+    a: usize,
+    ty: usize,
+) -> Step
     requires { ⌜ SolvePre (side s) (now q) (now work) st g a ty ⌝ }
-    ensures { λ z. ⌜ FiresBoth (now (q .entry)) (now (work .entry)) (now (work .exit)) st g (instAsk (side s) a ty) z ⌝ }
+    ensures { λ z. ⌜ Fires h (now (q .entry)) (now (work .entry)) (now (work .exit)) st g (instAsk (side s) a ty) z ⌝ }
 {
     let top = st.top;
     let x = types::name_of(q, work, top, a);
@@ -91,102 +105,152 @@ fn solve(q: &[u32], work: &mut [u32], st: State, g: Span, s: Side, a: usize, ty:
             st: st,
             code: 14,
             name: name,
-            left: ty,
-            right: 0,
+            shown: Shown::OneType(ty),
+            charge: 0,
         });
     }
     let rule = first(s);
-    solved(work, st, g, x, ty, rule)
+    solved(work, h, st, g, x, ty, rule)
 }
 
 // InstLReach (31), InstRReach (35): the unknown ty is solved by a.
-fn reach(q: &[u32], work: &mut [u32], st: State, g: Span, s: Side, a: usize, ty: usize) -> Step
+fn reach(
+    q: &[u32],
+    work: &mut [u32],
+    h: Here,
+    st: State,
+    g: Span,
+    s: Side,
+    a: usize,
+    ty: usize,
+) -> Step
     requires { ⌜ ReachPre (side s) (now q) (now work) st g a ty ⌝ }
-    ensures { λ z. ⌜ FiresBoth (now (q .entry)) (now (work .entry)) (now (work .exit)) st g (instAsk (side s) a ty) z ⌝ }
+    ensures { λ z. ⌜ Fires h (now (q .entry)) (now (work .entry)) (now (work .exit)) st g (instAsk (side s) a ty) z ⌝ }
 {
     let rule = first(s) + 1;
     let y = types::name_of(q, work, st.top, ty);
-    solved(work, st, g, y, a, rule)
+    solved(work, h, st, g, y, a, rule)
 }
 
 // An unknown against the unknown ty: reached where a stands later, else solved.
-fn meet(q: &[u32], work: &mut [u32], st: State, g: Span, s: Side, a: usize, ty: usize) -> Step
+fn meet(
+    q: &[u32],
+    work: &mut [u32],
+    h: Here,
+    st: State,
+    g: Span,
+    s: Side,
+    a: usize,
+    ty: usize,
+) -> Step
     requires { ⌜ FormPre (side s) (now q) (now work) st g a ty 4 ⌝ }
-    ensures { λ z. ⌜ FiresBoth (now (q .entry)) (now (work .entry)) (now (work .exit)) st g (instAsk (side s) a ty) z ⌝ }
+    ensures { λ z. ⌜ Fires h (now (q .entry)) (now (work .entry)) (now (work .exit)) st g (instAsk (side s) a ty) z ⌝ }
 {
     let top = st.top;
     let x = types::name_of(q, work, top, a);
     let y = types::name_of(q, work, top, ty);
     let reaches = contexts::before(work, g, x, y);
     if reaches {
-        return reach(q, work, st, g, s, a, ty);
+        return reach(q, work, h, st, g, s, a, ty);
     }
-    solve(q, work, st, g, s, a, ty)
+    solve(q, work, h, st, g, s, a, ty)
 }
 
 // The unknown a on the left of ty.
-pub fn inst_l(q: &[u32], work: &mut [u32], st: State, g: Span, a: usize, ty: usize) -> Step
+pub fn inst_l(q: &[u32], work: &mut [u32], h: Here, st: State, g: Span, a: usize, ty: usize) -> Step
     requires { ⌜ JudgePre (now q) (now work) st g (instAsk onL a ty) ⌝ }
-    ensures { λ z. ⌜ JudgedBoth (now (q .entry)) (now (work .entry)) (now (work .exit)) st g (instAsk onL a ty) z ⌝ }
+    ensures { λ z. ⌜ Judged h (now (q .entry)) (now (work .entry)) (now (work .exit)) st g (instAsk onL a ty) z ⌝ }
 {
-    inst(q, work, st, g, Side::L, a, ty)
+    inst(q, work, h, st, g, Side::L, a, ty)
 }
 
 // The unknown a on the right of ty.
-pub fn inst_r(q: &[u32], work: &mut [u32], st: State, g: Span, ty: usize, a: usize) -> Step
+pub fn inst_r(q: &[u32], work: &mut [u32], h: Here, st: State, g: Span, ty: usize, a: usize) -> Step
     requires { ⌜ JudgePre (now q) (now work) st g (instAsk onR a ty) ⌝ }
-    ensures { λ z. ⌜ JudgedBoth (now (q .entry)) (now (work .entry)) (now (work .exit)) st g (instAsk onR a ty) z ⌝ }
+    ensures { λ z. ⌜ Judged h (now (q .entry)) (now (work .entry)) (now (work .exit)) st g (instAsk onR a ty) z ⌝ }
 {
-    inst(q, work, st, g, Side::R, a, ty)
+    inst(q, work, h, st, g, Side::R, a, ty)
 }
 
 // The one of the two that has the unknown on side s.
-fn on_side(q: &[u32], work: &mut [u32], st: State, g: Span, s: Side, a: usize, ty: usize) -> Step
+fn on_side(
+    q: &[u32],
+    work: &mut [u32],
+    h: Here,
+    st: State,
+    g: Span,
+    s: Side,
+    a: usize,
+    ty: usize,
+) -> Step
     requires { ⌜ JudgePre (now q) (now work) st g (instAsk (side s) a ty) ⌝ }
-    ensures { λ z. ⌜ JudgedBoth (now (q .entry)) (now (work .entry)) (now (work .exit)) st g (instAsk (side s) a ty) z ⌝ }
+    ensures { λ z. ⌜ Judged h (now (q .entry)) (now (work .entry)) (now (work .exit)) st g (instAsk (side s) a ty) z ⌝ }
 {
     match s {
-        Side::L => inst_l(q, work, st, g, a, ty),
-        Side::R => inst_r(q, work, st, g, ty, a),
+        Side::L => inst_l(q, work, h, st, g, a, ty),
+        Side::R => inst_r(q, work, h, st, g, ty, a),
     }
 }
 
 // Both, over the side: enters, asks the rule that fits, leaves.
-pub fn inst(q: &[u32], work: &mut [u32], st: State, g: Span, s: Side, a: usize, ty: usize) -> Step
+pub fn inst(
+    q: &[u32],
+    work: &mut [u32],
+    h: Here,
+    st: State,
+    g: Span,
+    s: Side,
+    a: usize,
+    ty: usize,
+) -> Step
     requires { ⌜ JudgePre (now q) (now work) st g (instAsk (side s) a ty) ⌝ }
-    ensures { λ z. ⌜ JudgedBoth (now (q .entry)) (now (work .entry)) (now (work .exit)) st g (instAsk (side s) a ty) z ⌝ }
+    ensures { λ z. ⌜ Judged h (now (q .entry)) (now (work .entry)) (now (work .exit)) st g (instAsk (side s) a ty) z ⌝ }
 {
     let Entered::In(inner) = judging::enter(st, g) else {
         return Step::Spent;
     };
-    let z = inst_rule(q, work, inner, g, s, a, ty);
-    let Step::Done(r) = z else {
-        return z;
-    };
-    let node = inner.low;
+    let z = inst_rule(q, work, h, inner, g, s, a, ty);
     let ask = asked(s, a, ty);
-    judging::leave(work, node, g, ask, r)
+    judging::leave(work, st, g, ask, z)
 }
 
 // The rule that fits, by the type's code.
-fn inst_rule(q: &[u32], work: &mut [u32], st: State, g: Span, s: Side, a: usize, ty: usize) -> Step
+fn inst_rule(
+    q: &[u32],
+    work: &mut [u32],
+    h: Here,
+    st: State,
+    g: Span,
+    s: Side,
+    a: usize,
+    ty: usize,
+) -> Step
     requires { ⌜ RulePre (now q) (now work) st g (instAsk (side s) a ty) ⌝ }
-    ensures { λ z. ⌜ FiresBoth (now (q .entry)) (now (work .entry)) (now (work .exit)) st g (instAsk (side s) a ty) z ⌝ }
+    ensures { λ z. ⌜ Fires h (now (q .entry)) (now (work .entry)) (now (work .exit)) st g (instAsk (side s) a ty) z ⌝ }
 {
     let k = types::tag(q, work, st.top, ty);
     match k {
-        4 => meet(q, work, st, g, s, a, ty),
-        5 => inst_arr(q, work, st, g, s, a, ty),
-        6 => inst_all(q, work, st, g, s, a, ty),
-        _ => solve(q, work, st, g, s, a, ty),
+        4 => meet(q, work, h, st, g, s, a, ty),
+        5 => inst_arr(q, work, h, st, g, s, a, ty),
+        6 => inst_all(q, work, h, st, g, s, a, ty),
+        _ => solve(q, work, h, st, g, s, a, ty),
     }
 }
 
 // InstLArr (32), InstRArr (36): a becomes an arrow of unknowns, the first to be of the left half on the other side, the second of the right
 // half, applied.
-fn inst_arr(q: &[u32], work: &mut [u32], st: State, g: Span, s: Side, a: usize, ty: usize) -> Step
+fn inst_arr(
+    q: &[u32],
+    work: &mut [u32],
+    h: Here,
+    st: State,
+    g: Span,
+    s: Side,
+    a: usize,
+    ty: usize,
+) -> Step
     requires { ⌜ FormPre (side s) (now q) (now work) st g a ty 5 ⌝ }
-    ensures { λ z. ⌜ FiresBoth (now (q .entry)) (now (work .entry)) (now (work .exit)) st g (instAsk (side s) a ty) z ⌝ }
+    ensures { λ z. ⌜ Fires h (now (q .entry)) (now (work .entry)) (now (work .exit)) st g (instAsk (side s) a ty) z ⌝ }
 {
     let rule = first(s) + 2;
     let back = other(s);
@@ -194,12 +258,12 @@ fn inst_arr(q: &[u32], work: &mut [u32], st: State, g: Span, s: Side, a: usize, 
     let left = types::left_of(q, work, top, ty);
     let right = types::right_of(q, work, top, ty);
     let x = types::name_of(q, work, top, a);
-    let o = steps::part(q, work, st, g, x);
+    let o = rules::part(q, work, h, st, g, x);
     let st1 = o.st;
     let g1 = o.g;
     let b = o.b;
     let c = o.c;
-    let z = on_side(q, work, st1, g1, back, b, left);
+    let z = on_side(q, work, h, st1, g1, back, b, left);
     let Step::Done(r) = z else {
         return z;
     };
@@ -208,31 +272,40 @@ fn inst_arr(q: &[u32], work: &mut [u32], st: State, g: Span, s: Side, a: usize, 
     let Made::Done(st3, applied) = substitution::apply_ctx_type(q, work, st2, g2, right) else {
         return Step::Spent;
     };
-    let y = on_side(q, work, st3, g2, s, c, applied);
+    let y = on_side(q, work, h, st3, g2, s, c, applied);
     let Step::Done(u) = y else {
         return y;
     };
-    steps::through(u, rule, 2)
+    rules::plain_out(u.st, u.g, INT, rule, 2)
 }
 
 // InstLAllR (33), InstRAllL (37): the Forall, on the other side, opened; of the output what stands right of what opening pushed.
-fn inst_all(q: &[u32], work: &mut [u32], st: State, g: Span, s: Side, a: usize, ty: usize) -> Step
+fn inst_all(
+    q: &[u32],
+    work: &mut [u32],
+    h: Here,
+    st: State,
+    g: Span,
+    s: Side,
+    a: usize,
+    ty: usize,
+) -> Step
     requires { ⌜ FormPre (side s) (now q) (now work) st g a ty 6 ⌝ }
-    ensures { λ z. ⌜ FiresBoth (now (q .entry)) (now (work .entry)) (now (work .exit)) st g (instAsk (side s) a ty) z ⌝ }
+    ensures { λ z. ⌜ Fires h (now (q .entry)) (now (work .entry)) (now (work .exit)) st g (instAsk (side s) a ty) z ⌝ }
 {
     let rule = first(s) + 3;
     let back = other(s);
-    let Instance::Of(o) = steps::open_on(q, work, st, g, back, ty) else {
+    let Instance::Of(o) = rules::open_on(q, work, h, st, g, back, ty) else {
         return Step::Spent;
     };
     let st1 = o.st;
     let g1 = o.g;
     let b = o.b;
     let body = o.ty;
-    let z = on_side(q, work, st1, g1, s, a, body);
+    let z = on_side(q, work, h, st1, g1, s, a, body);
     let Step::Done(r) = z else {
         return z;
     };
-    let k = steps::pushed(back, b);
-    steps::right_alone(work, r, k, rule)
+    let k = rules::pushed(back, b);
+    rules::keep_out(work, false, r, k, INT, rule, 1)
 }

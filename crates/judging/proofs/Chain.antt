@@ -18,10 +18,10 @@ use Rattle.layout.proofs.Denotes.{base-frame}
 use Rattle.judging.specs.declared.Ask.{Ask}
 use Rattle.judging.specs.declared.Answer.{Answer}
 use Rattle.judging.specs.declared.Bad.{Bad}
-use Rattle.judging.specs.declared.Mode.{Mode}
+use Rattle.judging.specs.declared.Here.{Here}
 use Rattle.judging.specs.declared.Step.{Step}
 use Rattle.judging.specs.declared.Step.the-variants.{Done, Fail, Spent}
-use Rattle.judging.specs.Asking.{mode, Asks, Ready, RulePre}
+use Rattle.judging.specs.Asking.{here, Asks, Ready, RulePre}
 use Rattle.judging.specs.Nodes.{NodesAt, no-nodes}
 use Rattle.judging.specs.Ending.{Landed, Failed, fired, refused, out, RunsR, Judged, Fires}
 use Rattle.judging.proofs.Nodes.{nodes-frame, nodes-join, nodes-at, _+++_}
@@ -72,16 +72,16 @@ built s₂ so kp up lo le = record {
 
 -- ## A judgement that was asked on the way
 
-module _ {m : Mode} {q w w₁ w₂ : List ℕ} {s s₁ : State} {ts : Trees} {g₁ : Span} {a₁ : Ask} {z : Step} (so : Sofar q w w₁ s s₁ ts)
+module _ {m : Here} {q w w₁ w₂ : List ℕ} {s s₁ : State} {ts : Trees} {g₁ : Span} {a₁ : Ask} {z : Step} (so : Sofar q w w₁ s s₁ ts)
     (call : Judged m q w₁ w₂ s₁ g₁ a₁ z) {i : Judgement} (asks : Asks q w₁ (s₁ .top) g₁ a₁ i) where
   -- it did not end well
-  pub ended : NotDone z → (k : Result → M Fired) → RunsR q w w₂ s z (andThen (judge (mode m) i (s₁ .left) (s₁ .fresh)) k)
+  pub ended : NotDone z → (k : Result → M Fired) → RunsR q w w₂ s z (andThen (judge (here m) i (s₁ .left) (s₁ .fresh)) k)
   ended nd k = record {
     keep = keep-trans (so .keep) (keep-less (so .up) (so .down) (call .run i asks .keep));
     ends = else-ends k (call .run i asks .ends) nd;
   }
 
-  pub gave : {r : Answer} → z ≡ Done r → Came q w₂ s₁ r (judge (mode m) i (s₁ .left) (s₁ .fresh))
+  pub gave : {r : Answer} → z ≡ Done r → Came q w₂ s₁ r (judge (here m) i (s₁ .left) (s₁ .fresh))
   gave d = came (call .run i asks .ends) d
 
   -- it came back
@@ -106,12 +106,12 @@ pub refuses : {q w w₁ : List ℕ} {s s₁ : State} {ts : Trees} {b : Bad} {x :
     → (R : Out Fired) → R ≡ fail x l → RunsR q w w₁ s (Fail b) R
 refuses so f R e = record { keep = so .keep; ends = rw e (refused f) }
 
-pub fires : {q w w₁ : List ℕ} {s : State} {ts : Trees} (s₁ : State) (g₁ : Span) (ty : ℕ) (r : Rule) {C : Ty} {Δ : Ctx} → Sofar q w w₁ s s₁ ts
+pub fires : {q w w₁ : List ℕ} {s : State} {ts : Trees} (s₁ : State) (g₁ : Span) (ty : ℕ) (r : Rule) {u : ℕ} {C : Ty} {Δ : Ctx} → Sofar q w w₁ s s₁ ts
     → Room q w₁ s₁ 4 → children ts < 5 → Run q w₁ (s₁ .top) (g₁ .at) (g₁ .n) Δ → Den q w₁ (s₁ .top) ty C
     → (R : Out Fired) → R ≡ done (r, C, Δ, ts) (s₁ .left) (s₁ .fresh)
-    → RunsR q w w₁ s (Done (record { st = s₁; g = g₁; ty = ty; rule = ruleNumber r; kids = children ts })) R
-fires {q} {w} {w₁} {s} {ts} s₁ g₁ ty r {C} {Δ} so rm few rn dn R e =
-    let a : Answer = record { st = s₁; g = g₁; ty = ty; rule = ruleNumber r; kids = children ts } in
+    → RunsR q w w₁ s (Done (record { st = s₁; g = g₁; ty = ty; rule = ruleNumber r; kids = children ts; charge = u })) R
+fires {q} {w} {w₁} {s} {ts} s₁ g₁ ty r {u} {C} {Δ} so rm few rn dn R e =
+    let a : Answer = record { st = s₁; g = g₁; ty = ty; rule = ruleNumber r; kids = children ts; charge = u } in
     let y : Landed q w₁ s a 4 C Δ ts (s₁ .left) (s₁ .fresh) =
     record {
       run = rn;
@@ -127,5 +127,5 @@ fires {q} {w} {w₁} {s} {ts} s₁ g₁ ty r {C} {Δ} so rm few rn dn R e =
     record { keep = so .keep; ends = rw e (fired refl refl few y) }
 
 -- work is as long as it was
-pub as-long : {m : Mode} {q w w′ : List ℕ} {s : State} {g : Span} {a : Ask} {z : Step} → RulePre q w s g a → Fires m q w w′ s g a z → length w′ ≡ length w
+pub as-long : {m : Here} {q w w′ : List ℕ} {s : State} {g : Span} {a : Ask} {z : Step} → RulePre q w s g a → Fires m q w w′ s g a z → length w′ ≡ length w
 as-long rule fires = sym (fires .run _ (rule .asks) .keep .long)

@@ -7,8 +7,10 @@ use native.Mathlib.Omega.{arith}
 use lib.ListN.{length}
 use Rattle.definition.specs.Syntax
 use Rattle.definition.specs.Syntax.{Judgement, given, Rule, ruleNumber, node, leaf, _&_, children}
-use Rattle.definition.specs.Run.{Out}
-use Rattle.definition.specs.Rules.{Fired, rule, judge}
+use Rattle.definition.specs.Run.{done, stop}
+use Rattle.definition.specs.Rules.{rule, judge}
+use Rattle.laws.specs.Count.{charged}
+use Rattle.laws.proofs.Depth.{judge-left}
 use Rattle.layout.specs.Words.{Keep}
 use Rattle.layout.specs.Denotes.{Den, Run}
 use Rattle.layout.specs.declared.Span.{Span}
@@ -17,15 +19,16 @@ use Rattle.layout.proofs.Words.{keep-refl, keep-less, keep-trans}
 use Rattle.layout.proofs.Denotes.{den-frame, den-small, run-frame, base-frame}
 use Rattle.judging.specs.declared.Ask.{Ask}
 use Rattle.judging.specs.declared.Answer.{Answer}
-use Rattle.judging.specs.declared.Mode.{Mode}
+use Rattle.judging.specs.declared.Bad.{Bad}
+use Rattle.judging.specs.declared.Here.{Here}
 use Rattle.judging.specs.declared.Step.{Step}
-use Rattle.judging.specs.declared.Step.the-variants.{Done, Spent}
-use Rattle.judging.specs.Asking.{mode, Asks, JudgePre, RulePre}
+use Rattle.judging.specs.declared.Step.the-variants.{Done, Fail, Spent}
+use Rattle.judging.specs.Asking.{here, Asks, JudgePre, RulePre}
 use Rattle.judging.specs.Nodes.{NodeAt, NodesAt, no-nodes, a-node}
-use Rattle.judging.specs.Ending.{Landed, EndsJ, landed, failed, ran-out, EndsR, fired, refused, out, RunsJ, Judged, Fires}
-use Rattle.judging.specs.Leaving.{Entering, inner, LeavePre, paid, Left, unpaid-out, wrote}
+use Rattle.judging.specs.Ending.{Landed, landed, failed, ran-out, RunsJ, chargeOf, Judged, Fires}
+use Rattle.judging.specs.Leaving.{Entering, inner, ConcludePre, leaving, Concludes, unpaid-out, wrote, failing}
 use Rattle.judging.proofs.Nodes.{asks-frame, asks-run, nodes-frame}
-use Rattle.judging.proofs.Steps.{NotDone, no-done, step-none, step-stop, step-fail, step-unpaid, step-paid, FiredBy, fired-by}
+use Rattle.judging.proofs.Steps.{step-none, step-stop, step-fail, step-unpaid, step-paid, FiredBy, fired-by, FailsBy, refused-by, out-by, failed-again}
 
 -- ## Entering
 
@@ -34,12 +37,15 @@ may-enter pre =
     let b = asks-run (pre .asks) .below in
     record { node = λ h. omega (arith, pre .ready .fits); entries = omega (arith, pre .ready .over, pre .ready .low, pre .ready .cap) }
 
-pub judge-spent : {m : Mode} {q w : List ℕ} {s : State} {g : Span} {a : Ask} → s .left ≤ g .n → Judged m q w w s g a Spent
-judge-spent {m} {s = s} h = record {
-  run = λ j k.
-      let c = asks-run k .count in
-      record { keep = keep-refl _ _ _; ends = rw (step-none (mode m) j (s .left) (s .fresh) (omega arith)) ran-out };
+pub judge-spent : {m : Here} {q w : List ℕ} {s : State} {g : Span} {a : Ask} → s .left ≤ g .n → Judged m q w w s g a Spent
+unfolding charged
+judge-spent {m} {q} {w} {s} {g} {a} h = record {
+  run = λ j k. record { keep = keep-refl _ _ _; ends = rw (stops k) ran-out };
+  charge = λ j k. rw (stops k) refl;
 }
+  where
+    stops : {j : Judgement} → Asks q w (s .top) g a j → judge (here m) j (s .left) (s .fresh) ≡ stop
+    stops {j} k = let c = asks-run k .count in step-none (here m) j (s .left) (s .fresh) (omega arith)
 
 rule-small : (r : Rule) → ruleNumber r < 38
 unfolding ruleNumber
@@ -110,26 +116,44 @@ module _ {q w : List ℕ} {s : State} {g : Span} {a : Ask} (pre : JudgePre q w s
   less : {j : Judgement} → Asks q w (s .top) g a j → s .left - (g .n + 1) ≡ s .left - (1 + length (given j))
   less k = let c = asks-run k .count in omega arith
 
-  module _ {m : Mode} {w₁ : List ℕ} {z₁ : Step} (call : Fires m q w w₁ (inner s g) g a z₁) where
+  module _ {m : Here} {w₁ : List ℕ} {z₁ : Step} (call : Fires m q w w₁ (inner s g) g a z₁) where
     keep₁ : {j : Judgement} → Asks q w (s .top) g a j → Keep (s .top) (s .low) w w₁
     keep₁ {j} k = keep-less (le-refl _) (omega (arith, deep)) (call .run j k .keep)
 
-    -- the rule did not end well
-    pub judge-else : NotDone z₁ → Judged m q w w₁ s g a z₁
-    judge-else nd = record { run = λ j k. record { keep = keep₁ k; ends = go j k refl (call .run j k .ends) nd } }
+    -- a judgement ends in a type error as its rule does
+    module _ {b : Bad} (d₁ : z₁ ≡ Fail b) where
+      fails : (j : Judgement) (k : Asks q w (s .top) g a j) → FailsBy q w₁ b (judge (here m) j (s .left) (s .fresh))
+      fails j k =
+          let f = refused-by (call .run j k .ends) d₁ in
+          record { e = f .e; is = step-fail (here m) j (s .left) (s .fresh) _ (cost k) (less k) (f .is); fails = f .fails }
+
+      pub fail-pre : b .st .left ≤ s .left
+      fail-pre = let f = fails (pre .j) (pre .asks) in rw (f .is) at (judge-left (here m) (pre .j) (s .left) (s .fresh))
+
+      pub judge-fail : Judged m q w w₁ s g a (Fail (failing s b))
+      unfolding charged
+      judge-fail = record {
+        run = λ j k. let f = fails j k in record { keep = keep₁ k; ends = rw (f .is) (failed (failed-again (f .fails))) };
+        charge = λ j k. let f = fails j k in rw (f .is) refl;
+      }
+
+    -- and runs out as its rule does
+    pub judge-out : z₁ ≡ Spent → Judged m q w w₁ s g a Spent
+    unfolding charged
+    judge-out d₁ = record {
+      run = λ j k. record { keep = keep₁ k; ends = rw (stops k) ran-out };
+      charge = λ j k. rw (stops k) refl;
+    }
       where
-        go : (j : Judgement) → Asks q w (s .top) g a j → {z : Step} {R : Out Fired} → rule (mode m) (judge (mode m)) j (s .left - (g .n + 1)) (s .fresh) ≡ R
-            → EndsR q w₁ (inner s g) z R → NotDone z → EndsJ q w₁ s z (judge (mode m) j (s .left) (s .fresh))
-        go j k e (fired {a = b} p u v y) h = absurd (no-done b h)
-        go j k e (refused f) h = rw (step-fail (mode m) j (s .left) (s .fresh) _ (cost k) (less k) e) (failed f)
-        go j k e out h = rw (step-stop (mode m) j (s .left) (s .fresh) _ (cost k) (less k) e) ran-out
+        stops : {j : Judgement} → Asks q w (s .top) g a j → judge (here m) j (s .left) (s .fresh) ≡ stop
+        stops {j} k = step-stop (here m) j (s .left) (s .fresh) _ (cost k) (less k) (out-by (call .run j k .ends) d₁)
 
     module _ {r : Answer} (d₁ : z₁ ≡ Done r) where
-      by : (j : Judgement) (k : Asks q w (s .top) g a j) → FiredBy q w₁ (inner s g) r (rule (mode m) (judge (mode m)) j (s .left - (g .n + 1)) (s .fresh))
+      by : (j : Judgement) (k : Asks q w (s .top) g a j) → FiredBy q w₁ (inner s g) r (rule (here m) (judge (here m)) j (s .left - (g .n + 1)) (s .fresh))
       by j k = fired-by (call .run j k .ends) d₁
 
-      pub leave-pre : LeavePre w₁ (s .low - 12) g a r
-      leave-pre =
+      pub conclude-pre : ConcludePre w₁ s g a r
+      conclude-pre =
           let f = by (pre .j) (pre .asks) in
           let x = f .land in
           let lw = call .run (pre .j) (pre .asks) .keep .long in
@@ -137,7 +161,8 @@ module _ {q w : List ℕ} {s : State} {g : Span} {a : Ask} (pre : JudgePre q w s
           let b = asks-run (pre .asks) .below in
           let u = den-small (x .den) in
           record {
-            node = omega (arith, pre .ready .low);
+            node = deep;
+            within = omega (arith, pre .ready .low);
             small = pre .small;
             at = omega (arith, pre .ready .over, pre .ready .low, pre .ready .cap);
             n = omega (arith, pre .ready .over, pre .ready .low, pre .ready .cap);
@@ -146,23 +171,38 @@ module _ {q w : List ℕ} {s : State} {g : Span} {a : Ask} (pre : JudgePre q w s
             res = omega (arith, x .room .fits, x .room .low, x .room .cap);
             rule = omega (arith, f .rule-is, rule-small (f .r));
             kids = omega (arith, f .kids-is, f .few);
+            less = omega (arith, x .less);
           }
 
       -- the node is written, and the judgement is the definition's
-      pub judge-done : {w₂ : List ℕ} {z : Step} → Left w₁ w₂ (s .low - 12) g a r z → Judged m q w w₂ s g a z
-      judge-done (unpaid-out h e) = record {
-        run = λ j k.
-            let f = by j k in
-            let c = f .land .run .count in
-            let l = f .land .left in
-            rw e (record {
-              keep = keep₁ k;
-              ends = rw (step-unpaid (mode m) j (s .left) (s .fresh) _ (cost k) (less k) (f .Δ) (f .is) (omega arith)) ran-out;
-            });
-      }
-      judge-done {w₂} (wrote h kp ws) = record { run = λ j k. go j k }
+      pub judge-done : {w₂ : List ℕ} {z : Step} → Concludes w₁ w₂ s g a r z → Judged m q w w₂ s g a z
+      unfolding charged
+      judge-done (unpaid-out h e) = record { run = λ j k. rw e (record { keep = keep₁ k; ends = rw (stops k) ran-out }); charge = λ j k. rw (stops k) refl }
         where
-          go : (j : Judgement) → Asks q w (s .top) g a j → RunsJ q w w₂ s (Done (paid r)) (judge (mode m) j (s .left) (s .fresh))
+          stops : {j : Judgement} → Asks q w (s .top) g a j → judge (here m) j (s .left) (s .fresh) ≡ stop
+          stops {j} k =
+              let f = by j k in
+              let c = f .land .run .count in
+              let l = f .land .left in
+              step-unpaid (here m) j (s .left) (s .fresh) _ (cost k) (less k) (f .Δ) (f .is) (omega arith)
+      judge-done {w₂} (wrote h kp ws) = record { run = λ j k. go j k; charge = λ j k. pays j k }
+        where
+          ends : {j : Judgement} (k : Asks q w (s .top) g a j)
+              → let f = by j k in judge (here m) j (s .left) (s .fresh) ≡ done (f .C, f .Δ, node (f .r) j (f .C) (f .Δ) (f .ts)) (f .l - length (f .Δ)) (f .n)
+          ends {j} k =
+              let f = by j k in
+              let c = f .land .run .count in
+              let lf = f .land .left in
+              step-paid (here m) j (s .left) (s .fresh) _ (cost k) (less k) (f .Δ) (f .is) (omega arith)
+
+          pays : (j : Judgement) → Asks q w (s .top) g a j → chargeOf (Done (leaving s r)) ≡ charged (s .left) (judge (here m) j (s .left) (s .fresh))
+          pays j k =
+              let f = by j k in
+              let c = f .land .run .count in
+              let lf = f .land .left in
+              rw (ends k, ← lf, ← c) refl
+
+          go : (j : Judgement) → Asks q w (s .top) g a j → RunsJ q w w₂ s (Done (leaving s r)) (judge (here m) j (s .left) (s .fresh))
           go j k =
               let f = by j k in
               let x = f .land in
@@ -190,7 +230,7 @@ module _ {q w : List ℕ} {s : State} {g : Span} {a : Ask} (pre : JudgePre q w s
               let ns : NodesAt q w₂ (r .st .top) (r .st .low) (s .low) (node (f .r) j (f .C) (f .Δ) (f .ts) & leaf) =
               a-node {m = s .low - 12} {hi = s .low} (omega arith) (x .down) nd below (le-refl _) (no-nodes refl) in
               let lf = x .left in
-              let y : Landed q w₂ s (paid r) (4 * r .g .n + 4) (f .C) (f .Δ) (node (f .r) j (f .C) (f .Δ) (f .ts) & leaf) (f .l - length (f .Δ)) (f .n) =
+              let y : Landed q w₂ s (leaving s r) (4 * r .g .n + 4) (f .C) (f .Δ) (node (f .r) j (f .C) (f .Δ) (f .ts) & leaf) (f .l - length (f .Δ)) (f .n) =
               record {
                 run = run₂;
                 den = den₂;
@@ -210,5 +250,5 @@ module _ {q w : List ℕ} {s : State} {g : Span} {a : Ask} (pre : JudgePre q w s
               } in
               record {
                 keep = kk;
-                ends = rw (step-paid (mode m) j (s .left) (s .fresh) _ (cost k) (less k) (f .Δ) (f .is) (omega arith)) (landed y);
+                ends = rw (ends k) (landed y);
               }

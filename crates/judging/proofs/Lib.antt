@@ -5,3 +5,5 @@ pub mod Steps
 pub mod Chain
 pub mod Judgements
 pub mod Whole
+pub mod Entries
+pub mod Paying

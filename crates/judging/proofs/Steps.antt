@@ -8,16 +8,16 @@ use lib.ListN.{length}
 use denote.Enum.Declared
 use types.Run.{OneOf}
 use Rattle.definition.specs.Syntax.{Ty, Ctx, Judgement, given, Rule, ruleNumber, Tree, node, Trees, leaf, _&_, children, TypeError}
-use Rattle.definition.specs.Question as question
 use Rattle.definition.specs.Run.{Out, done, fail, stop, M, andThen, _>>=_, give, charge}
-use Rattle.definition.specs.Rules.{Fired, Result, rule, judgeStep, judge}
+use Rattle.definition.specs.Rules.{Fired, Result, Here, rule, judgeStep, judge}
 use Rattle.laws.proofs.Steps.{charge-yes, charge-no, bind-done, bind-fail, bind-stop}
 use Rattle.laws.proofs.Depth.{judge-eq}
 use Rattle.layout.specs.declared.State.{State}
 use Rattle.judging.specs.declared.Answer.{Answer}
+use Rattle.judging.specs.declared.Bad.{Bad}
 use Rattle.judging.specs.declared.Step.{Step}
-use Rattle.judging.specs.declared.Step.the-variants.{Done}
-use Rattle.judging.specs.Ending.{Landed, EndsJ, landed, failed, ran-out, EndsR, fired, refused, out}
+use Rattle.judging.specs.declared.Step.the-variants.{Done, Fail, Spent}
+use Rattle.judging.specs.Ending.{Landed, Failed, EndsJ, landed, failed, ran-out, EndsR, fired, refused, out}
 use Rattle.judging.proofs.Step as StepT
 
 -- ## An answer that is not Done: what the code's `else` knows
@@ -38,7 +38,7 @@ else-ends k ran-out h = out
 
 -- ## Entering, the rule, leaving
 
-module _ (μ : question.Mode) where
+module _ (μ : Here) where
   abbrev tail : Judgement → Fired → M Result
   tail j r = charge (length (r .2)) >>= λ v. give (r .1, r .2, node (r .0) j (r .1) (r .2) (r .3))
 
@@ -115,3 +115,33 @@ fired-by {q} {w′} {s} {z} {a} {R} h e = go (rw e at h)
       few = v;
       land = y;
     }
+
+-- ## What an answer that is Fail says
+
+pub record FailsBy {A : Type 0} (q w′ : List ℕ) (b : Bad) (R : Out A) : Type 0 where
+  pub e : TypeError
+  pub is : R ≡ fail e (b .st .left)
+  pub fails : Failed q w′ b e (b .st .left)
+
+pub failed-by : {q w′ : List ℕ} {s : State} {z : Step} {b : Bad} {R : Out Result} → EndsJ q w′ s z R → z ≡ Fail b → FailsBy q w′ b R
+failed-by {q} {w′} {s} {z} {b} {R} h d = go (rw d at h)
+  where
+    go : {S : Out Result} → EndsJ q w′ s (Fail b) S → FailsBy q w′ b S
+    go (failed {e = e} x) = record { e = e; is = rw (x .left) refl; fails = rw (← x .left) at x }
+
+pub refused-by : {q w′ : List ℕ} {s : State} {z : Step} {b : Bad} {R : Out Fired} → EndsR q w′ s z R → z ≡ Fail b → FailsBy q w′ b R
+refused-by {q} {w′} {s} {z} {b} {R} h d = go (rw d at h)
+  where
+    go : {S : Out Fired} → EndsR q w′ s (Fail b) S → FailsBy q w′ b S
+    go (refused {e = e} x) = record { e = e; is = rw (x .left) refl; fails = rw (← x .left) at x }
+
+pub out-by : {q w′ : List ℕ} {s : State} {z : Step} {R : Out Fired} → EndsR q w′ s z R → z ≡ Spent → R ≡ stop
+out-by {q} {w′} {s} h d = go (rw d at h)
+  where
+    go : {S : Out Fired} → EndsR q w′ s Spent S → S ≡ stop
+    go out = refl
+
+-- what was charged is no part of the error
+pub failed-again : {q w′ : List ℕ} {b : Bad} {e : TypeError} {l u : ℕ} → Failed q w′ b e l
+    → Failed q w′ (record { st = b .st; code = b .code; name = b .name; shown = b .shown; charge = u }) e l
+failed-again x = record { base = x .base; within = x .within; code = x .code; name = x .name; shown = x .shown; left = x .left }

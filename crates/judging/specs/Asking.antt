@@ -3,18 +3,34 @@ use mathlib.Core.Path.{_≡_}
 use mathlib.Core.List.{List}
 use Prim.Native.Nat.{ℕ, _+_, _*_, _≤_, _<_, _^_}
 use lib.ListN.{length}
-use Rattle.definition.specs.Syntax.{TyVar, Ty, etvar, Expr, Ctx, Side, onL, onR, Judgement, infer, check, inferApp, subtype, inst}
+use Rattle.definition.specs.Syntax.{TyVar, Ty, etvar, Binding, Expr, Ctx, Side, onL, onR, Judgement, infer, check, inferApp, subtype, inst}
 use Rattle.definition.specs.Question as question
+use Rattle.definition.specs.Contexts.{bindingKey, bindingType}
+use Rattle.definition.specs.Rules as rules
+use Rattle.definition.specs.Rules.{_from_}
+use Rattle.layout.specs.Names.{key}
 use Rattle.layout.specs.Places.{ExprAt}
-use Rattle.layout.specs.Denotes.{Den, Run, Base}
+use Rattle.layout.specs.Denotes.{Den, AsEntry, SmallEntry, Run, Base}
 use Rattle.layout.specs.Room.{Room}
+use Rattle.layout.specs.declared.Entry.{Entry}
+use Rattle.layout.specs.declared.Key.{Key}
 use Rattle.layout.specs.declared.Span.{Span}
 use Rattle.layout.specs.declared.State.{State}
 use Rattle.judging.specs.declared.Ask.{Ask}
+use Rattle.judging.specs.declared.Here.{Here}
 use Rattle.judging.specs.declared.Mode.{Mode}
 
 abbrev pub mode : Mode → question.Mode
 mode m = record { comparesParameter = m .«compares_parameter»; appliesBranches = m .«applies_branches» }
+
+-- what the program's judgement runs in
+abbrev pub here : Here → rules.Here
+here h = record { manner = mode (h .manner) }
+
+-- the entry that its rule pushes or solves there, by a key and a type reference
+pub record EntryFrom (h : Here) (k : Key) (r : ℕ) (e : Entry) : Type 0 where
+  pub small : r < 2 ^ 32 → SmallEntry e
+  pub is : {q w : List ℕ} {t : ℕ} {b : Binding} → bindingKey b ≡ key k → Den q w t r (bindingType b) → AsEntry q w t e (b from here h)
 
 pub data Asks (q w : List ℕ) (t : ℕ) (g : Span) (a : Ask) : Judgement → Type 0 where
   as-infer : {Γ : Ctx} {e : Expr} → a .kind ≡ 1 → Run q w t (g .at) (g .n) Γ → ExprAt q (a .ex) e → Asks q w t g a (infer Γ e)

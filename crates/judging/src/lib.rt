@@ -1,13 +1,32 @@
 // What the six judgements share: what is asked and what comes back, entering and leaving, the nodes of the tree.
+use layout::Entry;
+use layout::Key;
+use layout::Paid;
 use layout::Span;
 use layout::State;
 use layout::put4;
-ghost use Rattle.judging.specs.Leaving.{Entering, EnteredBy, LeavePre, Left};
+ghost use Rattle.judging.specs.Asking.{EntryFrom};
+ghost use Rattle.judging.specs.Leaving.{Entering, EnteredBy, ConcludePre, Concludes, LeavePre, Left};
+
+// The words of a node.
+pub const NODE: usize = 12;
 
 // What varies with the mode.
 pub struct Mode {
     pub compares_parameter: bool,
     pub applies_branches: bool,
+}
+
+// What a judgement runs in: the mode.
+pub struct Here {
+    pub manner: Mode,
+}
+
+// The entry that a rule pushes or solves here.
+pub fn entry(h: Here, k: Key, ty: usize) -> Entry
+    ensures { λ e. ⌜ EntryFrom h k ty e ⌝ }
+{
+    Entry { key: k, ty: ty }
 }
 
 // A judgement besides its context: its kind (1 to 6), the place of its expression, its left and its right type; 0 where there is none.
@@ -18,22 +37,31 @@ pub struct Ask {
     pub right: usize,
 }
 
-// What a rule gives: the output context, the result type (INT where there is none), the rule's number, how many children.
+// What a rule gives: the output context, the result type (INT where there is none), the rule's number, how many children. Its judgement
+// adds what it was charged, from entering on (0 before).
 pub struct Answer {
     pub st: State,
     pub g: Span,
     pub ty: usize,
     pub rule: usize,
     pub kids: usize,
+    pub charge: usize,
 }
 
-// A type error: its code, its name, its types.
+// The types that a type error shows, by reference.
+pub enum Shown {
+    NoType,
+    OneType(usize),
+    TwoTypes(usize, usize),
+}
+
+// A type error: its code, the name that it is about (0 where there is none), the types that it shows; and what the judgement was charged.
 pub struct Bad {
     pub st: State,
     pub code: usize,
     pub name: u32,
-    pub left: usize,
-    pub right: usize,
+    pub shown: Shown,
+    pub charge: usize,
 }
 
 // What a rule or a judgement comes to; Spent where the next charge would pass the budget.
@@ -54,60 +82,65 @@ pub fn enter(st: State, g: Span) -> Entered
     requires { ⌜ Entering st g ⌝ }
     ensures { λ e. ⌜ EnteredBy st g e ⌝ }
 {
-    let top = st.top;
-    let low = st.low;
-    let left = st.left;
-    let fresh = st.fresh;
     let n = g.n;
-    if left <= n {
+    let Paid::On(paid) = st.charge(n + 1) else {
         return Entered::Spent;
-    }
-    let cost = n + 1;
-    let less = left - cost;
-    let node = low - 12;
-    Entered::In(State {
-        top: top,
-        low: node,
-        left: less,
-        fresh: fresh,
-    })
+    };
+    let inner = paid.lower(NODE);
+    Entered::In(inner)
 }
 
-// Pays for the output context and writes the judgement's node at m.
-pub fn leave(work: &mut [u32], m: usize, g: Span, ask: Ask, r: Answer) -> Step
-    requires { ⌜ LeavePre (now work) m g ask r ⌝ }
-    ensures { λ z. ⌜ Left (now (work .entry)) (now (work .exit)) m g ask r z ⌝ }
+// Pays for the output context and writes the judgement's node; st is the state in which the judgement was asked.
+fn conclude(work: &mut [u32], st: State, g: Span, ask: Ask, r: Answer) -> Step
+    requires { ⌜ ConcludePre (now work) st g ask r ⌝ }
+    ensures { λ z. ⌜ Concludes (now (work .entry)) (now (work .exit)) st g ask r z ⌝ }
 {
-    let st = r.st;
+    let end = r.st;
     let h = r.g;
     let ty = r.ty;
     let rule = r.rule;
     let kids = r.kids;
-    let top = st.top;
-    let low = st.low;
-    let left = st.left;
-    let fresh = st.fresh;
     let out = h.at;
     let n2 = h.n;
-    if left < n2 {
+    let Paid::On(paid) = end.charge(n2) else {
         return Step::Spent;
-    }
-    let less = left - n2;
+    };
     let at = g.at;
     let n = g.n;
+    let m = st.low - NODE;
     put4(work, m, rule, kids, ask.ex, at);
     put4(work, m + 4, n, ask.left, ask.right, out);
     put4(work, m + 8, n2, ty, ask.kind, 0);
+    let charge = paid.charged_since(st);
     Step::Done(Answer {
-        st: State {
-            top: top,
-            low: low,
-            left: less,
-            fresh: fresh,
-        },
+        st: paid,
         g: h,
         ty: ty,
         rule: rule,
         kids: kids,
+        charge: charge,
     })
+}
+
+// A judgement comes to what its rule came to, z, with what it was charged; st is the state in which it was asked.
+pub fn leave(work: &mut [u32], st: State, g: Span, ask: Ask, z: Step) -> Step
+    requires { ⌜ LeavePre (now work) st g ask z ⌝ }
+    ensures { λ y. ⌜ Left (now (work .entry)) (now (work .exit)) st g ask z y ⌝ }
+{
+    match z {
+        Step::Done(r) => conclude(work, st, g, ask, r),
+        Step::Fail(b) => {
+            let end = b.st;
+            let shown = b.shown;
+            let charge = end.charged_since(st);
+            Step::Fail(Bad {
+                st: end,
+                code: b.code,
+                name: b.name,
+                shown: shown,
+                charge: charge,
+            })
+        }
+        Step::Spent => Step::Spent,
+    }
 }

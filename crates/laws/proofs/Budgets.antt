@@ -8,14 +8,14 @@ use native.Mathlib.Decide.{decLe}
 use mathlib.Core.Bool.{Bool, true, false}
 use lib.Dec.{leb, eqb}
 use Rattle.definition.specs.Syntax.{pick, TypeError, Ty, Ctx, Judgement}
-use Rattle.definition.specs.Question.{Mode, Question}
+use Rattle.definition.specs.Question.{Question}
 use Rattle.definition.specs.Run.{Out, done, fail, stop, M, andThen, _>>=_, give, refuse, halt, charge, fresh}
 use Rattle.definition.specs.Types.{applyTo, apply}
-use Rattle.definition.specs.Rules.{judgeStep, judgeTo, judge}
+use Rattle.definition.specs.Rules.{Here, outside, Rules, judgeStep, judgeTo, judgeBy, judge}
 use Rattle.definition.specs.Reply.{answer}
 use Rattle.laws.proofs.Steps.{charge-yes, charge-no}
-use Rattle.laws.proofs.Congruence.{Rel, Closed, applyStepR, ruleR}
-use Rattle.laws.proofs.Depth.{Upto, upto, apply-upto, judge-upto}
+use Rattle.laws.proofs.Congruence.{Rel, Closed, applyStepR, Congruent, rule-congruent}
+use Rattle.laws.proofs.Depth.{Upto, upto, apply-upto, judgeBy-upto}
 
 -- an end, a type error among others, that is charged k more
 unfoldable pub late : {A : Type 0} → ℕ → Out A → Out A
@@ -127,17 +127,21 @@ applyTo-steady (suc d) Γ A = bind-steady (charge-steady 1) (λ u. applyStepR Ea
 apply-steady : (Γ : Ctx) (A : Ty) → Steady (apply Γ A)
 apply-steady Γ A = from-depths (λ d. applyTo d Γ A) (apply Γ A) (λ d. applyTo-steady d Γ A) (λ d. apply-upto d d (le-refl d) Γ A)
 
-judgeTo-steady : (m : Mode) (d : ℕ) (j : Judgement) → Steady (judgeTo m d j)
-unfolding judgeTo judgeStep
-judgeTo-steady m zero j = halt-steady
-judgeTo-steady m (suc d) j =
-    bind-steady (charge-steady _) (λ u. bind-steady
-    (ruleR Each each apply-steady _ (λ i l n. judgeTo m d i l n) (judgeTo-steady m d) m j)
-    (λ r. bind-steady (charge-steady _) (λ v. give-steady _)))
+module _ {rules : Rules} (c : Congruent rules) where
+  judgeTo-steady : (d : ℕ) (h : Here) (j : Judgement) → Steady (judgeTo rules d h j)
+  unfolding judgeTo judgeStep
+  judgeTo-steady zero h j = halt-steady
+  judgeTo-steady (suc d) h j =
+      bind-steady (charge-steady _) (λ u. bind-steady
+      (c .keeps Each each apply-steady h _ (λ i l n. judgeTo rules d h i l n) (judgeTo-steady d h) j)
+      (λ r. bind-steady (charge-steady _) (λ v. give-steady _)))
 
--- each of the six judgements, in every mode
-pub judge-steady : (m : Mode) (j : Judgement) → Steady (judge m j)
-judge-steady m j = from-depths (λ d. judgeTo m d j) (judge m j) (λ d. judgeTo-steady m d j) (λ d. judge-upto m d j)
+  pub judgeBy-steady : (h : Here) (j : Judgement) → Steady (judgeBy rules h j)
+  judgeBy-steady h j = from-depths (λ d. judgeTo rules d h j) (judgeBy rules h j) (λ d. judgeTo-steady d h j) (λ d. judgeBy-upto c d h j)
+
+-- each of the six judgements, in whatever it runs
+pub judge-steady : (h : Here) (j : Judgement) → Steady (judge h j)
+judge-steady = judgeBy-steady rule-congruent
 
 pick-steady : {A : Type 0} (b : Bool) {x y : M A} → Steady x → Steady y → Steady (pick b x y)
 unfolding pick
@@ -148,7 +152,7 @@ pick-steady false h k = k
 pub answer-steady : (q : Question) → Steady (answer q)
 unfolding answer
 answer-steady q =
-    let h : Steady (judge (q .manner) (q .asks)) = judge-steady (q .manner) (q .asks) in
+    let h : Steady (judge (outside (q .manner)) (q .asks)) = judge-steady (outside (q .manner)) (q .asks) in
     pick-steady (eqb (q .kind) 7) (bind-steady h (λ r. bind-steady (apply-steady _ _) (λ A. give-steady _))) h
 
 -- ## One budget's end tells another's

@@ -10,9 +10,10 @@ use lib.Dec.{T, leb}
 use mir.Facts.{yes-leb, no-leb}
 use Rattle.definition.specs.Syntax.{pick, TmVar, TyVar, int, bool, var, etvar, arrow, forall, evar, app, abs, tapp, tabs, ann, litInt, litBool, letIn, ifThenElse, binOp, varBnd, tvarBnd, etvarBnd, setvarBnd, mark, onL, instantiationError}
 use Rattle.definition.specs.Run.{fail}
-use Rattle.definition.specs.Contexts.{keyOf, kindOf}
+use Rattle.definition.specs.Contexts.{bindingKey, kindOf}
 use Rattle.definition.specs.Types.{isMono}
-use Rattle.definition.specs.Rules.{tyCode, exprCode, solve}
+use Rattle.definition.specs.Question.{plain}
+use Rattle.definition.specs.Rules.{outside, tyCode, exprCode, solve}
 use Rattle.definition.specs.Reply.{Reply, refusal, reported, outReply, reply, reply-computes}
 use Rattle.definition.specs.Memory.{Call, call, memory-computes}
 use Rattle.definition.specs.Host.{HostCall, wordsOf, bytesOf, hostCall, host-computes}
@@ -150,7 +151,7 @@ pub codes :
     ∷ binOp 0 1 (litBool 0 0) (litBool 0 0)
     ∷ [])
     ≡ 16 ∷ 17 ∷ 18 ∷ 19 ∷ 20 ∷ 21 ∷ 22 ∷ 23 ∷ 24 ∷ 25 ∷ 26 ∷ [])
-    × (map (λ e. kindOf (keyOf e)) (varBnd x₁ int ∷ tvarBnd a₁ ∷ etvarBnd a₁ ∷ setvarBnd a₁ int ∷ mark a₁ ∷ []) ≡ 32 ∷ 33 ∷ 34 ∷ 35 ∷ 36 ∷ [])
+    × (map (λ b. kindOf (bindingKey b)) (varBnd x₁ int ∷ tvarBnd a₁ ∷ etvarBnd a₁ ∷ setvarBnd a₁ int ∷ mark a₁ ∷ []) ≡ 32 ∷ 33 ∷ 34 ∷ 35 ∷ 36 ∷ [])
 unfolding reply-computes
 codes = (refl, refl, refl)
 
@@ -158,7 +159,7 @@ codes = (refl, refl, refl)
 pub mono :
     (map isMono (int ∷ bool ∷ var a₁ ∷ etvar a₁ ∷ arrow int int ∷ arrow (forall a₁ int) int ∷ arrow int (forall a₁ int) ∷ forall a₁ int ∷ [])
     ≡ true ∷ true ∷ true ∷ true ∷ true ∷ false ∷ false ∷ false ∷ [])
-    × (solve onL [] a₂ (forall a₁ bool) 5 0 ≡ fail (instantiationError a₂ (forall a₁ bool)) 5)
+    × (solve (outside plain) onL [] a₂ (forall a₁ bool) 5 0 ≡ fail (instantiationError a₂ (forall a₁ bool)) 5)
     × (outReply 5 9 6 (fail (instantiationError a₂ (forall a₁ bool)) 5)
     ≡ record { code = 16; at = 2; len = 5; units = 4; report = 3 ∷ 6 ∷ 1 ∷ 2 ∷ 0 ∷ [] })
 unfolding reply-computes

@@ -4,11 +4,10 @@ use Prim.Native.Nat.{ℕ}
 use mathlib.Core.Bool.{Bool, true, false}
 use mathlib.Core.Option.{Option, none, some}
 use Rattle.definition.specs.Syntax.{pick, TmVar, TyVar, Ty, int, bool, var, etvar, arrow, forall, Expr, evar, app, abs, tapp, tabs, ann, litInt, litBool, letIn, ifThenElse, binOp, Ctx, Side, onL, onR, Judgement, infer, check, inferApp, subtype, inst, Rule, TypeError}
-use Rattle.definition.specs.Question.{Mode}
 use Rattle.definition.specs.Run.{M, _>>=_, give, refuse, charge, fresh}
 use Rattle.definition.specs.Contexts.{kSETVar, find}
 use Rattle.definition.specs.Types.{solutionOr, applyStep, apply, subst, sameName}
-use Rattle.definition.specs.Rules.{Fired, Result, Judge, closes, _orElse_, when, on, onBoth, solve, reach, instArrow, instForall, instRule, subArr, subAllR, subAllL, subInst, subtypeRule, parameter, chkLam, chkAll, chkSub, checkRule, infAppArr, infAppETVar, inferAppRule, infVar, infLam, infApp, infLet, branch, infIf, infBoth, infEq, infBinOp, infAnn, infTAbs, instantiate, infTApp, inferRule, rule}
+use Rattle.definition.specs.Rules.{Fired, Result, Judge, Here, Rules, closes, _orElse_, when, on, onBoth, solve, reach, instArrow, instForall, instRule, subArr, subAllR, subAllL, subInst, subtypeRule, parameter, chkLam, chkAll, chkSub, checkRule, infAppArr, infAppETVar, inferAppRule, infVar, infLam, infApp, infLet, branch, infIf, infBoth, infEq, infBinOp, infAnn, infTAbs, instantiate, infTApp, inferRule, rule}
 
 abbrev pub Rel : Type 1
 Rel = (A : Type 0) → M A → M A → Type 0
@@ -81,7 +80,7 @@ module _ (R : Rel) (c : Closed R) where
   applyStepR Γ ap ap′ h (arrow A B) = c .bindR (h A) (λ A′. c .bindR (h B) (λ B′. c .giveR (arrow A′ B′)))
   applyStepR Γ ap ap′ h (forall a A) = c .bindR (h A) (λ A′. c .giveR (forall a A′))
 
-  module _ (applyR : (Γ : Ctx) (A : Ty) → R Ty (apply Γ A) (apply Γ A)) (judge judge′ : Judge) (h : (j : Judgement) → R Result (judge j) (judge′ j)) where
+  module _ (applyR : (Γ : Ctx) (A : Ty) → R Ty (apply Γ A) (apply Γ A)) (h : Here) (judge judge′ : Judge) (p : (j : Judgement) → R Result (judge j) (judge′ j)) where
     -- ## Shapes that rules share
 
     closesR : (r : Rule) (Γ : Ctx) → R Fired (closes r Γ) (closes r Γ)
@@ -90,41 +89,41 @@ module _ (R : Rel) (c : Closed R) where
 
     -- one judgement, and what the rule gives then
     oneR : (j : Judgement) (f : Result → Fired) → R Fired (judge j >>= λ r. give (f r)) (judge′ j >>= λ r. give (f r))
-    oneR j f = c .bindR (h j) (λ r. c .giveR _)
+    oneR j f = c .bindR (p j) (λ r. c .giveR _)
 
     -- one judgement, and a second that depends on it
     twoR : (j : Judgement) (k : Result → Judgement) (f : Result → Result → Fired)
         → R Fired (judge j >>= λ r. (judge (k r) >>= λ r′. give (f r r′))) (judge′ j >>= λ r. (judge′ (k r) >>= λ r′. give (f r r′)))
-    twoR j k f = c .bindR (h j) (λ r. oneR (k r) (f r))
+    twoR j k f = c .bindR (p j) (λ r. oneR (k r) (f r))
 
     -- ## inst_l and inst_r
 
-    solveR : (s : Side) (Γ : Ctx) (a : TyVar) (A : Ty) → R Fired (solve s Γ a A) (solve s Γ a A)
+    solveR : (s : Side) (Γ : Ctx) (a : TyVar) (A : Ty) → R Fired (solve h s Γ a A) (solve h s Γ a A)
     unfolding solve
     solveR s Γ a A = pickR _ (pickR _ (c .refuseR _) (closesR _ _)) (c .refuseR _)
 
-    instForallR : (s : Side) (Γ : Ctx) (a b : TyVar) (A : Ty) → R Fired (instForall judge s Γ a b A) (instForall judge′ s Γ a b A)
+    instForallR : (s : Side) (Γ : Ctx) (a b : TyVar) (A : Ty) → R Fired (instForall h judge s Γ a b A) (instForall h judge′ s Γ a b A)
     unfolding instForall
     instForallR onL Γ a b A = oneR _ _
     instForallR onR Γ a b A = c .bindR (substR _ _ _) (λ A′. oneR _ _)
 
-    instRuleR : (s : Side) (Γ : Ctx) (a : TyVar) (A : Ty) → R Fired (instRule judge s Γ a A) (instRule judge′ s Γ a A)
+    instRuleR : (s : Side) (Γ : Ctx) (a : TyVar) (A : Ty) → R Fired (instRule h judge s Γ a A) (instRule h judge′ s Γ a A)
     unfolding instRule instArrow reach
     instRuleR s Γ a int = solveR s Γ a int
     instRuleR s Γ a bool = solveR s Γ a bool
     instRuleR s Γ a (var b) = solveR s Γ a (var b)
     instRuleR s Γ a (etvar b) = pickR _ (closesR _ _) (solveR s Γ a (etvar b))
     instRuleR s Γ a (arrow A B) =
-        c .bindR (c .freshR) (λ b. c .bindR (c .freshR) (λ d. c .bindR (h _) (λ r. c .bindR (applyR _ _) (λ B′. oneR _ _))))
+        c .bindR (c .freshR) (λ b. c .bindR (c .freshR) (λ d. c .bindR (p _) (λ r. c .bindR (applyR _ _) (λ B′. oneR _ _))))
     instRuleR s Γ a (forall b A) = instForallR s Γ a b A
 
     -- ## subtype
 
-    subInstR : (r : Rule) (s : Side) (Γ : Ctx) (T : Ty) (a : TyVar) → R Fired (subInst judge r s Γ T a) (subInst judge′ r s Γ T a)
+    subInstR : (r : Rule) (s : Side) (Γ : Ctx) (T : Ty) (a : TyVar) → R Fired (subInst h judge r s Γ T a) (subInst h judge′ r s Γ T a)
     unfolding subInst
     subInstR r s Γ T a = oneR _ _
 
-    subtypeRuleR : (Γ : Ctx) (A B : Ty) → R Fired (subtypeRule judge Γ A B) (subtypeRule judge′ Γ A B)
+    subtypeRuleR : (Γ : Ctx) (A B : Ty) → R Fired (subtypeRule h judge Γ A B) (subtypeRule h judge′ Γ A B)
     unfolding subtypeRule subArr subAllR subAllL
     subtypeRuleR Γ A B =
         orElseR (whenR _ (closesR _ _))
@@ -144,18 +143,18 @@ module _ (R : Rel) (c : Closed R) where
     parameterR false Γ A P = c .giveR _
     parameterR true Γ A P = c .bindR (applyR _ _) (λ P′. pickR _ (c .giveR _) (c .refuseR _))
 
-    checkRuleR : (m : Mode) (Γ : Ctx) (e : Expr) (B : Ty) → R Fired (checkRule m judge Γ e B) (checkRule m judge′ Γ e B)
+    checkRuleR : (Γ : Ctx) (e : Expr) (B : Ty) → R Fired (checkRule h judge Γ e B) (checkRule h judge′ Γ e B)
     unfolding checkRule chkAll chkLam chkSub
-    checkRuleR m Γ e B =
+    checkRuleR Γ e B =
         orElseR (whenR _ (closesR _ _))
         (orElseR (whenR _ (closesR _ _))
         (orElseR (onBothR _ _ (λ f P. c .bindR (parameterR _ _ _ _) (λ u. oneR _ _)))
         (orElseR (onArmR _ (λ P. oneR _ _))
-        (c .bindR (h _) (λ r. c .bindR (applyR _ _) (λ A′. c .bindR (applyR _ _) (λ B′. oneR _ _)))))))
+        (c .bindR (p _) (λ r. c .bindR (applyR _ _) (λ A′. c .bindR (applyR _ _) (λ B′. oneR _ _)))))))
 
     -- ## infer_app
 
-    inferAppRuleR : (Γ : Ctx) (e : Expr) (A : Ty) → R Fired (inferAppRule judge Γ e A) (inferAppRule judge′ Γ e A)
+    inferAppRuleR : (Γ : Ctx) (e : Expr) (A : Ty) → R Fired (inferAppRule h judge Γ e A) (inferAppRule h judge′ Γ e A)
     unfolding inferAppRule infAppArr infAppETVar
     inferAppRuleR Γ e A =
         orElseR (onArmR _ (λ P. oneR _ _))
@@ -178,35 +177,44 @@ module _ (R : Rel) (c : Closed R) where
     infVarR x Γ none = c .refuseR _
     infVarR x Γ (some A) = c .giveR _
 
-    infBothR : (r : Rule) (A C : Ty) (Γ : Ctx) (e e′ : Expr) → R Fired (infBoth judge r A C Γ e e′) (infBoth judge′ r A C Γ e e′)
+    infBothR : (r : Rule) (A C : Ty) (Γ : Ctx) (e e′ : Expr) → R Fired (infBoth h judge r A C Γ e e′) (infBoth h judge′ r A C Γ e e′)
     unfolding infBoth
     infBothR r A C Γ e e′ = twoR _ _ _
 
-    inferRuleR : (m : Mode) (Γ : Ctx) (e : Expr) → R Fired (inferRule m judge Γ e) (inferRule m judge′ Γ e)
+    inferRuleR : (Γ : Ctx) (e : Expr) → R Fired (inferRule h judge Γ e) (inferRule h judge′ Γ e)
     unfolding inferRule infLam infApp infLet infIf infBinOp infEq infAnn infTAbs infTApp
-    inferRuleR m Γ (evar p x) = infVarR _ _ _
-    inferRuleR m Γ (litInt p l g) = c .giveR _
-    inferRuleR m Γ (litBool p v) = c .giveR _
-    inferRuleR m Γ (abs p x A e) = c .bindR (c .freshR) (λ b. oneR _ _)
-    inferRuleR m Γ (app p e e′) = c .bindR (h _) (λ r. c .bindR (applyR _ _) (λ A′. oneR _ _))
-    inferRuleR m Γ (letIn p x e e′) = twoR _ _ _
-    inferRuleR m Γ (ifThenElse p e e′ e″) =
-        c .bindR (h _) (λ r₁. c .bindR (h _) (λ r₂. c .bindR (h _) (λ r₃. c .bindR (branchR _ _ _) (λ A′. c .bindR (branchR _ _ _) (λ B′. oneR _ _)))))
-    inferRuleR m Γ (binOp p o e e′) =
+    inferRuleR Γ (evar q x) = infVarR _ _ _
+    inferRuleR Γ (litInt q low high) = c .giveR _
+    inferRuleR Γ (litBool q v) = c .giveR _
+    inferRuleR Γ (abs q x A e) = c .bindR (c .freshR) (λ b. oneR _ _)
+    inferRuleR Γ (app q e e′) = c .bindR (p _) (λ r. c .bindR (applyR _ _) (λ A′. oneR _ _))
+    inferRuleR Γ (letIn q x e e′) = twoR _ _ _
+    inferRuleR Γ (ifThenElse q e e′ e″) =
+        c .bindR (p _) (λ r₁. c .bindR (p _) (λ r₂. c .bindR (p _) (λ r₃. c .bindR (branchR _ _ _) (λ A′. c .bindR (branchR _ _ _) (λ B′. oneR _ _)))))
+    inferRuleR Γ (binOp q o e e′) =
         orElseR (whenR _ (infBothR _ _ _ _ _ _))
         (orElseR (whenR _ (infBothR _ _ _ _ _ _))
         (orElseR (whenR _ (twoR _ _ _))
         (infBothR _ _ _ _ _ _)))
-    inferRuleR m Γ (ann p e A) = oneR _ _
-    inferRuleR m Γ (tabs p a e) = c .bindR (h _) (λ r. c .bindR (applyR _ _) (λ A′. c .giveR _))
-    inferRuleR m Γ (tapp p e B) = c .bindR (h _) (λ r. c .bindR (instantiateR _ _) (λ A′. c .giveR _))
+    inferRuleR Γ (ann q e A) = oneR _ _
+    inferRuleR Γ (tabs q a e) = c .bindR (p _) (λ r. c .bindR (applyR _ _) (λ A′. c .giveR _))
+    inferRuleR Γ (tapp q e B) = c .bindR (p _) (λ r. c .bindR (instantiateR _ _) (λ A′. c .giveR _))
 
     -- ## Every rule
 
-    pub ruleR : (m : Mode) (j : Judgement) → R Fired (rule m judge j) (rule m judge′ j)
+    pub ruleR : (j : Judgement) → R Fired (rule h judge j) (rule h judge′ j)
     unfolding rule
-    ruleR m (infer Γ e) = inferRuleR m Γ e
-    ruleR m (check Γ e B) = checkRuleR m Γ e B
-    ruleR m (inferApp Γ e A) = inferAppRuleR Γ e A
-    ruleR m (subtype Γ A B) = subtypeRuleR Γ A B
-    ruleR m (inst s Γ a A) = instRuleR s Γ a A
+    ruleR (infer Γ e) = inferRuleR Γ e
+    ruleR (check Γ e B) = checkRuleR Γ e B
+    ruleR (inferApp Γ e A) = inferAppRuleR Γ e A
+    ruleR (subtype Γ A B) = subtypeRuleR Γ A B
+    ruleR (inst s Γ a A) = instRuleR s Γ a A
+
+-- ## Rules that keep every such relation: document 01's do
+
+pub record Congruent (rules : Rules) : Type 1 where
+  pub keeps : (R : Rel) → Closed R → ((Γ : Ctx) (A : Ty) → R Ty (apply Γ A) (apply Γ A)) → (h : Here) (judge judge′ : Judge)
+      → ((j : Judgement) → R Result (judge j) (judge′ j)) → (j : Judgement) → R Fired (rules h judge j) (rules h judge′ j)
+
+pub rule-congruent : Congruent rule
+rule-congruent = record { keeps = λ R c applyR h judge judge′ p. ruleR R c applyR h judge judge′ p }

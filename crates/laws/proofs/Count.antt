@@ -12,13 +12,14 @@ use mathlib.Core.List.{List, [], _∷_}
 use lib.ListN.{length}
 use lib.Dec.{leb, ltb, eqb}
 use mir.Facts.{yes-leb, no-leb, no-eqb, no-ltb}
-use Rattle.definition.specs.Syntax.{pick, Judgement, TypeError, unboundVariable, applicationTypeError, typeApplicationError, occursCheck, subtypingError, instantiationError, parameterMismatch}
-use Rattle.definition.specs.Question.{Mode, Read, got, fault, Question, readQuestion, question-computes}
+use Rattle.definition.specs.Syntax.{pick, Judgement}
+use Rattle.definition.specs.Question.{Read, got, fault, Question, readQuestion, question-computes}
 use Rattle.definition.specs.Run.{Out, done, fail, stop, M, andThen, _>>=_, give, refuse, charge}
-use Rattle.definition.specs.Rules.{Result, judge}
+use Rattle.definition.specs.Rules.{Result, Here, judge}
 use Rattle.definition.specs.Reply.{Reply, refusal, reported, errorCode, answer, outReply, readReply, workWords, reply}
 use Rattle.laws.specs.Count.{charged, upTo, Count, countTo, Passes, IsRun}
 use Rattle.laws.proofs.Steps.{is-true, is-false, pick-true, pick-false, charge-yes, charge-no}
+use Rattle.laws.proofs.Codes.{error}
 use Rattle.laws.proofs.Budgets.{late, Steady, smaller, judge-steady, answer-steady}
 
 -- ## A count as far as a budget goes
@@ -98,8 +99,8 @@ pub question-counted : (q : Question) (most u : ℕ) → countTo most q ≡ some
 unfolding countTo
 question-counted q most u e = count-from (answer-steady q) most 0 u e
 
-pub judgement-counted : (m : Mode) (j : Judgement) (l n u : ℕ) → charged l (judge m j l n) ≡ some u → Count (judge m j) n (some u)
-judgement-counted m j = count-from (judge-steady m j)
+pub judgement-counted : (h : Here) (j : Judgement) (l n u : ℕ) → charged l (judge h j l n) ≡ some u → Count (judge h j) n (some u)
+judgement-counted h j = count-from (judge-steady h j)
 
 -- a run that ends at no budget has none
 pub no-count : {A : Type 0} {m : M A} {n : ℕ} → ((l : ℕ) → m l n ≡ stop) → Count m n none
@@ -135,20 +136,10 @@ reported-told : (b room c p u : ℕ) (ws : List ℕ) → c ≢ 6 → Told b (rep
 unfolding reported
 reported-told b room c p u ws h = pick-told _ (other h refl) (other (λ e. omega (arith, e)) refl)
 
-error-not-6 : (e : TypeError) → errorCode e ≢ 6
-unfolding errorCode
-error-not-6 (unboundVariable x) h = omega (arith, h)
-error-not-6 (applicationTypeError A) h = omega (arith, h)
-error-not-6 (typeApplicationError A) h = omega (arith, h)
-error-not-6 (occursCheck a A) h = omega (arith, h)
-error-not-6 (subtypingError A B) h = omega (arith, h)
-error-not-6 (instantiationError a A) h = omega (arith, h)
-error-not-6 (parameterMismatch A B) h = omega (arith, h)
-
 told : (kind b room : ℕ) (o : Out Result) → Told b (outReply kind b room o) (charged b o)
 unfolding outReply charged
 told kind b room (done r l n) = reported-told b room 0 0 (b - l) _ (λ e. omega (arith, e))
-told kind b room (fail e l) = reported-told b room (errorCode e) _ (b - l) _ (error-not-6 e)
+told kind b room (fail e l) = reported-told b room (errorCode (e .error)) _ (b - l) _ (λ x. omega (arith, error (e .error) .least, x))
 told kind b room stop = six refl
 
 -- ## Questions

@@ -8,12 +8,12 @@ use native.Mathlib.Nat.{le-of-suc-le-suc, not-suc-le-zero, lt-of-not-le, le-refl
 use native.Mathlib.Decide.{decLe}
 use lib.ListN.{length}
 use Rattle.definition.specs.Syntax.{Ty, Ctx, Judgement, given}
-use Rattle.definition.specs.Question.{got, unlessEnd, readCtx, Mode}
+use Rattle.definition.specs.Question.{got, Reader, unlessEnd, readCtx}
 use Rattle.definition.specs.Run.{Out, done, fail, stop, M, andThen, _>>=_, give, refuse, halt, charge, fresh}
 use Rattle.definition.specs.Types.{applyStep, applyTo, apply}
-use Rattle.definition.specs.Rules.{Result, Judge, judgeStep, judgeTo, judge}
+use Rattle.definition.specs.Rules.{Result, Judge, Here, Rules, rule, judgeStep, judgeTo, judgeBy, judge}
 use Rattle.laws.proofs.Steps.{charge-yes, charge-no}
-use Rattle.laws.proofs.Congruence.{Rel, Closed, applyStepR, ruleR}
+use Rattle.laws.proofs.Congruence.{Rel, Closed, applyStepR, Congruent, rule-congruent}
 
 -- ## Two runs that are the same at every budget up to b, and never leave more than there was
 
@@ -108,57 +108,65 @@ apply-eq Γ A (suc l) n =
     (applyStepR (Upto l) (upto l) Γ (λ B k n. applyTo l Γ B k n) (apply Γ) (apply-upto l l (le-refl l) Γ) A)
     (suc l) n (le-refl (suc l)) .0
 
--- ## Judgements
+-- ## Judgements, by any rules that keep what runs keep
 
-judgeStep-upto : (b : ℕ) (m : Mode) (rec rec′ : Judge) → ((i : Judgement) → Upto b Result (rec i) (rec′ i)) → (j : Judgement)
-    → Upto (suc b) Result (judgeStep m rec j) (judgeStep m rec′ j)
-unfolding judgeStep
-judgeStep-upto b m rec rec′ h j =
-    charged-upto b (1 + length (given j)) _ _ (omega arith)
-    ((upto b) .bindR (ruleR (Upto b) (upto b) (apply-self b) rec rec′ h m j)
-    (λ r. (upto b) .bindR (charge-upto b _) (λ v. (upto b) .giveR _)))
+module _ {rules : Rules} (c : Congruent rules) where
+  judgeStep-upto : (b : ℕ) (rec rec′ : Here → Judge) → ((h : Here) (i : Judgement) → Upto b Result (rec h i) (rec′ h i))
+      → (h : Here) (j : Judgement) → Upto (suc b) Result (judgeStep rules rec h j) (judgeStep rules rec′ h j)
+  unfolding judgeStep
+  judgeStep-upto b rec rec′ e h j =
+      charged-upto b (1 + length (given j)) _ _ (omega arith)
+      ((upto b) .bindR (c .keeps (Upto b) (upto b) (apply-self b) h (rec h) (rec′ h) (e h) j)
+      (λ r. (upto b) .bindR (charge-upto b _) (λ v. (upto b) .giveR _)))
 
-judgeStep-none : (m : Mode) (rec : Judge) (j : Judgement) (n : ℕ) → judgeStep m rec j 0 n ≡ stop
-unfolding judgeStep
-judgeStep-none m rec j n = charged-none (1 + length (given j)) _ n (omega arith)
+  judgeStep-none : (rec : Here → Judge) (h : Here) (j : Judgement) (n : ℕ) → judgeStep rules rec h j 0 n ≡ stop
+  unfolding judgeStep
+  judgeStep-none rec h j n = charged-none (1 + length (given j)) _ n (omega arith)
 
-judgeTo-none : (m : Mode) (d : ℕ) (j : Judgement) (n : ℕ) → judgeTo m d j 0 n ≡ stop
-unfolding judgeTo halt
-judgeTo-none m zero j n = refl
-judgeTo-none m (suc d) j n = judgeStep-none m _ j n
+  judgeTo-none : (d : ℕ) (h : Here) (j : Judgement) (n : ℕ) → judgeTo rules d h j 0 n ≡ stop
+  unfolding judgeTo halt
+  judgeTo-none zero h j n = refl
+  judgeTo-none (suc d) h j n = judgeStep-none _ h j n
 
-judgeTo-upto : (m : Mode) (b d d′ : ℕ) → b ≤ d → b ≤ d′ → (j : Judgement) → Upto b Result (judgeTo m d j) (judgeTo m d′ j)
-unfolding judgeTo
-judgeTo-upto m zero d d′ h h′ j = none-upto (judgeTo m d j) (judgeTo m d′ j) (judgeTo-none m d j) (judgeTo-none m d′ j)
-judgeTo-upto m (suc b) zero d′ h h′ j = absurd (not-suc-le-zero h)
-judgeTo-upto m (suc b) (suc d) zero h h′ j = absurd (not-suc-le-zero h′)
-judgeTo-upto m (suc b) (suc d) (suc d′) h h′ j =
-    judgeStep-upto b m (λ i l n. judgeTo m d i l n) (λ i l n. judgeTo m d′ i l n)
-    (judgeTo-upto m b d d′ (le-of-suc-le-suc h) (le-of-suc-le-suc h′)) j
+  judgeTo-upto : (b d d′ : ℕ) → b ≤ d → b ≤ d′ → (h : Here) (j : Judgement) → Upto b Result (judgeTo rules d h j) (judgeTo rules d′ h j)
+  unfolding judgeTo
+  judgeTo-upto zero d d′ p p′ h j = none-upto (judgeTo rules d h j) (judgeTo rules d′ h j) (judgeTo-none d h j) (judgeTo-none d′ h j)
+  judgeTo-upto (suc b) zero d′ p p′ h j = absurd (not-suc-le-zero p)
+  judgeTo-upto (suc b) (suc d) zero p p′ h j = absurd (not-suc-le-zero p′)
+  judgeTo-upto (suc b) (suc d) (suc d′) p p′ h j =
+      judgeStep-upto b (λ i k l n. judgeTo rules d i k l n) (λ i k l n. judgeTo rules d′ i k l n)
+      (judgeTo-upto b d d′ (le-of-suc-le-suc p) (le-of-suc-le-suc p′)) h j
 
-pub judge-upto : (m : Mode) (b : ℕ) (j : Judgement) → Upto b Result (judgeTo m b j) (judge m j)
-unfolding judge
-judge-upto m b j l n k = judgeTo-upto m l b l k (le-refl l) j l n (le-refl l)
+  pub judgeBy-upto : (b : ℕ) (h : Here) (j : Judgement) → Upto b Result (judgeTo rules b h j) (judgeBy rules h j)
+  unfolding judgeBy
+  judgeBy-upto b h j l n p = judgeTo-upto l b l p (le-refl l) h j l n (le-refl l)
 
--- the equation of `judge`: a judgement is its step, whose judgements are `judge`'s
-pub judge-eq : (m : Mode) (j : Judgement) (l n : ℕ) → judge m j l n ≡ judgeStep m (judge m) j l n
-unfolding judge judgeTo
-judge-eq m j zero n = judgeTo-none m 0 j n ∙ sym (judgeStep-none m (judge m) j n)
-judge-eq m j (suc l) n =
-    judgeStep-upto l m (λ i k n. judgeTo m l i k n) (judge m) (judge-upto m l) j (suc l) n (le-refl (suc l)) .0
+  -- a judgement is its step, whose judgements are judged by the same rules
+  pub judgeBy-eq : (h : Here) (j : Judgement) (l n : ℕ) → judgeBy rules h j l n ≡ judgeStep rules (judgeBy rules) h j l n
+  unfolding judgeBy judgeTo
+  judgeBy-eq h j zero n = judgeTo-none 0 h j n ∙ sym (judgeStep-none (judgeBy rules) h j n)
+  judgeBy-eq h j (suc l) n =
+      judgeStep-upto l (λ i k l′ n. judgeTo rules l i k l′ n) (judgeBy rules) (judgeBy-upto l) h j (suc l) n (le-refl (suc l)) .0
+
+  pub judgeBy-left : (h : Here) (j : Judgement) (l n : ℕ) → Left l (judgeBy rules h j l n)
+  unfolding judgeBy
+  judgeBy-left h j l n = judgeTo-upto l l l (le-refl l) (le-refl l) h j l n (le-refl l) .1
+
+-- the equation of `judge`
+pub judge-eq : (h : Here) (j : Judgement) (l n : ℕ) → judge h j l n ≡ judgeStep rule judge h j l n
+judge-eq = judgeBy-eq rule-congruent
 
 -- ## No run leaves more than there was
 
 pub apply-left : (Γ : Ctx) (A : Ty) (l n : ℕ) → Left l (apply Γ A l n)
 apply-left Γ A l n = apply-self l Γ A l n (le-refl l) .1
 
-pub judge-left : (m : Mode) (j : Judgement) (l n : ℕ) → Left l (judge m j l n)
-unfolding judge
-judge-left m j l n = judgeTo-upto m l l l (le-refl l) (le-refl l) j l n (le-refl l) .1
+pub judge-left : (h : Here) (j : Judgement) (l n : ℕ) → Left l (judge h j l n)
+judge-left = judgeBy-left rule-congruent
 
 -- ## No words, read as a context at any depth
 
-pub readCtx-none : (d p : ℕ) → readCtx d p [] ≡ got [] p []
+pub readCtx-none : (name : Reader ℕ) (d p : ℕ) → readCtx name d p [] ≡ got [] p []
 unfolding readCtx unlessEnd
-readCtx-none zero p = refl
-readCtx-none (suc d) p = refl
+readCtx-none name zero p = refl
+readCtx-none name (suc d) p = refl

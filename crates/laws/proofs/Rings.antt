@@ -56,7 +56,7 @@ run-out : {Γ : Ctx} {a : TyVar} {A : Ty} → Ring Γ a → Leads Γ a A → {B 
 run-out {A = A} ring leads {l = l} {n} itself = application-never-ends ring A leads l n
 run-out ring leads {l = l} {n} (first {x} f p) = bind-stop x f l n (run-out ring leads p)
 run-out ring leads {l = l} {n} (after x f e p) = bind-done x f l n e ∙ run-out ring leads p
-run-out ring leads {l = l} {n} (judging m j p) = judge-eq m j l n ∙ run-out ring leads p
+run-out ring leads {l = l} {n} (judging h j p) = judge-eq h j l n ∙ run-out ring leads p
 
 -- ## Questions
 

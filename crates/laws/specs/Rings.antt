@@ -4,11 +4,10 @@ use mathlib.Core.Path.{_≡_}
 use mathlib.Core.Option.{some}
 use Prim.Native.Nat.{ℕ}
 use Rattle.definition.specs.Syntax.{TyVar, Ty, etvar, arrow, forall, Ctx, Judgement}
-use Rattle.definition.specs.Question.{Mode}
 use Rattle.definition.specs.Run.{done, M, _>>=_}
 use Rattle.definition.specs.Contexts.{kSETVar, find}
 use Rattle.definition.specs.Types.{apply}
-use Rattle.definition.specs.Rules.{Result, judgeStep, judge}
+use Rattle.definition.specs.Rules.{Result, Here, rule, judgeStep, judge}
 
 -- ---- "Context application is charged one for every call of apply_ctx_type_once in its first pass, followed solutions included"
 
@@ -34,4 +33,4 @@ pub data Applies (Γ : Ctx) (A : Ty) : (B : Type 0) → M B → ℕ → ℕ → 
   first : {B C : Type 0} {x : M B} (f : B → M C) {l n : ℕ} → Applies Γ A B x l n → Applies Γ A C (x >>= f) l n
   after : {B C : Type 0} (x : M B) (f : B → M C) {b : B} {l n l′ n′ : ℕ} → x l n ≡ done b l′ n′ → Applies Γ A C (f b) l′ n′
       → Applies Γ A C (x >>= f) l n
-  judging : (m : Mode) (j : Judgement) {l n : ℕ} → Applies Γ A Result (judgeStep m (judge m) j) l n → Applies Γ A Result (judge m j) l n
+  judging : (h : Here) (j : Judgement) {l n : ℕ} → Applies Γ A Result (judgeStep rule judge h j) l n → Applies Γ A Result (judge h j) l n

@@ -6,10 +6,11 @@ use native.Mathlib.Nat.{le-trans}
 use native.Mathlib.Omega.{arith}
 use lib.ListN.{length, getD}
 use Rattle.definition.specs.Syntax.{TyVar, Ty, int, bool, etvar, arrow, forall, Entry, Ctx}
-use Rattle.definition.specs.Contexts.{keyOf, kindOf, nameOf, held}
+use Rattle.definition.specs.Contexts.{Key, kVar, kTVar, kETVar, kSETVar, kMark, keyOf, kindOf, nameOf, held}
 use Rattle.layout.specs.Words.{Keep, Put2, Put4}
 use Rattle.layout.specs.Places.{size, TyAt}
-use Rattle.layout.specs.Denotes.{capped, MadeAt, Den, written, int-made, bool-made, etvar-made, arrow-made, forall-made, EntryAt, CtxAt, nil, cons, Run, Base}
+use Rattle.layout.specs.Denotes.{capped, MadeAt, Den, written, int-made, bool-made, etvar-made, arrow-made, forall-made, AsEntry, EntryAt, PutEntry, CtxAt, nil, cons, Run, Base}
+use Rattle.layout.specs.declared.Entry as program
 use Rattle.layout.proofs.Places.{ty-code, expr-code}
 
 -- ## Types
@@ -154,3 +155,25 @@ ctx-join {q} {w} {t} {at} (f ∷ L) {R} (cons x g) h =
 pub entry-put : {q w w′ : List ℕ} {at k a r d : ℕ} (e : Entry) (t : ℕ) → Put4 w w′ at k a r d → at + 4 ≤ t → k ≡ kindOf (keyOf e)
     → a ≡ nameOf (keyOf e) → Den q w′ t r (held e) → EntryAt q w′ t at e
 entry-put {r = r} e t p h x y d = record { ref = r; below = h; kind = p .w0 ∙ x; name = p .w1 ∙ y; ref-is = p .w2; den = d }
+
+-- ## Entries that are put
+
+pub kind-small : (k : Key) → kindOf k < 37
+unfolding kindOf
+kind-small (kVar x) = omega arith
+kind-small (kTVar a) = omega arith
+kind-small (kETVar a) = omega arith
+kind-small (kSETVar a) = omega arith
+kind-small (kMark a) = omega arith
+
+-- an entry that was put at p stays where words from p + 4 on change, and what it holds where those below t stay
+pub entry-stays : {q v v′ w w′ : List ℕ} {t t′ p h h′ : ℕ} {n : program.Entry} {e : Entry} → PutEntry v v′ p n → Keep (p + 4) h v′ w′ → Keep t h′ w w′
+    → t ≤ t′ → p + 4 ≤ t′ → AsEntry q w t n e → EntryAt q w′ t′ p e
+entry-stays {p = p} {n = n} x y k l m z = record {
+  ref = n .ty;
+  below = m;
+  kind = sym (y .below p (omega arith)) ∙ x .w0 ∙ ap kindOf (sym (z .key-is));
+  name = sym (y .below (p + 1) (omega arith)) ∙ x .w1 ∙ ap nameOf (sym (z .key-is));
+  ref-is = sym (y .below (p + 2) (omega arith)) ∙ x .w2;
+  den = den-frame k l (z .den);
+}

@@ -2,3 +2,4 @@
 pub mod Words
 pub mod Places
 pub mod Denotes
+pub mod States

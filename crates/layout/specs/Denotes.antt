@@ -1,12 +1,15 @@
 -- What a type reference and a run of entries denote.
 use mathlib.Core.Path.{_≡_}
 use mathlib.Core.List.{List, [], _∷_}
-use Prim.Native.Nat.{ℕ, _+_, _*_, _≤_, _<_, min}
+use Prim.Native.Nat.{ℕ, _+_, _*_, _≤_, _<_, _^_, min}
 use lib.ListN.{length, getD}
 use Rattle.definition.specs.Syntax.{TyVar, Ty, int, bool, etvar, arrow, forall, Expr, Entry, Ctx}
 use Rattle.definition.specs.Contexts.{keyOf, kindOf, nameOf, held}
 use Rattle.definition.specs.Reply.{most}
+use Rattle.layout.specs.Words.{Put4}
 use Rattle.layout.specs.Places.{size, exprSize, TyAt, ExprAt}
+use Rattle.layout.specs.Names.{key}
+use Rattle.layout.specs.declared.Entry as program
 
 -- a length as a word
 abbrev pub capped : ℕ → ℕ
@@ -29,6 +32,15 @@ pub data Den (q w : List ℕ) (t : ℕ) : ℕ → Ty → Type 0 where
   forall-made : {r i m : ℕ} {a : TyVar} {A : Ty} → MadeAt w t r i 4 6 → m < r → getD w (i + 1) 0 ≡ a .number → getD w (i + 2) 0 ≡ m
       → getD w (i + 3) 0 ≡ capped (size (forall a A)) → Den q w t m A → Den q w t r (forall a A)
 
+-- the program's entry p is e
+pub record AsEntry (q w : List ℕ) (t : ℕ) (p : program.Entry) (e : Entry) : Type 0 where
+  pub key-is : keyOf e ≡ key (p .key)
+  pub den : Den q w t (p .ty) (held e)
+
+-- it can be put into words
+pub record SmallEntry (p : program.Entry) : Type 0 where
+  pub ty : p .ty < 2 ^ 32
+
 -- the four words of an entry at a place of work, below t
 pub record EntryAt (q w : List ℕ) (t at : ℕ) (e : Entry) : Type 0 where
   pub ref : ℕ
@@ -37,6 +49,10 @@ pub record EntryAt (q w : List ℕ) (t at : ℕ) (e : Entry) : Type 0 where
   pub name : getD w (at + 1) 0 ≡ nameOf (keyOf e)
   pub ref-is : getD w (at + 2) 0 ≡ ref
   pub den : Den q w t ref (held e)
+
+-- they were put there
+abbrev pub PutEntry : List ℕ → List ℕ → ℕ → program.Entry → Type 0
+PutEntry w w′ at p = Put4 w w′ at (kindOf (key (p .key))) (nameOf (key (p .key))) (p .ty) 0
 
 pub data CtxAt (q w : List ℕ) (t : ℕ) : ℕ → Ctx → Type 0 where
   nil : {at : ℕ} → CtxAt q w t at []

@@ -1,5 +1,6 @@
 -- What words of the question and of work denote.
 pub mod Names
+pub mod States
 pub mod Words
 pub mod Places
 pub mod Denotes

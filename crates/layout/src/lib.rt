@@ -1,10 +1,12 @@
 // How types, contexts and a run's state lie in the question and in work (docs/LAYOUT.md), and the words they are made of.
 ghost use mathlib.Core.Path.{_≡_};
-ghost use Prim.Native.Nat.{_+_, _*_, _≤_, _<_, _^_};
+ghost use Prim.Native.Nat.{_+_, _-_, _*_, _≤_, _<_, _^_};
 ghost use lib.ListN.{length, getD, set};
 ghost use Rattle.definition.specs.Contexts.{kindOf, nameOf};
 ghost use Rattle.layout.specs.Names.{key};
 ghost use Rattle.layout.specs.Words.{Put2, Put4, Copied};
+ghost use Rattle.layout.specs.Denotes.{SmallEntry, PutEntry};
+ghost use Rattle.layout.specs.States.{started, raised, lowered, Draws, Charges};
 
 // A type reference below this is a place in the question; from here on, this plus a place in work.
 pub const BASE: usize = 2048;
@@ -71,6 +73,108 @@ pub struct State {
     pub fresh: usize,
 }
 
+// A fresh name, and the state once it is taken.
+pub struct Drawn {
+    pub st: State,
+    pub name: TyVar,
+}
+
+// The state once units are paid; Spent where the charge would pass the budget.
+pub enum Paid {
+    On(State),
+    Spent,
+}
+
+// The state in which a run starts: nothing is built above the table of ends, nodes go down from low, the whole budget is left.
+pub fn start(low: usize, budget: usize) -> State
+    ensures { λ s. ⌜ s ≡ started low budget ⌝ }
+{
+    State {
+        top: FLOOR,
+        low: low,
+        left: budget,
+        fresh: 0,
+    }
+}
+
+impl State {
+    // Pays c units.
+    pub fn charge(self, c: usize) -> Paid
+        ensures { λ z. ⌜ Charges self c z ⌝ }
+    {
+        let left = self.left;
+        if left < c {
+            return Paid::Spent;
+        }
+        let less = left - c;
+        Paid::On(State {
+            top: self.top,
+            low: self.low,
+            left: less,
+            fresh: self.fresh,
+        })
+    }
+
+    // What was charged from an earlier state on.
+    pub fn charged_since(self, from: State) -> usize
+        requires { ⌜ self .left ≤ from .left ⌝ }
+        ensures { λ c. ⌜ c ≡ from .left - self .left ⌝ }
+    {
+        from.left - self.left
+    }
+
+    // Takes the next fresh name.
+    pub fn draw(self) -> Drawn
+        requires { ⌜ self .fresh < 1000000 ⌝ }
+        ensures { λ d. ⌜ Draws self d ⌝ }
+    {
+        let taken = self.fresh;
+        Drawn {
+            st: State {
+                top: self.top,
+                low: self.low,
+                left: self.left,
+                fresh: taken + 1,
+            },
+            name: TyVar(definition::FIRST_FRESH + taken as u32),
+        }
+    }
+
+    // Past n words that were built at top.
+    pub fn raise(self, n: usize) -> State
+        requires { ⌜ self .top + n ≤ 1000000 ⌝ }
+        ensures { λ s. ⌜ s ≡ raised self n ⌝ }
+    {
+        let top = self.top;
+        State {
+            top: top + n,
+            low: self.low,
+            left: self.left,
+            fresh: self.fresh,
+        }
+    }
+
+    // Reserves the n words below low.
+    pub fn lower(self, n: usize) -> State
+        requires { ⌜ n ≤ self .low ⌝ }
+        ensures { λ s. ⌜ s ≡ lowered self n ⌝ }
+    {
+        let low = self.low;
+        State {
+            top: self.top,
+            low: low - n,
+            left: self.left,
+            fresh: self.fresh,
+        }
+    }
+}
+
+// An entry: its kind and name, and a reference to the type that it holds (INT where it holds none).
+pub struct Entry {
+    pub key: Key,
+    pub ty: usize,
+}
+
 // A context: n entries of four words (kind, name, type reference, spare) from a place of work on.
 pub struct Span {
     pub at: usize,
@@ -117,6 +221,17 @@ pub fn put4(w: &mut [u32], i: usize, a: usize, b: usize, c: usize, d: usize)
     put(w, i + 1, b);
     put(w, i + 2, c);
     put(w, i + 3, d);
+}
+
+// Puts an entry.
+pub fn put_entry(work: &mut [u32], at: usize, e: Entry)
+    requires { ⌜ (at + 4 ≤ length (now work)) × (SmallEntry e) ⌝ }
+    ensures { λ _. ⌜ PutEntry (now (work .entry)) (now (work .exit)) at e ⌝ }
+{
+    let k = e.key;
+    let kind = k.kind();
+    let name = k.name();
+    put4(work, at, kind, name, e.ty, 0);
 }
 
 // Copies n words to a place past them.

@@ -1,14 +1,15 @@
 -- Decimal numbers by their last digit, a line by its first number, and bytes written one after the other.
 use mathlib.Core.Path.{_≡_, refl, sym, ap, _∙_}
 use mathlib.Core.List.{List, [], _∷_, _++_, append-assoc, append-nil}
-use Prim.Native.Nat.{ℕ, zero, suc, _+_, _/_, _%_, _^_, _≤_, _<_}
+use Prim.Native.Nat.{ℕ, zero, suc, _+_, _-_, _*_, _/_, _%_, _^_, _≤_, _<_}
 use native.Mathlib.Omega.{arith}
-use native.Mathlib.Nat.{pow-suc, lt-of-not-le}
+use native.Mathlib.Nat.{pow-suc, one-le-pow, pow-le-pow-right, mod-eq-of-lt, lt-of-not-le}
 use native.Mathlib.Decide.{decLe}
-use native.Mathlib.Numerals.{add-one}
+use native.Mathlib.Numerals.{add-one, sub-one}
 use borrow.Author.Tests.{lt-ltb, le-ltb}
 use lib.ListN.{length, getD, set, take, drop, length-append, drop-of-length-le}
-use lib.Seq.{take-suc-set, drop-cons}
+use lib.Seq.{length-take-le, take-length, take-suc-set, take-at, drop-cons}
+use Rattle.io.specs.Digits.{digits, Fewest}
 use Rattle.lines.specs.Lines.{decimalTo, decimal, lineOf, lines-compute, Wrote}
 
 -- ## Decimal numbers
@@ -24,13 +25,36 @@ decimal-to (suc d) (suc e) n h k =
       | no t ↦ rw (decimalTo, lt-ltb n 10 (lt-of-not-le t))
     ]
 
-pub decimal-one : (n : ℕ) → n < 10 → decimal n ≡ (48 + n) ∷ []
+decimal-one : (n : ℕ) → n < 10 → decimal n ≡ (48 + n) ∷ []
 unfolding decimal decimalTo
 decimal-one n h = rw (decimalTo, lt-ltb n 10 h)
 
-pub decimal-more : (n : ℕ) → 10 ≤ n → decimal n ≡ decimal (n / 10) ++ ((48 + n % 10) ∷ [])
+decimal-more : (n : ℕ) → 10 ≤ n → decimal n ≡ decimal (n / 10) ++ ((48 + n % 10) ∷ [])
 unfolding decimal decimalTo
 decimal-more n h = rw (decimalTo, le-ltb n 10 h, decimal-to n (suc (n / 10)) (n / 10) (omega arith) (omega arith))
+
+-- the kit's digits, the fewest that hold n, are these
+fewest-decimal : (k n : ℕ) → Fewest 10 1 n k → digits 10 k n ≡ decimal n
+fewest-decimal zero n f = absurd (omega (arith, f .0))
+fewest-decimal (suc zero) n f = rw (lt-ltb (n % 10) 10 (omega arith), decimal-one n (f .1), mod-eq-of-lt (f .1))
+fewest-decimal (suc (suc k)) n f =
+    let low : 10 ^ suc k ≤ n = simp sub-one at (f .2 (omega arith)) in
+    let up : 10 ^ suc (suc k) ≡ 10 ^ suc k * 10 = pow-suc 10 (suc k) in
+    let down : 10 ^ suc k ≡ 10 ^ k * 10 = pow-suc 10 k in
+    let one : 1 ≤ 10 ^ k = one-le-pow k 10 (omega arith) in
+    let rest : Fewest 10 1 (n / 10) (suc k) = (omega arith, omega arith, λ _. simp sub-one (omega arith)) in
+    rw (lt-ltb (n % 10) 10 (omega arith), decimal-more n (omega arith), fewest-decimal (suc k) (n / 10) rest)
+
+pub spelt : (k n : ℕ) (s : List ℕ) → Fewest 10 1 n k → take k s ≡ digits 10 k n → take k s ≡ decimal n
+spelt k n s f e = e ∙ fewest-decimal k n f
+
+-- a word has ten digits at most
+pub fewest-ten : (k n : ℕ) → n < 4294967296 → Fewest 10 1 n k → k ≤ 10
+fewest-ten k n h f =
+    elim (decLe k 10) [
+      | yes t ↦ t
+      | no t ↦ absurd (omega (arith, f .2 (omega arith), pow-le-pow-right {n = 10} (omega arith) {i = 10} {j = k - 1} (omega arith)))
+    ]
 
 -- ## Bytes written
 
@@ -46,28 +70,16 @@ wrote-then {s} {p = p} bs cs a b = record {
 pub wrote-byte : {s s′ : List ℕ} {p z : ℕ} (bs : List ℕ) (b : ℕ) → Wrote s s′ p bs z → z < length s′ → Wrote s (set s′ z b) p (bs ++ (b ∷ [])) (z + 1)
 wrote-byte {s′ = s′} {z = z} bs b w h = wrote-then bs (b ∷ []) w (record { is = rw (add-one z) (take-suc-set s′ z b h); next = omega arith })
 
--- ## A number by its last digit
-
-pub one-digit : (s : List ℕ) (p n b : ℕ) → n < 10 → b ≡ 48 + n → p < length s → Wrote s (set s p b) p (decimal n) (p + 1)
-one-digit s p n b h e k = rw (e, decimal-one n h) (wrote-byte [] (48 + n) (wrote-none s p) k)
-
-pub last-digit : {s s′ : List ℕ} {p z : ℕ} (n b : ℕ) → 10 ≤ n → b ≡ 48 + n % 10 → Wrote s s′ p (decimal (n / 10)) z → z < length s′
-    → Wrote s (set s′ z b) p (decimal n) (z + 1)
-last-digit n b h e w k = rw (e, decimal-more n h) (wrote-byte (decimal (n / 10)) (48 + n % 10) w k)
-
-pub length-one : (n : ℕ) → n < 10 → length (decimal n) ≡ 1
-length-one n h = rw (decimal-one n h)
-
-pub length-more : (n : ℕ) → 10 ≤ n → length (decimal n) ≡ length (decimal (n / 10)) + 1
-length-more n h = rw (decimal-more n h) (length-append (decimal (n / 10)) ((48 + n % 10) ∷ []))
-
-pub decimal-length : (k n : ℕ) → n < 10 ^ suc k → length (decimal n) ≤ suc k
-decimal-length zero n h = omega (arith, length-one n h)
-decimal-length (suc k) n h =
-    elim (decLe 10 n) [
-      | yes t ↦ omega (arith, length-more n t, decimal-length k (n / 10) (omega (arith, pow-suc 10 (suc k))))
-      | no t ↦ omega (arith, length-one n (lt-of-not-le t))
-    ]
+-- the first n bytes of t copied to the place p, then the byte b
+pub wrote-number : {s ys ds : List ℕ} {n : ℕ} (p b : ℕ) (t mid rest : List ℕ) → p ≤ length s → n ≡ length (take n t) → take n t ≡ ds
+    → ys ≡ take (length (take n t)) (take n t) ++ mid → p + n < length (take p s ++ (ys ++ rest))
+    → Wrote s (set (take p s ++ (ys ++ rest)) (p + n) b) p (ds ++ (b ∷ [])) (p + n + 1)
+wrote-number {s} {ys} {ds} {n} p b t mid rest h l d e i =
+    let k : length ds ≡ n = rw d at (sym l) in
+    let j : length (take p s ++ ds) ≡ p + n = length-append (take p s) ds ∙ omega (arith, length-take-le p s h) in
+    let c : take p s ++ (ys ++ rest) ≡ (take p s ++ ds) ++ (mid ++ rest) =
+    rw (e, take-length, d, append-assoc ds mid rest) (sym (append-assoc (take p s) ds (mid ++ rest))) in
+    wrote-byte ds b (record { is = ap (take (p + n)) c ∙ take-at (take p s ++ ds) (mid ++ rest) (p + n) j; next = omega arith }) i
 
 -- ## Lines, written from the number i on
 

@@ -1,29 +1,16 @@
 // Lines of decimal numbers, as bytes in a buffer that the caller lends.
 ghost use mathlib.Core.Path.{_≡_};
 ghost use mathlib.Core.List.{[], _∷_, _++_};
-ghost use Prim.Native.Nat.{_+_, _*_, _≤_, _<_};
-ghost use lib.ListN.{length};
+ghost use Prim.Native.Nat.{_+_, _*_, _≤_};
+ghost use lib.ListN.{length, take};
+ghost use Rattle.io.specs.Counts.{Counts};
 ghost use Rattle.lines.specs.Lines.{decimal, lineOf, Wrote};
 
-fn digit(x: u32) -> u8
-    requires { ⌜ x < 10 ⌝ }
-    ensures { λ r. ⌜ r ≡ 48 + x ⌝ }
+// The digits of x at the start of out; how many they are.
+fn digits_of(x: u32, out: &mut [u8; 20]) -> usize
+    ensures { λ n. ⌜ (Counts n (now (out .exit))) × (n ≤ 10) × (take n (now (out .exit)) ≡ decimal x) ⌝ }
 {
-    48 + x as u8
-}
-
-// The digits of x.
-fn digits(out: &mut [u8], at: usize, x: u32) -> usize
-    requires { ⌜ at + length (decimal x) ≤ length (now out) ⌝ }
-    ensures { λ r. ⌜ Wrote (now (out .entry)) (now (out .exit)) at (decimal x) r ⌝ }
-{
-    if x < 10 {
-        out[at] = digit(x);
-        return at + 1;
-    }
-    let next = digits(out, at, x / 10);
-    out[next] = digit(x % 10);
-    next + 1
+    io::decimal(x as u64, out)
 }
 
 // The number x and then the byte end.
@@ -31,7 +18,10 @@ fn number(out: &mut [u8], at: usize, x: u32, end: u8) -> usize
     requires { ⌜ at + 11 ≤ length (now out) ⌝ }
     ensures { λ r. ⌜ (Wrote (now (out .entry)) (now (out .exit)) at (decimal x ++ (end ∷ [])) r) × (r ≤ at + 11) ⌝ }
 {
-    let next = digits(out, at, x);
+    let mut digits = [0u8; 20];
+    let n = digits_of(x, &mut digits);
+    bytes::copy(&digits[..n], &mut out[at..]);
+    let next = at + n;
     out[next] = end;
     next + 1
 }

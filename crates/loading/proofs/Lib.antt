@@ -1,2 +1,3 @@
--- Laws of loading.
+-- Laws of the table of ends and of loading.
+pub mod Table
 pub mod Loading

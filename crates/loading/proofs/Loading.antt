@@ -6,17 +6,20 @@ use Prim.Native.Nat.{ℕ, _+_, _-_, _*_, _≤_, _<_}
 use native.Mathlib.Omega.{arith}
 use native.Mathlib.Nat.{le-refl}
 use lib.ListN.{length, getD}
-use Rattle.definition.specs.Syntax.{Ty, int, Entry, Ctx}
-use Rattle.definition.specs.Contexts.{keyOf, kindOf, held}
+use Rattle.definition.specs.Syntax.{Ty, int, Binding, Entry, Ctx}
+use Rattle.definition.specs.Contexts.{bindingKey, keyOf, kindOf, bindingType, held}
+use Rattle.layout.specs.States.{raised}
 use Rattle.layout.specs.Words.{Keep, Put4}
 use Rattle.layout.specs.Denotes.{Den, written, Base, CtxAt, nil, cons}
+use Rattle.layout.specs.declared.State.{State}
 use Rattle.layout.proofs.Words.{keep-refl, keep-less, keep-trans}
 use Rattle.layout.proofs.Places.{ty-code}
 use Rattle.layout.proofs.Denotes.{den-frame, base-frame, int-den, ctx-frame, ctx-join, entry-put}
+use Rattle.contexts.proofs.Build.{past-run}
 use Rattle.reading.specs.Items.{TyTo}
 use Rattle.reading.specs.Contexts.{RestTo, var-rest, tvar-rest, etvar-rest, setvar-rest, mark-rest, EntryTo, EntriesTo, none, some, ListTo}
 use Rattle.loading.specs.declared.Rest.{Rest}
-use Rattle.loading.specs.Loading.{Holds, EntryRead, Reads, Loads, LoadedFrom}
+use Rattle.loading.specs.Loading.{Holds, EntryRead, Reads, Loads, LoadedFrom, Loaded}
 
 -- ## The first of some entries
 
@@ -42,8 +45,8 @@ pub record Rested (q w : List ℕ) (t : ℕ) (x : Entry) (m : ℕ) (r : Rest) : 
   pub next : r .next ≡ m
 
 pub rested : {q w : List ℕ} {t p m : ℕ} {x : Entry} {r : Rest} → Base q w t → EntryTo q p x m → EntryRead w (getD q p 0) p r → Rested q w t x m r
-unfolding kindOf keyOf held
-rested {q} {w} {t} {p} {m} {x} {r} b e h = go (e .rest) (e .kind .is)
+unfolding kindOf bindingKey bindingType held
+rested {q} {w} {t} {p} {m} {x} {r} b e h = let z = go (e .binds .rest) (e .binds .kind .is) in record { den = z .0; next = z .1 }
   where
     held-at : {A : Ty} {m : ℕ} → (r .ty ≡ p + 2) × (r .next ≡ getD w (16 + (p + 2)) 0) → TyTo q (p + 2) A m
         → Den q w t (r .ty) A × (r .next ≡ m)
@@ -52,19 +55,19 @@ rested {q} {w} {t} {p} {m} {x} {r} b e h = go (e .rest) (e .kind .is)
     bare-at : (k : ℕ) → getD q p 0 ≡ k → (k ≡ 32 → ⊥) → (k ≡ 35 → ⊥) → Den q w t (r .ty) int × (r .next ≡ p + 2)
     bare-at k e u v = let z = h .bare (⊎-elim (λ f. u (sym e ∙ f)) (λ f. v (sym e ∙ f))) in (rw (z .0) (int-den b), z .1)
 
-    go : {x : Entry} {m : ℕ} → RestTo q (p + 2) x m → getD q p 0 ≡ kindOf (keyOf x) → Rested q w t x m r
-    go (var-rest d) k = let z = held-at (h .held (inl k)) d in record { den = z .0; next = z .1 }
-    go tvar-rest k = let z = bare-at 33 k (λ f. omega arith) (λ f. omega arith) in record { den = z .0; next = z .1 }
-    go etvar-rest k = let z = bare-at 34 k (λ f. omega arith) (λ f. omega arith) in record { den = z .0; next = z .1 }
-    go (setvar-rest d) k = let z = held-at (h .held (inr k)) d in record { den = z .0; next = z .1 }
-    go mark-rest k = let z = bare-at 36 k (λ f. omega arith) (λ f. omega arith) in record { den = z .0; next = z .1 }
+    go : {y : Binding} {m : ℕ} → RestTo q (p + 2) y m → getD q p 0 ≡ kindOf (bindingKey y) → Den q w t (r .ty) (bindingType y) × (r .next ≡ m)
+    go (var-rest d) k = held-at (h .held (inl k)) d
+    go tvar-rest k = bare-at 33 k (λ f. omega arith) (λ f. omega arith)
+    go etvar-rest k = bare-at 34 k (λ f. omega arith) (λ f. omega arith)
+    go (setvar-rest d) k = held-at (h .held (inr k)) d
+    go mark-rest k = bare-at 36 k (λ f. omega arith) (λ f. omega arith)
 
 -- the table has the end of an entry's type
 pub reads : {q w : List ℕ} {t p m : ℕ} {x : Entry} → Base q w t → t ≤ length w → EntryTo q p x m → Reads w (getD q p 0) p
-unfolding kindOf keyOf
-reads {q} {w} {t} {p} b l e = record { place = e .kind .inside; table = go (e .rest) (e .kind .is) }
+unfolding kindOf bindingKey
+reads {q} {w} {t} {p} b l e = record { place = e .binds .kind .inside; table = go (e .binds .rest) (e .binds .kind .is) }
   where
-    go : {x : Entry} {m : ℕ} → RestTo q (p + 2) x m → getD q p 0 ≡ kindOf (keyOf x) → Holds (getD q p 0) → 16 + (p + 2) < length w
+    go : {y : Binding} {m : ℕ} → RestTo q (p + 2) y m → getD q p 0 ≡ kindOf (bindingKey y) → Holds (getD q p 0) → 16 + (p + 2) < length w
     go (var-rest d) k h = let c = ty-code (d .at) in omega (arith, c .inside, b .floor)
     go tvar-rest k h = absurd (⊎-elim (λ f. omega arith) (λ f. omega arith) h)
     go etvar-rest k h = absurd (⊎-elim (λ f. omega arith) (λ f. omega arith) h)
@@ -96,6 +99,7 @@ module _ {q w w₁ : List ℕ} {p at n : ℕ} {r : Rest} (pre : Loads q w p at n
       }
 
   pub loaded-some : {w₂ : List ℕ} → Put4 w w₁ at (getD q p 0) (getD q (p + 1) 0) (r .ty) 0 → LoadedFrom q w₁ w₂ (r .next) (at + 4) (n - 1) → LoadedFrom q w w₂ p at n
+  unfolding keyOf
   loaded-some {w₂} put more =
       let e : at + 4 + 4 * (n - 1) ≡ at + 4 * n = omega (arith, pos) in
       let k₂ : Keep (at + 4) (at + 4 * n) w₁ w₂ = keep-less (le-refl _) (omega arith) (more .keep) in
@@ -106,8 +110,18 @@ module _ {q w w₁ : List ℕ} {p at n : ℕ} {r : Rest} (pre : Loads q w p at n
             let z : Rested q w at (f .x) (f .m) r = rested (pre .base) (f .entry) h in
             let d : Den q w₁ (at + 4) (r .ty) (held (f .x)) = den-frame (put .keep) (omega arith) (z .den) in
             let one : CtxAt q w₁ (at + 4) at (f .x ∷ []) =
-            cons (entry-put (f .x) (at + 4) put (le-refl _) (f .entry .kind .is) (f .entry .name .is) d) nil in
+            cons (entry-put (f .x) (at + 4) put (le-refl _) (f .entry .binds .kind .is) (f .entry .binds .name .is) d) nil in
             let others : CtxAt q w₂ (at + 4 * n) (at + 4 * length (f .x ∷ [])) (f .others) =
             rw (← e) (more .run (f .others) end (rw (z .next) (f .list))) in
             rw (f .is) (ctx-join (f .x ∷ []) (ctx-frame k₂ (omega arith) one) others);
       }
+
+-- ## The whole context, as a run at top
+
+pub loaded : {q w w′ : List ℕ} {s e : State} {p n : ℕ} → e ≡ raised s (4 * n) → LoadedFrom q w w′ p (s .top) n
+    → Loaded q w w′ s p n (record { st = e; g = record { at = s .top; n = n } })
+loaded h l = record {
+  past = past-run h;
+  keep = l .keep;
+  run = λ Γ end x. rw h (record { ctx = l .run Γ end x; count = x .count; below = le-refl _ });
+}

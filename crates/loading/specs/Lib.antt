@@ -1,2 +1,3 @@
--- Loading a context.
+-- The table of ends, and a context that is loaded.
+pub mod Table
 pub mod Loading

@@ -1,4 +1,4 @@
-// The question's context as a run of entries in work.
+// What is laid into work once a question is read: the table of ends (`ends`), and its context as a run of entries.
 use contexts::Opened;
 use layout::ENDS;
 use layout::INT;
@@ -7,6 +7,8 @@ use layout::State;
 use layout::put4;
 use layout::word;
 ghost use Rattle.loading.specs.Loading.{Loads, LoadedFrom, Loading, Loaded, Reads, EntryRead};
+
+pub mod ends;
 
 // An entry's type reference (INT where it holds none), and the place past the entry.
 pub struct Rest {
@@ -58,18 +60,10 @@ pub fn load_context(q: &[u32], work: &mut [u32], st: State, p: usize, n: usize) 
     ensures { λ o. ⌜ Loaded (now (q .entry)) (now (work .entry)) (now (work .exit)) st p n o ⌝ }
 {
     let top = st.top;
-    let low = st.low;
-    let left = st.left;
-    let fresh = st.fresh;
-    let end = top + 4 * n;
+    let end = st.raise(4 * n);
     load_from(q, work, p, top, n);
     Opened {
-        st: State {
-            top: end,
-            low: low,
-            left: left,
-            fresh: fresh,
-        },
+        st: end,
         g: Span { at: top, n: n },
     }
 }

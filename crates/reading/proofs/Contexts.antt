@@ -5,78 +5,85 @@ use mathlib.Core.List.{List, [], _∷_}
 use native.Mathlib.Omega.{arith}
 use lib.ListN.{length, getD}
 use lib.Seq.{slice-cons}
-use Rattle.definition.specs.Syntax.{pick, Entry, varBnd, tvarBnd, etvarBnd, setvarBnd, mark, Ctx}
-use Rattle.definition.specs.Contexts.{keyOf, kindOf, nameOf}
-use Rattle.definition.specs.Question.{Read, Reader, next, _>>=_, give, badShape, variable, typeName, type, row, entry, unlessEnd, context}
+use Rattle.definition.specs.Syntax.{pick, Binding, varBnd, tvarBnd, etvarBnd, setvarBnd, mark, Entry, Ctx}
+use Rattle.definition.specs.Contexts.{bindingKey, kindOf, nameOf}
+use Rattle.definition.specs.Question.{Read, Reader, next, _>>=_, give, badShape, written, variable, typeName, type, row, binding, entry, unlessEnd, context}
 use Rattle.reading.specs.declared.Item.{Item}
 use Rattle.reading.specs.declared.Item.the-variants as item
 use Rattle.reading.specs.declared.Part.{Part}
 use Rattle.reading.specs.declared.Part.the-variants as part
 use Rattle.reading.specs.Items as items
 use Rattle.reading.specs.Items.{from, Inside, WordTo, Reads, NameRead, TypeThen}
-use Rattle.reading.specs.Contexts.{RestTo, var-rest, tvar-rest, etvar-rest, setvar-rest, mark-rest, EntryTo, EntriesTo, none, some, ListTo, ContextTo, Leaves, past, refused, EntryRead, ContextRead}
-use Rattle.reading.proofs.Depth.{more, context-eq}
+use Rattle.reading.specs.Contexts.{RestTo, var-rest, tvar-rest, etvar-rest, setvar-rest, mark-rest, BindingTo, EntryTo, EntriesTo, none, some, ListTo, ContextTo, Leaves, past, refused, BindingRead, EntryRead, ContextRead}
+use Rattle.reading.proofs.Depth.{written-upto, more, context-eq}
 use Rattle.reading.proofs.Items.{bad, from-end, Nones, oneOf-end, oneOf-is, oneOf-none, reads-at, reads-map, reads-two, code-at, after-word, variable-read, typeName-read}
 
--- ## One entry
+-- ## One binding
 
-unfoldable pub entryRows : List (ℕ × Reader Entry)
-entryRows =
-    (32, (do x ← variable; A ← type; give (varBnd x A)))
-    ∷ (33, (do a ← typeName; give (tvarBnd a)))
-    ∷ (34, (do a ← typeName; give (etvarBnd a)))
-    ∷ (35, (do a ← typeName; A ← type; give (setvarBnd a A)))
-    ∷ (36, (do a ← typeName; give (mark a)))
+unfoldable pub bindingRows : List (ℕ × Reader Binding)
+bindingRows =
+    (32, (do x ← variable written; A ← type written; give (varBnd x A)))
+    ∷ (33, (do a ← typeName written; give (tvarBnd a)))
+    ∷ (34, (do a ← typeName written; give (etvarBnd a)))
+    ∷ (35, (do a ← typeName written; A ← type written; give (setvarBnd a A)))
+    ∷ (36, (do a ← typeName written; give (mark a)))
     ∷ []
 
-pub entry-end : {q : List ℕ} {p e : ℕ} → Inside q p e → e ≤ p → EntryRead q p e (item.Fault 4 p)
-unfolding entry
-entry-end {q} {p} {e} i h = reads-at (oneOf-end _ q p e h) (items.refused (bad i))
+pub binding-end : {q : List ℕ} {p e : ℕ} → Inside q p e → e ≤ p → BindingRead q p e (item.Fault 4 p)
+unfolding binding
+binding-end {q} {p} {e} i h = reads-at (oneOf-end _ q p e h) (items.refused (bad i))
 
 module _ {q : List ℕ} {p e : ℕ} (i : Inside q p e) (h : p < e) where
-  entry-row : {w : ℕ} → getD q p 0 ≡ w → entry p (from q p e) ≡ row w entryRows (badShape p) (p + 1) (from q (p + 1) e)
-  unfolding entry entryRows
-  entry-row k = oneOf-is entryRows q p e h (i .high) k
+  binding-row : {w : ℕ} → getD q p 0 ≡ w → binding written p (from q p e) ≡ row w bindingRows (badShape p) (p + 1) (from q (p + 1) e)
+  unfolding binding bindingRows
+  binding-row k = oneOf-is bindingRows q p e h (i .high) k
 
-  pub entry-none : Nones (Unit {0}) (getD q p 0) entryRows → EntryRead q p e (item.Fault 4 p)
-  unfolding entry entryRows
-  entry-none n = reads-at (oneOf-none entryRows q p e h (i .high) n) (items.refused (bad i))
+  pub binding-none : Nones (Unit {0}) (getD q p 0) bindingRows → BindingRead q p e (item.Fault 4 p)
+  unfolding binding bindingRows
+  binding-none n = reads-at (oneOf-none bindingRows q p e h (i .high) n) (items.refused (bad i))
 
-  -- the entry of the kind that stands at p, of the name after it and of the rest after that
-  entry-to : {x : Entry} {j m : ℕ} → getD q p 0 ≡ kindOf (keyOf x) → WordTo q (p + 1) (nameOf (keyOf x)) j → RestTo q j x m → EntryTo q p x m
-  entry-to k s t = record { kind = code-at i h k; name = s .at; rest = rw (after-word p s) at t }
+  -- the binding of the kind that stands at p, of the name after it and of the rest after that
+  binding-to : {b : Binding} {j m : ℕ} → getD q p 0 ≡ kindOf (bindingKey b) → WordTo q (p + 1) (nameOf (bindingKey b)) j → RestTo q j b m
+      → BindingTo q p b m
+  binding-to k s t = record { kind = code-at i h k; name = s .at; rest = rw (after-word p s) at t }
 
   module _ {r : Item} (x : NameRead q (p + 1) e r) where
-    pub entry-var : {r′ : Item} → getD q p 0 ≡ 32 → TypeThen q e r r′ → EntryRead q p e r′
-    unfolding row pick entryRows _>>=_ keyOf kindOf nameOf
-    entry-var k y = reads-at (entry-row k) (reads-two varBnd (λ v A m n s t. entry-to k s (var-rest t)) (variable-read x) y)
+    pub binding-var : {r′ : Item} → getD q p 0 ≡ 32 → TypeThen q e r r′ → BindingRead q p e r′
+    unfolding row pick bindingRows _>>=_ bindingKey kindOf nameOf
+    binding-var k y = reads-at (binding-row k) (reads-two varBnd (λ v A m n s t. binding-to k s (var-rest t)) (variable-read x) y)
 
-    pub entry-tvar : getD q p 0 ≡ 33 → EntryRead q p e r
-    unfolding row pick entryRows _>>=_ keyOf kindOf nameOf
-    entry-tvar k = reads-at (entry-row k) (reads-map tvarBnd (λ a m s. entry-to k s tvar-rest) (typeName-read x))
+    pub binding-tvar : getD q p 0 ≡ 33 → BindingRead q p e r
+    unfolding row pick bindingRows _>>=_ bindingKey kindOf nameOf
+    binding-tvar k = reads-at (binding-row k) (reads-map tvarBnd (λ a m s. binding-to k s tvar-rest) (typeName-read x))
 
-    pub entry-etvar : getD q p 0 ≡ 34 → EntryRead q p e r
-    unfolding row pick entryRows _>>=_ keyOf kindOf nameOf
-    entry-etvar k = reads-at (entry-row k) (reads-map etvarBnd (λ a m s. entry-to k s etvar-rest) (typeName-read x))
+    pub binding-etvar : getD q p 0 ≡ 34 → BindingRead q p e r
+    unfolding row pick bindingRows _>>=_ bindingKey kindOf nameOf
+    binding-etvar k = reads-at (binding-row k) (reads-map etvarBnd (λ a m s. binding-to k s etvar-rest) (typeName-read x))
 
-    pub entry-setvar : {r′ : Item} → getD q p 0 ≡ 35 → TypeThen q e r r′ → EntryRead q p e r′
-    unfolding row pick entryRows _>>=_ keyOf kindOf nameOf
-    entry-setvar k y = reads-at (entry-row k) (reads-two setvarBnd (λ a A m n s t. entry-to k s (setvar-rest t)) (typeName-read x) y)
+    pub binding-setvar : {r′ : Item} → getD q p 0 ≡ 35 → TypeThen q e r r′ → BindingRead q p e r′
+    unfolding row pick bindingRows _>>=_ bindingKey kindOf nameOf
+    binding-setvar k y = reads-at (binding-row k) (reads-two setvarBnd (λ a A m n s t. binding-to k s (setvar-rest t)) (typeName-read x) y)
 
-    pub entry-mark : getD q p 0 ≡ 36 → EntryRead q p e r
-    unfolding row pick entryRows _>>=_ keyOf kindOf nameOf
-    entry-mark k = reads-at (entry-row k) (reads-map mark (λ a m s. entry-to k s mark-rest) (typeName-read x))
+    pub binding-mark : getD q p 0 ≡ 36 → BindingRead q p e r
+    unfolding row pick bindingRows _>>=_ bindingKey kindOf nameOf
+    binding-mark k = reads-at (binding-row k) (reads-map mark (λ a m s. binding-to k s mark-rest) (typeName-read x))
 
--- an entry has two words at least
-rest-on : {q : List ℕ} {p m : ℕ} {x : Entry} → RestTo q p x m → p ≤ m
+-- a binding has two words at least
+rest-on : {q : List ℕ} {p m : ℕ} {b : Binding} → RestTo q p b m → p ≤ m
 rest-on (var-rest t) = omega arith
 rest-on tvar-rest = omega arith
 rest-on etvar-rest = omega arith
 rest-on (setvar-rest t) = omega arith
 rest-on mark-rest = omega arith
 
+-- ## One entry: its binding
+
+pub entry-read : {q : List ℕ} {p e : ℕ} {r : Item} → BindingRead q p e r → EntryRead q p e r
+unfolding entry _>>=_
+entry-read x = reads-map (λ b. record { binding = b }) (λ b m s. record { binds = s }) x
+
 pub entry-on : {q : List ℕ} (x : Entry) (p m : ℕ) → EntryTo q p x m → p + 2 ≤ m
-entry-on x p m s = rest-on (s .rest)
+entry-on x p m s = rest-on (s .binds .rest)
 
 -- ## Entries
 
@@ -90,7 +97,7 @@ added (part.Past n m) = part.Past (n + 1) m
 added (part.Fault c p) = part.Fault c p
 
 entries-more : {q : List ℕ} {p m e : ℕ} {r : Part} {o : Read Entry} → Reads q e (EntryTo q p) (item.Past m) o → ContextRead q m e r
-    → Leaves q e (ContextTo q p e) (added r) (next o (λ x. _>>=_ context (λ Γ. give (x ∷ Γ))))
+    → Leaves q e (ContextTo q p e) (added r) (next o (λ x. _>>=_ (context written) (λ Γ. give (x ∷ Γ))))
 unfolding next _>>=_ give
 entries-more {q} {p} {m} {e} (items.past {a = x} s l) y = go y
   where
@@ -113,12 +120,12 @@ module _ {q : List ℕ} {p e : ℕ} (i : Inside q p e) where
   unfolding unlessEnd
   context-end h =
       let s : ContextTo q p e [] 0 p = record { list = record { entries = none; count = refl }; whole = omega arith } in
-      leaves-at (context-eq p _ ∙ rw (from-end q p e h)) (past s (i .low))
+      leaves-at (context-eq written-upto p _ ∙ rw (from-end q p e h)) (past s (i .low))
 
   module _ (h : p < e) where
-    context-more : context p (from q p e) ≡ next (entry p (from q p e)) (λ x. _>>=_ context (λ Γ. give (x ∷ Γ)))
+    context-more : context written p (from q p e) ≡ next (entry written p (from q p e)) (λ x. _>>=_ (context written) (λ Γ. give (x ∷ Γ)))
     unfolding unlessEnd more _>>=_
-    context-more = context-eq p _ ∙ rw (slice-cons p e q 0 h (i .high))
+    context-more = context-eq written-upto p _ ∙ rw (slice-cons p e q 0 h (i .high))
 
     context-step : {m : ℕ} {r : Item} {r′ : Part} → EntryRead q p e r → r ≡ item.Past m → ContextRead q m e r′ → ContextRead q p e (added r′)
     context-step x k y = leaves-at context-more (entries-more (rw k at x) y)

@@ -8,7 +8,7 @@ use native.Mathlib.Omega.{arith}
 use native.Mathlib.Nat.{le-of-suc-le-suc, not-suc-le-zero, le-refl}
 use lib.ListN.{length}
 use Rattle.definition.specs.Syntax.{pick, Ty, Expr, Ctx}
-use Rattle.definition.specs.Question.{Read, got, fault, Reader, next, _>>=_, give, badShape, reservedName, word, any, within, name, variable, typeName, row, oneOf, tyRows, readTy, type, exprRows, readExpr, expression, entry, unlessEnd, readCtx, context}
+use Rattle.definition.specs.Question.{Read, got, fault, Reader, next, _>>=_, give, badShape, reservedName, word, any, within, written, variable, typeName, row, oneOf, tyRows, readTy, type, exprRows, readExpr, expression, binding, entry, unlessEnd, readCtx, context}
 use Rattle.laws.proofs.Depth.{readCtx-none}
 
 -- ## Two readers that are the same on up to n words, and never leave more than there were
@@ -19,6 +19,10 @@ Left n (fault c p) = Unit {0}
 
 abbrev Upto : {A : Type 0} → ℕ → Reader A → Reader A → Type 0
 Upto n m m′ = (p : ℕ) (ws : List ℕ) → length ws ≤ n → (m p ws ≡ m′ p ws) × Left (length ws) (m p ws)
+
+-- one that never leaves more
+abbrev Shrinks : {A : Type 0} → Reader A → Type 0
+Shrinks m = (n : ℕ) → Upto n m m
 
 weaken : {A : Type 0} (n n′ : ℕ) (o : Read A) → n ≤ n′ → Left n o → Left n′ o
 weaken n n′ (got a p ws) h l = omega arith
@@ -66,21 +70,21 @@ word-upto {n = n} {k} {k′} h p (w ∷ ws) l =
 less-upto : {A : Type 0} {n : ℕ} {m m′ : Reader A} → Upto (suc n) m m′ → Upto n m m′
 less-upto h p ws l = h p ws (omega arith)
 
-name-upto : {n : ℕ} → Upto n name name
-unfolding name
-name-upto = less-upto (word-upto (λ p w. pick-upto _ (give-upto w) (reserved-upto p)))
+pub written-upto : Shrinks written
+unfolding written
+written-upto n = less-upto (word-upto (λ p w. pick-upto _ (give-upto w) (reserved-upto p)))
 
-variable-upto : {n : ℕ} → Upto n variable variable
-unfolding variable
-variable-upto = bind-upto name-upto (λ a. give-upto _)
-
-typeName-upto : {n : ℕ} → Upto n typeName typeName
-unfolding typeName
-typeName-upto = bind-upto name-upto (λ a. give-upto _)
-
-any-upto : {n : ℕ} → Upto n any any
+pub any-upto : Shrinks any
 unfolding any
-any-upto = less-upto (word-upto (λ p w. give-upto w))
+any-upto n = less-upto (word-upto (λ p w. give-upto w))
+
+variable-upto : {n : ℕ} {name : Reader ℕ} → Shrinks name → Upto n (variable name) (variable name)
+unfolding variable
+variable-upto names = bind-upto (names _) (λ a. give-upto _)
+
+typeName-upto : {n : ℕ} {name : Reader ℕ} → Shrinks name → Upto n (typeName name) (typeName name)
+unfolding typeName
+typeName-upto names = bind-upto (names _) (λ a. give-upto _)
 
 within-upto : {n : ℕ} (low high : ℕ) → Upto n (within low high) (within low high)
 unfolding within
@@ -119,52 +123,54 @@ module _ {A : Type 0} (R : ℕ → Reader A) (o : ℕ → Read A) (few : (p : �
   whole-upto : (n d : ℕ) → n ≤ d → Upto n (R d) (λ p ws. R (length ws) p ws)
   whole-upto n d h p ws l = deep-upto (length ws) d (length ws) (omega arith) (le-refl (length ws)) p ws (le-refl (length ws))
 
--- ## Types
+-- ## Types, with any reader of names
 
-tyRows-upto : {n : ℕ} {m m′ : Reader Ty} → Upto n m m′ → Rows n (tyRows m) (tyRows m′)
-unfolding tyRows
-tyRows-upto h =
-    and (give-upto _)
-    (and (give-upto _)
-    (and (bind-upto typeName-upto (λ a. give-upto _))
-    (and (bind-upto typeName-upto (λ a. give-upto _))
-    (and (bind-upto h (λ A. bind-upto h (λ B. give-upto _)))
-    (and (bind-upto typeName-upto (λ a. bind-upto h (λ A. give-upto _))) last)))))
-
-readTy-none : (d p : ℕ) → readTy d p [] ≡ fault 4 p
+readTy-none : (name : Reader ℕ) (d p : ℕ) → readTy name d p [] ≡ fault 4 p
 unfolding readTy oneOf word
-readTy-none zero p = refl
-readTy-none (suc d) p = refl
+readTy-none name zero p = refl
+readTy-none name (suc d) p = refl
 
--- `type` is the reader of types at any depth that is enough
-type-upto : (n d : ℕ) → n ≤ d → Upto n (readTy d) type
-unfolding type readTy
-type-upto = whole-upto readTy (λ p. fault 4 p) (λ p. tt) readTy-none (λ n d d′ h. oneOf-upto (tyRows-upto h))
+module _ {name : Reader ℕ} (names : Shrinks name) where
+  tyRows-upto : {n : ℕ} {m m′ : Reader Ty} → Upto n m m′ → Rows n (tyRows name m) (tyRows name m′)
+  unfolding tyRows
+  tyRows-upto h =
+      and (give-upto _)
+      (and (give-upto _)
+      (and (bind-upto (typeName-upto names) (λ a. give-upto _))
+      (and (bind-upto (typeName-upto names) (λ a. give-upto _))
+      (and (bind-upto h (λ A. bind-upto h (λ B. give-upto _)))
+      (and (bind-upto (typeName-upto names) (λ a. bind-upto h (λ A. give-upto _))) last)))))
 
-type-self : {n : ℕ} → Upto n type type
-unfolding type
-type-self p ws l = type-upto (length ws) (length ws) (le-refl (length ws)) p ws (le-refl (length ws))
+  -- `type` is the reader of types at any depth that is enough
+  type-upto : (n d : ℕ) → n ≤ d → Upto n (readTy name d) (type name)
+  unfolding type readTy
+  type-upto = whole-upto (readTy name) (λ p. fault 4 p) (λ p. tt) (readTy-none name) (λ n d d′ h. oneOf-upto (tyRows-upto h))
 
--- the equation of `type`
-pub type-eq : (p : ℕ) (ws : List ℕ) → type p ws ≡ oneOf (tyRows type) p ws
-unfolding type readTy oneOf word
-type-eq p [] = refl
-type-eq p (w ∷ ws) = oneOf-upto (tyRows-upto (type-upto (length ws) (length ws) (le-refl (length ws)))) p (w ∷ ws) (le-refl (length (w ∷ ws))) .0
+  type-self : {n : ℕ} → Upto n (type name) (type name)
+  unfolding type
+  type-self p ws l = type-upto (length ws) (length ws) (le-refl (length ws)) p ws (le-refl (length ws))
+
+  -- the equation of `type`
+  pub type-eq : (p : ℕ) (ws : List ℕ) → type name p ws ≡ oneOf (tyRows name (type name)) p ws
+  unfolding type readTy oneOf word
+  type-eq p [] = refl
+  type-eq p (w ∷ ws) =
+      oneOf-upto (tyRows-upto (type-upto (length ws) (length ws) (le-refl (length ws)))) p (w ∷ ws) (le-refl (length (w ∷ ws))) .0
 
 -- ## Expressions
 
 exprRows-upto : {n : ℕ} (p : ℕ) {m m′ : Reader Expr} → Upto n m m′ → Rows n (exprRows p m) (exprRows p m′)
 unfolding exprRows
 exprRows-upto p h =
-    and (bind-upto variable-upto (λ x. give-upto _))
+    and (bind-upto (variable-upto written-upto) (λ x. give-upto _))
     (and (bind-upto h (λ e. bind-upto h (λ e′. give-upto _)))
-    (and (bind-upto variable-upto (λ x. bind-upto type-self (λ A. bind-upto h (λ e. give-upto _))))
-    (and (bind-upto h (λ e. bind-upto type-self (λ A. give-upto _)))
-    (and (bind-upto typeName-upto (λ a. bind-upto h (λ e. give-upto _)))
-    (and (bind-upto h (λ e. bind-upto type-self (λ A. give-upto _)))
-    (and (bind-upto any-upto (λ l. bind-upto any-upto (λ k. give-upto _)))
+    (and (bind-upto (variable-upto written-upto) (λ x. bind-upto (type-self written-upto) (λ A. bind-upto h (λ e. give-upto _))))
+    (and (bind-upto h (λ e. bind-upto (type-self written-upto) (λ A. give-upto _)))
+    (and (bind-upto (typeName-upto written-upto) (λ a. bind-upto h (λ e. give-upto _)))
+    (and (bind-upto h (λ e. bind-upto (type-self written-upto) (λ A. give-upto _)))
+    (and (bind-upto (any-upto _) (λ l. bind-upto (any-upto _) (λ k. give-upto _)))
     (and (bind-upto (within-upto 0 1) (λ b. give-upto _))
-    (and (bind-upto variable-upto (λ x. bind-upto h (λ e. bind-upto h (λ e′. give-upto _))))
+    (and (bind-upto (variable-upto written-upto) (λ x. bind-upto h (λ e. bind-upto h (λ e′. give-upto _))))
     (and (bind-upto h (λ e. bind-upto h (λ e′. bind-upto h (λ e″. give-upto _))))
     (and (bind-upto (within-upto 1 12) (λ o. bind-upto h (λ e. bind-upto h (λ e′. give-upto _)))) last))))))))))
 
@@ -187,43 +193,47 @@ unfolding expression readExpr oneOf word
 expression-eq p [] = refl
 expression-eq p (w ∷ ws) = exprOf-upto (expression-upto (length ws) (length ws) (le-refl (length ws))) p (w ∷ ws) (le-refl (length (w ∷ ws))) .0
 
--- ## Contexts
+-- ## Contexts, with any reader of names
 
 -- one entry, and the rest by m
-unfoldable pub more : Reader Ctx → Reader Ctx
-more m = do e ← entry; Γ ← m; give (e ∷ Γ)
+unfoldable pub more : Reader ℕ → Reader Ctx → Reader Ctx
+more name m = do e ← entry name; Γ ← m; give (e ∷ Γ)
 
--- what follows a word has one word less
-after-word : {A B : Type 0} {n : ℕ} {k : ℕ → ℕ → Reader A} {f f′ : A → Reader B} → ((p w : ℕ) → Upto n (k p w) (k p w))
-    → ((a : A) → Upto n (f a) (f′ a)) → Upto (suc n) (_>>=_ (word k) f) (_>>=_ (word k) f′)
+-- what follows a word, and what is made of it, has one word less
+after-word : {A B C : Type 0} {n : ℕ} {k : ℕ → ℕ → Reader A} {g : A → Reader B} {f f′ : B → Reader C} → ((p w : ℕ) → Upto n (k p w) (k p w))
+    → ((a : A) → Upto n (g a) (g a)) → ((b : B) → Upto n (f b) (f′ b))
+    → Upto (suc n) (_>>=_ (_>>=_ (word k) g) f) (_>>=_ (_>>=_ (word k) g) f′)
 unfolding _>>=_ word next
-after-word h g p [] l = (refl, tt)
-after-word {n = n} {k} {f} {f′} h g p (w ∷ ws) l =
-    let r = bind-upto (h p w) g (suc p) ws (omega arith) in
-    (r .0, weaken (length ws) (suc (length ws)) (next (k p w (suc p) ws) f) (omega arith) (r .1))
-
-more-upto : {n : ℕ} {m m′ : Reader Ctx} → Upto n m m′ → Upto (suc n) (more m) (more m′)
-unfolding more entry oneOf
-more-upto h =
-    after-word (λ p w. row-upto w p
-    (and (bind-upto variable-upto (λ x. bind-upto type-self (λ A. give-upto _)))
-    (and (bind-upto typeName-upto (λ a. give-upto _))
-    (and (bind-upto typeName-upto (λ a. give-upto _))
-    (and (bind-upto typeName-upto (λ a. bind-upto type-self (λ A. give-upto _)))
-    (and (bind-upto typeName-upto (λ a. give-upto _)) last))))))
-    (λ e. bind-upto h (λ Γ. give-upto _))
+after-word h i j p [] l = (refl, tt)
+after-word {n = n} {k} {g} {f} {f′} h i j p (w ∷ ws) l =
+    let r = bind-upto (bind-upto (h p w) i) j (suc p) ws (omega arith) in
+    (r .0, weaken (length ws) (suc (length ws)) (next (next (k p w (suc p) ws) g) f) (omega arith) (r .1))
 
 unlessEnd-upto : {A : Type 0} {n : ℕ} (a : A) {m m′ : Reader A} → Upto n m m′ → Upto n (unlessEnd a m) (unlessEnd a m′)
 unfolding unlessEnd
 unlessEnd-upto a h p [] l = (refl, le-refl 0)
 unlessEnd-upto a h p (w ∷ ws) l = h p (w ∷ ws) l
 
-context-upto : (n d : ℕ) → n ≤ d → Upto n (readCtx d) context
-unfolding context readCtx more
-context-upto = whole-upto readCtx (λ p. got [] p []) (λ p. le-refl 0) readCtx-none (λ n d d′ h. unlessEnd-upto [] (more-upto h))
+module _ {name : Reader ℕ} (names : Shrinks name) where
+  more-upto : {n : ℕ} {m m′ : Reader Ctx} → Upto n m m′ → Upto (suc n) (more name m) (more name m′)
+  unfolding more entry binding oneOf
+  more-upto h =
+      after-word (λ p w. row-upto w p
+      (and (bind-upto (variable-upto names) (λ x. bind-upto (type-self names) (λ A. give-upto _)))
+      (and (bind-upto (typeName-upto names) (λ a. give-upto _))
+      (and (bind-upto (typeName-upto names) (λ a. give-upto _))
+      (and (bind-upto (typeName-upto names) (λ a. bind-upto (type-self names) (λ A. give-upto _)))
+      (and (bind-upto (typeName-upto names) (λ a. give-upto _)) last))))))
+      (λ b. give-upto _)
+      (λ e. bind-upto h (λ Γ. give-upto _))
 
--- the equation of `context`
-pub context-eq : (p : ℕ) (ws : List ℕ) → context p ws ≡ unlessEnd [] (more context) p ws
-unfolding context readCtx unlessEnd more
-context-eq p [] = refl
-context-eq p (w ∷ ws) = more-upto (context-upto (length ws) (length ws) (le-refl (length ws))) p (w ∷ ws) (le-refl (length (w ∷ ws))) .0
+  context-upto : (n d : ℕ) → n ≤ d → Upto n (readCtx name d) (context name)
+  unfolding context readCtx more
+  context-upto =
+      whole-upto (readCtx name) (λ p. got [] p []) (λ p. le-refl 0) (readCtx-none name) (λ n d d′ h. unlessEnd-upto [] (more-upto h))
+
+  -- the equation of `context`
+  pub context-eq : (p : ℕ) (ws : List ℕ) → context name p ws ≡ unlessEnd [] (more name (context name)) p ws
+  unfolding context readCtx unlessEnd more
+  context-eq p [] = refl
+  context-eq p (w ∷ ws) = more-upto (context-upto (length ws) (length ws) (le-refl (length ws))) p (w ∷ ws) (le-refl (length (w ∷ ws))) .0

@@ -11,7 +11,7 @@ use lib.Seq.{slice-cons}
 use lib.Dec.{leb}
 use borrow.Author.Tests.{ne-eqb, lt-ltb, le-ltb, le-leb, lt-leb}
 use Rattle.definition.specs.Syntax.{pick, Ty, Expr}
-use Rattle.definition.specs.Question.{Read, got, fault, Reader, next, _>>=_, give, badShape, reservedName, word, any, within, name, variable, typeName, row, oneOf}
+use Rattle.definition.specs.Question.{Read, got, fault, Reader, next, _>>=_, give, badShape, reservedName, word, any, within, written, variable, typeName, row, oneOf}
 use Rattle.laws.proofs.Steps.{pick-true, pick-false}
 use Rattle.layout.specs.Places.{CodeAt}
 use Rattle.reading.specs.declared.Item.{Item}
@@ -155,27 +155,27 @@ code-at i h k = record { inside = omega arith; within = omega arith; is = k }
 
 module _ {q : List ℕ} {p e : ℕ} (i : Inside q p e) where
   pub name-end : e ≤ p → NameRead q p e (Fault 4 p)
-  unfolding name
+  unfolding written
   name-end h = reads-at (word-end _ q p e h) (refused (bad i))
 
   pub name-past : p < e → getD q p 0 < 1_000_000 → NameRead q p e (Past (p + 1))
-  unfolding name give
+  unfolding written give
   name-past h l =
       let s : WordTo q p (getD q p 0) (p + 1) = record { at = record { within = omega arith; is = refl }; to = refl } in
       reads-at (word-is _ q p e h (i .high) ∙ ap (λ (m : Reader ℕ). m (p + 1) (from q (p + 1) e)) (pick-true _ _ (lt-ltb _ _ l))) (past s (omega arith))
 
   pub name-reserved : p < e → 1_000_000 ≤ getD q p 0 → NameRead q p e (Fault 5 p)
-  unfolding name reservedName
+  unfolding written reservedName
   name-reserved h l =
       reads-at (word-is _ q p e h (i .high) ∙ ap (λ (m : Reader ℕ). m (p + 1) (from q (p + 1) e)) (pick-false _ _ (le-ltb _ _ l)))
       (refused (record { least = omega arith; most = le-refl 5; place = i .low }))
 
 module _ {q : List ℕ} {p e : ℕ} {r : Item} (x : NameRead q p e r) where
-  pub variable-read : Reads q e (λ v m. WordTo q p (v .number) m) r (variable p (from q p e))
+  pub variable-read : Reads q e (λ v m. WordTo q p (v .number) m) r (variable written p (from q p e))
   unfolding variable _>>=_
   variable-read = reads-map (λ n. record { number = n }) (λ n m s. s) x
 
-  pub typeName-read : Reads q e (λ a m. WordTo q p (a .number) m) r (typeName p (from q p e))
+  pub typeName-read : Reads q e (λ a m. WordTo q p (a .number) m) r (typeName written p (from q p e))
   unfolding typeName _>>=_
   typeName-read = reads-map (λ n. record { number = n }) (λ n m s. s) x
 

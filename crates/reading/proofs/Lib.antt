@@ -6,4 +6,3 @@ pub mod Expressions
 pub mod Contexts
 pub mod Sections
 pub mod Questions
-pub mod Table

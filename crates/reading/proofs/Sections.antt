@@ -10,7 +10,7 @@ use lib.Seq.{slice-cons, take-length, length-slice, length-take-le, take-add, dr
 use lib.Dec.{leb}
 use borrow.Author.Tests.{le-leb, lt-leb}
 use Rattle.definition.specs.Syntax.{pick}
-use Rattle.definition.specs.Question.{Read, Reader, got, fault, next, _>>=_, give, badShape, typeName, row, context, end, whole, counted, empty, unknown}
+use Rattle.definition.specs.Question.{Read, Reader, got, fault, next, _>>=_, give, badShape, written, typeName, row, context, end, whole, counted, empty, unknown}
 use Rattle.laws.proofs.Steps.{pick-true, pick-false}
 use Rattle.layout.specs.Places.{etvar-at}
 use Rattle.reading.specs.declared.Item.{Item}
@@ -34,7 +34,7 @@ unfolding unknown
 unknown-end {q} {p} {e} i h = reads-at (oneOf-end _ q p e h) (items.refused (bad i))
 
 module _ {q : List ℕ} {p e : ℕ} (i : Inside q p e) (h : p < e) where
-  unknown-row : {w : ℕ} → getD q p 0 ≡ w → unknown p (from q p e) ≡ row w ((4, typeName) ∷ []) (badShape p) (p + 1) (from q (p + 1) e)
+  unknown-row : {w : ℕ} → getD q p 0 ≡ w → unknown p (from q p e) ≡ row w ((4, typeName written) ∷ []) (badShape p) (p + 1) (from q (p + 1) e)
   unfolding unknown
   unknown-row k = oneOf-is _ q p e h (i .high) k
 
@@ -174,7 +174,7 @@ module _ {q : List ℕ} {p : ℕ} (i : Inside q p (length q)) where
       -- entries
       pub section-entries : {r : Part} → ContextRead q (p + 1) e r → SectionRead q p Entries r
       unfolding closed next
-      section-entries x = leaves-at (counted-is context) (go x)
+      section-entries x = leaves-at (counted-is (context written)) (go x)
         where
           go : {r : Part} {o : Read _} → Leaves q e (ContextTo q (p + 1) e) r o → Leaves q (length q) (Stands q p Entries) r (closed o)
           go (past {a = Γ} {m = m} t k) = leaves-at (closed-got Γ m (t .whole)) (past (entries-at (t .list)) (omega arith))

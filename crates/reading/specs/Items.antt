@@ -5,7 +5,7 @@ use mathlib.Core.List.{List}
 use lib.ListN.{length}
 use lib.Seq.{slice}
 use Rattle.definition.specs.Syntax.{Ty, Expr}
-use Rattle.definition.specs.Question.{Read, got, fault, Reader, within, name, type, expression}
+use Rattle.definition.specs.Question.{Read, got, fault, Reader, within, written, type, expression}
 use Rattle.layout.specs.Places.{size, exprSize, WordAt, TyAt, ExprAt}
 use Rattle.reading.specs.declared.Item.{Item}
 use Rattle.reading.specs.declared.Item.the-variants.{Past, Fault}
@@ -62,16 +62,16 @@ pub data Then {A : Type 0} (q : List ℕ) (e : ℕ) (Stands : ℕ → A → ℕ 
 -- ## Each reader
 
 abbrev pub NameRead : List ℕ → ℕ → ℕ → Item → Type 0
-NameRead q p e r = Reads q e (WordTo q p) r (name p (from q p e))
+NameRead q p e r = Reads q e (WordTo q p) r (written p (from q p e))
 
 abbrev pub WithinRead : List ℕ → ℕ → ℕ → ℕ → ℕ → Item → Type 0
 WithinRead q p e low high r = Reads q e (WithinTo q p low high) r (within low high p (from q p e))
 
 abbrev pub TypeRead : List ℕ → ℕ → ℕ → Item → Type 0
-TypeRead q p e r = Reads q e (TyTo q p) r (type p (from q p e))
+TypeRead q p e r = Reads q e (TyTo q p) r (type written p (from q p e))
 
 abbrev pub TypeThen : List ℕ → ℕ → Item → Item → Type 0
-TypeThen q e before r = Then q e (TyTo q) type before r
+TypeThen q e before r = Then q e (TyTo q) (type written) before r
 
 abbrev pub ExprRead : List ℕ → ℕ → ℕ → Item → Type 0
 ExprRead q p e r = Reads q e (ExprTo q p) r (expression p (from q p e))

@@ -3,4 +3,3 @@ pub mod Items
 pub mod Contexts
 pub mod Sections
 pub mod Questions
-pub mod Table

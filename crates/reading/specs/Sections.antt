@@ -5,7 +5,7 @@ use mathlib.Core.List.{List}
 use lib.ListN.{length}
 use Rattle.definition.specs.Syntax as syntax
 use Rattle.definition.specs.Syntax.{TyVar, Ctx}
-use Rattle.definition.specs.Question.{Reader, type, expression, context, counted, empty, unknown}
+use Rattle.definition.specs.Question.{Reader, written, type, expression, context, counted, empty, unknown}
 use Rattle.layout.specs.Places.{TyAt, ExprAt}
 use Rattle.reading.specs.declared.Item.{Item}
 use Rattle.reading.specs.declared.Item.the-variants as item
@@ -42,9 +42,9 @@ Held ETVar = TyVar
 
 abbrev pub section : (h : Holds) → Reader (Held h)
 section Nothing = empty
-section Entries = counted context
+section Entries = counted (context written)
 section Expr = counted expression
-section Ty = counted type
+section Ty = counted (type written)
 section ETVar = counted unknown
 
 pub data Stands (q : List ℕ) (p : ℕ) : (h : Holds) → Held h → ℕ → ℕ → Type 0 where

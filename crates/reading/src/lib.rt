@@ -1,5 +1,5 @@
 // Reading: one pass from left to right over the question's words; what it accepts, what it refuses and where, is the definition's.
-// It writes nothing; `ends` then lays out in work where each item ends.
+// It writes nothing.
 ghost use mathlib.Core.Path.{_≡_};
 ghost use Prim.Native.Nat.{_≤_};
 ghost use lib.ListN.{length};
@@ -7,8 +7,6 @@ ghost use Rattle.reading.specs.Items.{Inside, Onward, NameRead, WithinRe
 ghost use Rattle.reading.specs.Contexts.{EntryRead, ContextRead};
 ghost use Rattle.reading.specs.Sections.{UnknownRead, Whole, SectionRead, Onwards, SectionThen};
 ghost use Rattle.reading.specs.Questions.{valueOf, Planned, SectionsRead, ReadIs};
-
-pub mod ends;
 
 // "4 BadShape", "5 ReservedName".
 pub const BAD_SHAPE: usize = 4;

@@ -1,6 +1,6 @@
 -- From the entry's reply to a frame's bytes.
 use mathlib.Core.Path.{_≡_, ap, _∙_}
-use mathlib.Core.List.{List, _++_}
+use mathlib.Core.List.{List, _∷_, _++_}
 use Prim.Native.Nat.{ℕ, _+_, _-_, _*_, _≤_}
 use native.Mathlib.Omega.{arith}
 use native.Mathlib.Nat.{sub-zero}
@@ -16,7 +16,6 @@ use Rattle.wire.proofs.Bytes.{length-words, length-bytes}
 use Rattle.sized.specs.Sized.{writtenOf}
 use Rattle.sized.proofs.Lengths.{Measured, replies, length-written}
 use Rattle.sized.proofs.Answering.{first-words}
-use Rattle.host.specs.Host.{numbersOf}
 use Rattle.replay.specs.declared.Frame.{Frame}
 use Rattle.replay.specs.Replayed.{framed, Asked, Replayed}
 
@@ -32,17 +31,13 @@ asked {b} {w} {w′} {part} {t} {r} f ws rest more lw lp e x =
     record { numbers = n; report = first-words part more k n (rw i at (x .report)); fits = omega (arith, length-written k n, k .within) }
 
 pub replayed : {b s out : List ℕ} {r : Reply} {n : ℕ} (f : Frame) (rest : List ℕ) → Asked f b s r → n ≡ writtenOf r
-    → out ≡ bytesOf (numbersOf r ++ take (n - 0) (drop 0 s)) ++ rest → 16 + 4 * n ≤ length out → Replayed f b out (16 + 4 * n)
+    → out ≡ bytesOf (r .code ∷ r .at ∷ r .len ∷ r .units ∷ take (n - 0) (drop 0 s)) ++ rest → 16 + 4 * n ≤ length out → Replayed f b out (16 + 4 * n)
 unfolding numbers
 replayed {b} {s} {out} {r} {n} f rest a w e h =
     let R : definition.Reply = framed f b in
     let k : Measured (f .report) R = replies (f .budget) (f .work) (f .report) (wordsOf b (f .count)) in
     let m : Numbers R r = a .numbers in
     let t : take (n - 0) (drop 0 s) ≡ R .report = rw (w, sub-zero) (a .report) in
-    let l : length (bytesOf (numbersOf r ++ R .report)) ≡ 16 + 4 * n = length-bytes (numbersOf r ++ R .report) ∙ omega (arith, w, length-written k m) in
-    let o : out ≡ bytesOf (numbersOf r ++ R .report) ++ rest = e ∙ ap (λ (u : List ℕ). bytesOf (numbersOf r ++ u) ++ rest) t in
-    let v : numbersOf r ≡ numbers R = rw (m .code, m .at, m .len, m .units) in
-    record {
-      is = ap (take (16 + 4 * n)) o ∙ take-at (bytesOf (numbersOf r ++ R .report)) rest (16 + 4 * n) l ∙ ap (λ (u : List ℕ). bytesOf (u ++ R .report)) v;
-      within = h;
-    }
+    let o : out ≡ bytesOf (numbers R ++ R .report) ++ rest = rw (m .code, m .at, m .len, m .units, t) at e in
+    let l : length (bytesOf (numbers R ++ R .report)) ≡ 16 + 4 * n = length-bytes (numbers R ++ R .report) ∙ omega (arith, w, length-written k m) in
+    record { is = ap (take (16 + 4 * n)) o ∙ take-at (bytesOf (numbers R ++ R .report)) rest (16 + 4 * n) l; within = h }

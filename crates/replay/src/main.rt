@@ -42,7 +42,7 @@ fn answer(
 {
     let r = ask(f, bytes, words, work, report);
     let n = sized::written(r);
-    host::put_reply(out, r, &report[0..n]);
+    wire::put_reply(out, r.code, r.at, r.len, r.units, &report[0..n]);
     16 + 4 * n
 }
 

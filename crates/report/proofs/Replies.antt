@@ -14,7 +14,7 @@ use Rattle.judging.specs.declared.Answer.{Answer}
 use Rattle.judging.specs.declared.Bad.{Bad}
 use Rattle.writing.specs.Spelling.{Ground, Spelled}
 use Rattle.report.specs.declared.Report.{Report}
-use Rattle.report.specs.Reports.{ResultAt, OfResult, ErrorAt, OfError, Reported, Reports}
+use Rattle.report.specs.Reports.{ResultAt, OfResult, OfError, Reported, Reports}
 
 -- ## From how a run ended
 
@@ -25,9 +25,6 @@ pub landed-result : {q w : List ℕ} {s : State} {a : Answer} {k l n : ℕ} {C :
     → s .low ≤ length w → ResultAt q w a (s .low) (C, Δ, t)
 landed-result x h = record { den = x .den; run = x .run; nodes = x .nodes; within = h }
 
-pub failed-error : {q w : List ℕ} {b : Bad} {e : TypeError} {l : ℕ} → Failed q w b e l → ErrorAt q w b e
-failed-error x = record { code = x .code; types = x .types }
-
 module _ {q w : List ℕ} {a : Answer} {high : ℕ} {r : Result} (kind : ℕ) (x : ResultAt q w a high r) where
   pub result-spelled : Ground q w (a .st .top) → Spelled q w (a .st .top) (OfResult q w kind a high)
   result-spelled g = record { ground = g; words = resultWords kind r; says = record { it = r; stands = x; is = refl } }
@@ -35,9 +32,9 @@ module _ {q w : List ℕ} {a : Answer} {high : ℕ} {r : Result} (kind : ℕ) (x
   pub result-reported : {s s′ : List ℕ} {z : Report} → Reports (OfResult q w kind a high) s s′ z → Reported s s′ (resultWords kind r) z
   result-reported k = k .is (resultWords kind r) (record { it = r; stands = x; is = refl })
 
-module _ {q w : List ℕ} {b : Bad} {e : TypeError} (x : ErrorAt q w b e) where
+module _ {q w : List ℕ} {b : Bad} {e : TypeError} {l : ℕ} (x : Failed q w b e l) where
   pub error-spelled : Ground q w (b .st .top) → Spelled q w (b .st .top) (OfError q w b)
-  error-spelled g = record { ground = g; words = errorWords e; says = record { it = e; stands = x; is = refl } }
+  error-spelled g = record { ground = g; words = errorWords (e .shown); says = record { it = e .shown; stands = x .shown; is = refl } }
 
-  pub error-reported : {s s′ : List ℕ} {z : Report} → Reports (OfError q w b) s s′ z → Reported s s′ (errorWords e) z
-  error-reported k = k .is (errorWords e) (record { it = e; stands = x; is = refl })
+  pub error-reported : {s s′ : List ℕ} {z : Report} → Reports (OfError q w b) s s′ z → Reported s s′ (errorWords (e .shown)) z
+  error-reported k = k .is (errorWords (e .shown)) (record { it = e .shown; stands = x .shown; is = refl })

@@ -4,23 +4,23 @@ use mathlib.Core.Bool.{Bool, true, false}
 use mathlib.Core.List.{List, _++_, append-nil}
 use Prim.Native.Nat.{ℕ, _+_, _≤_, _^_}
 use native.Mathlib.Omega.{arith}
-use lib.Dec.{ltb}
 use lib.ListN.{length, drop}
 use lib.Seq.{sets-eq}
-use Rattle.definition.specs.Syntax.{pick, Ty, section, noSection, tySection, leaf, _&_, treeWords}
+use Rattle.definition.specs.Syntax.{pick, Ty, section, noSection, tySection, leaf, _&_, treeWords, Shown}
 use Rattle.definition.specs.Rules.{Result}
-use Rattle.definition.specs.Reply.{errorCode, errorWords, givesType, resultWords}
+use Rattle.definition.specs.Reply.{errorWords, givesType, resultWords}
 use Rattle.layout.specs.Denotes.{Den}
-use Rattle.judging.specs.Ending.{ErrorTypes, e-unbound, e-application, e-type-application, e-occurs, e-subtyping, e-instantiation, e-parameter}
+use Rattle.judging.specs.Ending.{ShownAt, no-type, one-type, two-types}
 use Rattle.judging.specs.declared.Answer.{Answer}
-use Rattle.judging.specs.declared.Bad.{Bad}
-use Rattle.writing.specs.Spelling.{Section, Long, Spelled, Room, Writable, Writes}
+use Rattle.judging.specs.declared.Shown as program
+use Rattle.writing.specs.Spelling.{Spells, Section, Long, Spelled, Room, Writable, Writes}
 use Rattle.writing.specs.Types.{OfPart}
 use Rattle.writing.proofs.Spelling.{join}
+use Rattle.report.specs.declared.Slots.{Slots}
 use Rattle.report.specs.declared.Report.{Report}
 use Rattle.report.specs.declared.Report.the-variants.{Written, NoRoom}
 use Rattle.report.specs.Nodes.{OfNodes}
-use Rattle.report.specs.Reports.{ResultAt, OfResult, ResultParts, OfError, ErrorParts, namesTwo, Told, fits, too-long, Reported, reported, no-room, Reports}
+use Rattle.report.specs.Reports.{ResultAt, OfResult, ResultParts, slotsOf, ErrorParts, Told, fits, too-long, Reported, reported, no-room, Reports}
 use Rattle.report.proofs.Nodes.{context-section, type-section, unused-section}
 
 -- ## A result: three sections
@@ -49,19 +49,15 @@ result-parts kind e ws x =
 
 -- ## A type error: two sections
 
-pub error-parts : {q w : List ℕ} {two : Bool} {b : Bad} → two ≡ namesTwo (b .code) → (ws : List ℕ) → OfError q w b ws
-    → ErrorParts q w (ltb 11 (b .code)) two b ws
-unfolding errorCode errorWords
-error-parts {q} {w} {two} {b} f ws x = rw (x .is, f, x .stands .code) (go (x .stands .types))
+pub error-parts : {q w : List ℕ} {t : ℕ} {p : program.Shown} {s : Slots} → s ≡ slotsOf p → (ws : List ℕ) → Spells (ShownAt q w t p) errorWords ws
+    → ErrorParts q w t s ws
+unfolding errorWords
+error-parts {q} {w} {t} f ws x = rw (x .is, f) (go (x .stands))
   where
-    go : {e : _} → ErrorTypes q w (b .st .top) (b .left) (b .right) e → ErrorParts q w (ltb 11 (errorCode e)) (namesTwo (errorCode e)) b (errorWords e)
-    go e-unbound = join _ _ unused-section unused-section
-    go (e-application d) = join _ _ (type-section d) unused-section
-    go (e-type-application d) = join _ _ (type-section d) unused-section
-    go (e-occurs d) = join _ _ (type-section d) unused-section
-    go (e-subtyping d k) = join _ _ (type-section d) (type-section k)
-    go (e-instantiation d) = join _ _ (type-section d) unused-section
-    go (e-parameter d k) = join _ _ (type-section d) (type-section k)
+    go : {p : program.Shown} {h : Shown} → ShownAt q w t p h → ErrorParts q w t (slotsOf p) (errorWords h)
+    go no-type = join _ _ unused-section unused-section
+    go (one-type d) = join _ _ (type-section d) unused-section
+    go (two-types d k) = join _ _ (type-section d) (type-section k)
 
 -- ## What becomes of a report
 

@@ -1,21 +1,24 @@
 -- Results and type errors by their words, and what becomes of a report.
 use mathlib.Core.Path.{_≡_}
-use mathlib.Core.Bool.{Bool, _||_}
+use mathlib.Core.Bool.{Bool, true, false}
 use mathlib.Core.List.{List, _++_}
 use Prim.Native.Nat.{ℕ, _≤_, _<_, min}
-use lib.Dec.{eqb}
 use lib.ListN.{length, drop}
-use Rattle.definition.specs.Syntax.{leaf, _&_, TypeError}
+use Rattle.definition.specs.Syntax.{leaf, _&_}
 use Rattle.definition.specs.Rules.{Result}
-use Rattle.definition.specs.Reply.{most, errorCode, errorWords, resultWords}
+use Rattle.definition.specs.Reply.{most, errorWords, resultWords}
 use Rattle.layout.specs.Denotes.{Den, Run}
 use Rattle.judging.specs.Nodes.{NodesAt}
-use Rattle.judging.specs.Ending.{ErrorTypes}
+use Rattle.judging.specs.Ending.{ShownAt}
 use Rattle.judging.specs.declared.Answer.{Answer}
 use Rattle.judging.specs.declared.Bad.{Bad}
+use Rattle.judging.specs.declared.Shown.{Shown}
+use Rattle.judging.specs.declared.Shown.the-variants.{NoType, OneType, TwoTypes}
 use Rattle.writing.specs.Spelling.{Spells, _Then_, Section}
 use Rattle.writing.specs.Types.{OfPart}
 use Rattle.writing.specs.Contexts.{OfContext}
+use Rattle.report.specs.declared.Slot.{Slot}
+use Rattle.report.specs.declared.Slots.{Slots}
 use Rattle.report.specs.declared.Report.{Report}
 use Rattle.report.specs.declared.Report.the-variants.{Written, NoRoom}
 use Rattle.report.specs.Nodes.{OfNodes}
@@ -39,21 +42,23 @@ ResultParts q w gives a high =
     Then Section (OfContext q w (a .st .top) (a .g))
     Then Section (OfNodes q w (a .st .top) (a .st .low) high)
 
--- ## A type error
-
-pub record ErrorAt (q w : List ℕ) (b : Bad) (e : TypeError) : Type 0 where
-  pub code : b .code ≡ errorCode e
-  pub types : ErrorTypes q w (b .st .top) (b .left) (b .right) e
+-- ## A type error: the types that it shows
 
 abbrev pub OfError : List ℕ → List ℕ → Bad → List ℕ → Type 0
-OfError q w b = Spells (ErrorAt q w b) errorWords
+OfError q w b = Spells (ShownAt q w (b .st .top) (b .shown)) errorWords
 
--- its two sections
-abbrev pub ErrorParts : List ℕ → List ℕ → Bool → Bool → Bad → List ℕ → Type 0
-ErrorParts q w one two b = Section (OfPart q w (b .st .top) one (b .left)) Then Section (OfPart q w (b .st .top) two (b .right))
+-- what fills its two sections
+abbrev pub slotsOf : Shown → Slots
+slotsOf NoType = ((false, 0), (false, 0))
+slotsOf (OneType l) = ((true, l), (false, 0))
+slotsOf (TwoTypes l r) = ((true, l), (true, r))
 
-abbrev pub namesTwo : ℕ → Bool
-namesTwo code = eqb code 15 || eqb code 17
+abbrev pub OfSlot : List ℕ → List ℕ → ℕ → Slot → List ℕ → Type 0
+OfSlot q w t s = Section (OfPart q w t (s .0) (s .1))
+
+-- the two sections
+abbrev pub ErrorParts : List ℕ → List ℕ → ℕ → Slots → List ℕ → Type 0
+ErrorParts q w t s = OfSlot q w t (s .0) Then OfSlot q w t (s .1)
 
 -- ## What becomes of a report
 

@@ -1,6 +1,7 @@
 // The report: how long it is, from the records' own lengths; then its words, or that there is no room for them.
 use judging::Answer;
 use judging::Bad;
+use judging::Shown;
 use layout::MOST;
 use layout::Span;
 use layout::put;
@@ -21,7 +22,7 @@ ghost use Rattle.definition.specs.Reply.{givesType};
 ghost use Rattle.writing.specs.Spelling.{Section, Long, Spelled, Writable, Writes};
 ghost use Rattle.writing.specs.After.{Measures, Stands};
 ghost use Rattle.report.specs.Nodes.{fills, NodeRead, WordsFit, Three, OfNode, OfNodes, NodeLong, WritesNode};
-ghost use Rattle.report.specs.Reports.{OfResult, ResultParts, namesTwo, OfError, ErrorParts, Told, Reports};
+ghost use Rattle.report.specs.Reports.{OfResult, ResultParts, OfError, slotsOf, ErrorParts, Told, Reports};
 
 // What became of a report: its length; or the slice is too short for it, and the length that is needed (at most MOST).
 pub enum Report {
@@ -202,7 +203,7 @@ fn tree_length(
     let mut m = high;
     let mut last = context;
     while low < m {
-        m -= 12;
+        m -= judging::NODE;
         let z = node_length(q, work, top, m, last);
         total = sum(total, z.length);
         last = z.output;
@@ -229,7 +230,7 @@ fn write_tree(
     let mut m = high;
     let mut last = context;
     while low < m {
-        m -= 12;
+        m -= judging::NODE;
         let z = write_node(q, work, top, m, report, next, last);
         next = z.end;
         last = z.output;
@@ -247,17 +248,6 @@ fn gives_type(kind: usize) -> bool
         1 => true,
         3 => true,
         7 => true,
-        _ => false,
-    }
-}
-
-// Whether a type error of this code names two types: a subtyping error and a parameter mismatch do.
-fn names_two(code: usize) -> bool
-    ensures { λ b. ⌜ b ≡ namesTwo code ⌝ }
-{
-    match code {
-        15 => true,
-        17 => true,
         _ => false,
     }
 }
@@ -304,25 +294,45 @@ fn write_result(
     write_tree(q, work, st.top, st.low, high, report, tree, standing)
 }
 
-// How long a type error's report is: two types, of which none, the first or both are used.
-fn error_length(q: &[u32], work: &[u32], one: bool, two: bool, b: Bad) -> usize
-    requires { ⌜ Spelled (now q) (now work) (b .st .top) (ErrorParts (now q) (now work) one two b) ⌝ }
-    ensures { λ n. ⌜ Long (2 ^ 32) (ErrorParts (now (q .entry)) (now (work .entry)) one two b) n ⌝ }
+// A section for a type: whether it is filled, and by which type.
+struct Slot(bool, usize);
+
+// A type error's two sections.
+struct Slots(Slot, Slot);
+
+// Each type that is shown fills a section, the first one first.
+fn slots_of(shown: Shown) -> Slots
+    ensures { λ s. ⌜ s ≡ slotsOf shown ⌝ }
 {
-    let st = b.st;
-    let left = section_length(q, work, st.top, one, b.left);
-    let right = section_length(q, work, st.top, two, b.right);
-    sum(left, right)
+    let none = Slot(false, 0);
+    match shown {
+        Shown::NoType => Slots(none, none),
+        Shown::OneType(a) => Slots(Slot(true, a), none),
+        Shown::TwoTypes(a, b) => Slots(Slot(true, a), Slot(true, b)),
+    }
+}
+
+// How long a type error's report is: its two sections.
+fn error_length(q: &[u32], work: &[u32], top: usize, s: Slots) -> usize
+    requires { ⌜ Spelled (now q) (now work) top (ErrorParts (now q) (now work) top s) ⌝ }
+    ensures { λ n. ⌜ Long (2 ^ 32) (ErrorParts (now (q .entry)) (now (work .entry)) top s) n ⌝ }
+{
+    let a = s.0;
+    let b = s.1;
+    let first = section_length(q, work, top, a.0, a.1);
+    let second = section_length(q, work, top, b.0, b.1);
+    sum(first, second)
 }
 
 // Writes a type error's report.
-fn write_error(q: &[u32], work: &[u32], one: bool, two: bool, b: Bad, report: &mut [u32]) -> usize
-    requires { ⌜ Writable (now q) (now work) (b .st .top) (ErrorParts (now q) (now work) one two b) (now report) 0 ⌝ }
-    ensures { λ z. ⌜ Writes (ErrorParts (now (q .entry)) (now (work .entry)) one two b) (now (report .entry)) (now (report .exit)) 0 z ⌝ }
+fn write_error(q: &[u32], work: &[u32], top: usize, s: Slots, report: &mut [u32]) -> usize
+    requires { ⌜ Writable (now q) (now work) top (ErrorParts (now q) (now work) top s) (now report) 0 ⌝ }
+    ensures { λ z. ⌜ Writes (ErrorParts (now (q .entry)) (now (work .entry)) top s) (now (report .entry)) (now (report .exit)) 0 z ⌝ }
 {
-    let st = b.st;
-    let right = write_section(q, work, st.top, one, b.left, report, 0);
-    write_section(q, work, st.top, two, b.right, report, right)
+    let a = s.0;
+    let b = s.1;
+    let second = write_section(q, work, top, a.0, a.1, report, 0);
+    write_section(q, work, top, b.0, b.1, report, second)
 }
 
 // What becomes of a report of length n in a slice of so many words.
@@ -365,14 +375,14 @@ pub fn report_error(q: &[u32], work: &[u32], b: Bad, report: &mut [u32]) -> Repo
     requires { ⌜ Spelled (now q) (now work) (b .st .top) (OfError (now q) (now work) b) ⌝ }
     ensures { λ z. ⌜ Reports (OfError (now (q .entry)) (now (work .entry)) b) (now (report .entry)) (now (report .exit)) z ⌝ }
 {
-    let code = b.code;
-    let one = 11 < code;
-    let two = names_two(code);
-    let n = error_length(q, work, one, two, b);
+    let st = b.st;
+    let shown = b.shown;
+    let s = slots_of(shown);
+    let n = error_length(q, work, st.top, s);
     let z = outcome(n, report.len());
     let Report::Written(_) = z else {
         return z;
     };
-    write_error(q, work, one, two, b, report);
+    write_error(q, work, st.top, s, report);
     z
 }

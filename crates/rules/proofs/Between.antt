@@ -1,4 +1,4 @@
--- The steps between recursive calls: strict mode's parameter, types with the context applied, a Forall's instance.
+-- The steps between judgements: strict mode's parameter, types with the context applied, a Forall's instance.
 use mathlib.Core.Path.{_≡_, refl, sym, _∙_}
 use mathlib.Core.Bool.{Bool, true, false}
 use mathlib.Core.List.{List}
@@ -20,14 +20,15 @@ use Rattle.layout.specs.declared.Made.the-variants as made
 use Rattle.layout.proofs.Denotes.{run-frame}
 use Rattle.types.specs.Reading.{Held, HeldAs, HeldNamed, Tagged, Named, BodyOf}
 use Rattle.types.proofs.Held.{room-held, held-as, held-named, body-held}
-use Rattle.steps.proofs.Forms.{IsForall, is-forall}
+use Rattle.rules.proofs.TypeForms.{IsForall, is-forall}
 use Rattle.walks.specs.Walks.{BothHeld, Same}
 use Rattle.substitution.specs.Passing.{Passed, Makes}
 use Rattle.substitution.specs.Calls.{SubstPre, Substed, ApplyPre, Applied}
 use Rattle.substitution.proofs.Passing as sub
-use Rattle.judging.specs.declared.Mode.{Mode}
+use Rattle.judging.specs.declared.Here.{Here}
+use Rattle.judging.specs.declared.Shown.the-variants.{OneType, TwoTypes}
 use Rattle.judging.specs.declared.Step.the-variants.{Fail, Spent}
-use Rattle.judging.specs.Ending.{Failed, e-parameter, e-type-application}
+use Rattle.judging.specs.Ending.{Failed, one-type, two-types}
 use Rattle.judging.proofs.Chain.{room-within}
 use Rattle.rules.specs.declared.Mid.{Mid}
 use Rattle.rules.specs.declared.Mid.the-variants.{On, End}
@@ -77,12 +78,12 @@ compares : (Γ : Ctx) (A P : Ty) {T : Ty} (l n : ℕ) {l′ n′ : ℕ} → appl
 unfolding parameter
 compares Γ A P l n e = bind-done (apply Γ P) _ l n e
 
-module _ {m : Mode} {q w : List ℕ} {s : State} {g : Span} {a p : ℕ} where
-  pub not-compared : m .«compares_parameter» ≡ false → Compared m q w w s g a p (On s 0 0)
+module _ {m : Here} {q w : List ℕ} {s : State} {g : Span} {a p : ℕ} where
+  pub not-compared : m .manner .«compares_parameter» ≡ false → Compared m q w w s g a p (On s 0 0)
   unfolding parameter give
   not-compared e = record { passes = λ Γ A P n d f. rw e (goes (sub.here w s) tt) }
 
-  module _ (e : m .«compares_parameter» ≡ true) {w₁ : List ℕ} {z : Made} (ap : Applied q w w₁ s g p z) where
+  module _ (e : m .manner .«compares_parameter» ≡ true) {w₁ : List ℕ} {z : Made} (ap : Applied q w w₁ s g p z) where
     pub parameter-spent : z ≡ made.Spent → Compared m q w w₁ s g a p (End Spent)
     unfolding parameter
     parameter-spent h = record {
@@ -101,7 +102,7 @@ module _ {m : Mode} {q w : List ℕ} {s : State} {g : Span} {a p : ℕ} where
             says (rw e (compares Γ A P _ _ (o .is) ∙ rw (pick-true (give (tt {0})) (refuse (parameterMismatch A (o .type))) x) refl)) (goes (went (o .passed)) tt);
       }
 
-      pub parameter-other : {k : ℕ} → b ≡ false → Room q w s k → Compared m q w w₁ s g a p (End (Fail (record { st = s₁; code = 17; name = 0; left = a; right = r })))
+      pub parameter-other : {k : ℕ} → b ≡ false → Room q w s k → Compared m q w w₁ s g a p (End (Fail (record { st = s₁; code = 17; name = 0; shown = TwoTypes a r; charge = 0 })))
       unfolding errorCode errorAt refuse
       parameter-other t room = record {
         passes = λ Γ A P n d f.
@@ -109,8 +110,8 @@ module _ {m : Mode} {q w : List ℕ} {s : State} {g : Span} {a p : ℕ} where
             let d₁ = sub.den-on (o .passed) d in
             let rm = sub.room-on (o .passed) room in
             let x : sameTy A (o .type) ≡ false = sym (same .is A (o .type) d₁ (o .den)) ∙ t in
-            let y : Failed q w₁ (record { st = s₁; code = 17; name = 0; left = a; right = r }) (parameterMismatch A (o .type)) (s₁ .left) =
-            record { base = rm .base; within = room-within rm; code = refl; name = refl; types = e-parameter d₁ (o .den); left = refl } in
+            let y : Failed q w₁ (record { st = s₁; code = 17; name = 0; shown = TwoTypes a r; charge = 0 }) (parameterMismatch A (o .type)) (s₁ .left) =
+            record { base = rm .base; within = room-within rm; code = refl; name = refl; shown = two-types d₁ (o .den); left = refl } in
             says (rw e (compares Γ A P _ _ (o .is) ∙ rw (pick-false (give (tt {0})) (refuse (parameterMismatch A (o .type))) x) refl)) (fails (o .passed .keep) y);
       }
 
@@ -170,12 +171,12 @@ module _ {q w : List ℕ} {s : State} {r by : ℕ} (pre : Two q w s r by) where
   type-held = room-held (pre .room) (pre .left)
 
   module _ {k : ℕ} (c : Tagged q w (s .top) r k) where
-    pub not-instantiated : (k ≡ 6 → ⊥) → Instantiated q w w s r by (End (Fail (record { st = s; code = 13; name = 0; left = r; right = 0 })))
+    pub not-instantiated : (k ≡ 6 → ⊥) → Instantiated q w w s r by (End (Fail (record { st = s; code = 13; name = 0; shown = OneType r; charge = 0 })))
     unfolding errorCode errorAt refuse
     not-instantiated h = record {
       passes = λ A B d f.
-          let y : Failed q w (record { st = s; code = 13; name = 0; left = r; right = 0 }) (typeApplicationError A) (s .left) =
-          record { base = pre .room .base; within = room-within (pre .room); code = refl; name = refl; types = e-type-application d; left = refl } in
+          let y : Failed q w (record { st = s; code = 13; name = 0; shown = OneType r; charge = 0 }) (typeApplicationError A) (s .left) =
+          record { base = pre .room .base; within = room-within (pre .room); code = refl; name = refl; shown = one-type d; left = refl } in
           says (rw (no-instance B A (λ e. h (c .is A d ∙ e))) refl) (fails (sub.here w s .keep) y);
     }
 

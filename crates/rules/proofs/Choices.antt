@@ -5,14 +5,13 @@ use Prim.Native.Nat.{ℕ}
 use native.Mathlib.Omega.{arith}
 use Rattle.definition.specs.Syntax
 use Rattle.definition.specs.Syntax.{pick, TmVar, TyVar, Ty, int, bool, var, etvar, arrow, forall, Expr, evar, app, abs, tapp, tabs, ann, litInt, litBool, letIn, ifThenElse, binOp, Ctx, Judgement, infer, check, inferApp, applicationTypeError}
-use Rattle.definition.specs.Question.{Mode}
 use Rattle.definition.specs.Run.{Out, refuse}
-use Rattle.definition.specs.Rules.{Fired, Judge, closes, _orElse_, when, on, onBoth, tyCode, asArrow, asETVar, asForall, exprCode, asAbs, chkLam, chkAll, chkSub, checkRule, inferAppRule, inferRule, rule, judge}
+use Rattle.definition.specs.Rules.{Fired, Judge, Here, closes, _orElse_, when, on, onBoth, tyCode, asArrow, asETVar, asForall, exprCode, asAbs, chkLam, chkAll, chkSub, checkRule, inferAppRule, inferRule, rule, judge}
 use Rattle.contexts.proofs.Search.{not-both}
 
 -- ## What is asked, taken apart further
 
-module _ (μ : Mode) (l n : ℕ) {j : Judgement} {Γ : Ctx} {e : Expr} {X : Out Fired} where
+module _ (μ : Here) (l n : ℕ) {j : Judgement} {Γ : Ctx} {e : Expr} {X : Out Fired} where
   pub infers : {e′ : Expr} → j ≡ infer Γ e → e ≡ e′ → inferRule μ (judge μ) Γ e′ l n ≡ X → rule μ (judge μ) j l n ≡ X
   unfolding rule
   infers p f x = rw (p, f) x
@@ -21,7 +20,7 @@ module _ (μ : Mode) (l n : ℕ) {j : Judgement} {Γ : Ctx} {e : Expr} {X : Out 
   unfolding rule
   checks p f h x = rw (p, f, h) x
 
-  pub applies : {A A′ : Ty} → j ≡ inferApp Γ e A → A ≡ A′ → inferAppRule (judge μ) Γ e A′ l n ≡ X → rule μ (judge μ) j l n ≡ X
+  pub applies : {A A′ : Ty} → j ≡ inferApp Γ e A → A ≡ A′ → inferAppRule μ (judge μ) Γ e A′ l n ≡ X → rule μ (judge μ) j l n ≡ X
   unfolding rule
   applies p h x = rw (p, h) x
 
@@ -59,41 +58,41 @@ no-lam k (letIn p x e e′) B h = refl
 no-lam k (ifThenElse p e e′ e″) B h = refl
 no-lam k (binOp p o e e′) B h = refl
 
-module _ (m : Mode) (judge : Judge) (Γ : Ctx) where
-  pub chk-int : (p l h : ℕ) → checkRule m judge Γ (litInt p l h) int ≡ closes Syntax.ChkLitInt Γ
+module _ (h : Here) (judge : Judge) (Γ : Ctx) where
+  pub chk-int : (p low high : ℕ) → checkRule h judge Γ (litInt p low high) int ≡ closes Syntax.ChkLitInt Γ
   unfolding checkRule exprCode tyCode when pick _orElse_
-  chk-int p l h = refl
+  chk-int p low high = refl
 
-  pub chk-bool : (p b : ℕ) → checkRule m judge Γ (litBool p b) bool ≡ closes Syntax.ChkLitBool Γ
+  pub chk-bool : (p b : ℕ) → checkRule h judge Γ (litBool p b) bool ≡ closes Syntax.ChkLitBool Γ
   unfolding checkRule exprCode tyCode when pick _orElse_
   chk-bool p b = refl
 
-  pub chk-lam : (p : ℕ) (x : TmVar) (A P C : Ty) (e : Expr) → checkRule m judge Γ (abs p x A e) (arrow P C) ≡ chkLam m judge Γ (x, A, e) (P, C)
+  pub chk-lam : (p : ℕ) (x : TmVar) (A P C : Ty) (e : Expr) → checkRule h judge Γ (abs p x A e) (arrow P C) ≡ chkLam h judge Γ (x, A, e) (P, C)
   unfolding checkRule exprCode tyCode when pick _orElse_ onBoth asAbs asArrow
   chk-lam p x A P C e = refl
 
   module _ (e : Expr) (B : Ty) (no-int : exprCode e ≡ 22 → tyCode B ≡ 1 → ⊥) (no-bool : exprCode e ≡ 23 → tyCode B ≡ 2 → ⊥)
       (no-abs : exprCode e ≡ 18 → tyCode B ≡ 5 → ⊥) where
-    late : checkRule m judge Γ e B ≡ (on (asForall B) (chkAll judge Γ e) orElse chkSub judge Γ e B)
+    late : checkRule h judge Γ e B ≡ (on (asForall B) (chkAll h judge Γ e) orElse chkSub h judge Γ e B)
     unfolding checkRule when pick _orElse_
-    late = rw (not-both _ _ _ _ no-int, not-both _ _ _ _ no-bool, no-lam (chkLam m judge Γ) e B no-abs) refl
+    late = rw (not-both _ _ _ _ no-int, not-both _ _ _ _ no-bool, no-lam (chkLam h judge Γ) e B no-abs) refl
 
-    pub chk-sub : (tyCode B ≡ 6 → ⊥) → checkRule m judge Γ e B ≡ chkSub judge Γ e B
+    pub chk-sub : (tyCode B ≡ 6 → ⊥) → checkRule h judge Γ e B ≡ chkSub h judge Γ e B
     unfolding on _orElse_
-    chk-sub h = late ∙ rw (no-forall B h) refl
+    chk-sub f = late ∙ rw (no-forall B f) refl
 
-  pub chk-all : (e : Expr) (a : TyVar) (A : Ty) → checkRule m judge Γ e (forall a A) ≡ chkAll judge Γ e (a, A)
+  pub chk-all : (e : Expr) (a : TyVar) (A : Ty) → checkRule h judge Γ e (forall a A) ≡ chkAll h judge Γ e (a, A)
   unfolding tyCode on asForall _orElse_
   chk-all e a A = late e (forall a A) (λ f g. omega arith) (λ f g. omega arith) (λ f g. omega arith)
 
 -- ## infer_app
 
-pub no-app : (judge : Judge) (Γ : Ctx) (e : Expr) (A : Ty) → (tyCode A ≡ 5 → ⊥) → (tyCode A ≡ 4 → ⊥)
-    → inferAppRule judge Γ e A ≡ refuse (applicationTypeError A)
+pub no-app : (h : Here) (judge : Judge) (Γ : Ctx) (e : Expr) (A : Ty) → (tyCode A ≡ 5 → ⊥) → (tyCode A ≡ 4 → ⊥)
+    → inferAppRule h judge Γ e A ≡ refuse (applicationTypeError A)
 unfolding inferAppRule tyCode on asArrow asETVar _orElse_
-no-app judge Γ e int f g = refl
-no-app judge Γ e bool f g = refl
-no-app judge Γ e (var a) f g = refl
-no-app judge Γ e (etvar a) f g = absurd (g refl)
-no-app judge Γ e (arrow A B) f g = absurd (f refl)
-no-app judge Γ e (forall a A) f g = refl
+no-app h judge Γ e int f g = refl
+no-app h judge Γ e bool f g = refl
+no-app h judge Γ e (var a) f g = refl
+no-app h judge Γ e (etvar a) f g = absurd (g refl)
+no-app h judge Γ e (arrow A B) f g = absurd (f refl)
+no-app h judge Γ e (forall a A) f g = refl

@@ -1,7 +1,13 @@
--- Laws of the rules of infer, check and infer_app.
+-- Laws of what rules do before, between and after their judgements.
 pub mod Forms
+pub mod TypeForms
+pub mod Standing
 pub mod Choices
 pub mod Ways
+pub mod Premises
+pub mod Opening
+pub mod Parting
+pub mod Under
 pub mod Plain
 pub mod Before
 pub mod Ends

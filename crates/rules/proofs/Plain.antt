@@ -19,54 +19,51 @@ use Rattle.types.proofs.Codes.{base-case}
 use Rattle.contexts.specs.Search.{Split}
 use Rattle.judging.specs.declared.Ask.{Ask}
 use Rattle.judging.specs.declared.Bad.{Bad}
-use Rattle.judging.specs.declared.Mode.{Mode}
+use Rattle.judging.specs.declared.Here.{Here}
+use Rattle.judging.specs.declared.Shown.the-variants.{NoType, OneType}
 use Rattle.judging.specs.declared.Step.the-variants.{Done, Fail}
-use Rattle.judging.specs.Asking.{mode, Asks, inferAsk, checkAsk, appAsk, RulePre}
-use Rattle.judging.specs.Ending.{Failed, e-unbound, e-application}
+use Rattle.judging.specs.Asking.{here, Asks, inferAsk, checkAsk, appAsk, RulePre}
+use Rattle.judging.specs.Ending.{Failed, no-type, one-type, Fires}
 use Rattle.judging.proofs.Asking.{infer-asked, check-asked, app-asked}
 use Rattle.judging.proofs.Nodes.{asks-run}
 use Rattle.judging.proofs.Chain.{room-within, begin, refuses, fires}
 use Rattle.rules.specs.Taking.{InferPre, Choice, lit-int, lit-bool, lam, all, sub, CheckPre, RefusePre}
-use Rattle.steps.specs.Modes.{FiresBoth}
+use Rattle.rules.proofs.Standing.{room-less}
 use Rattle.rules.proofs.Forms.{Var, LitInt, LitBool, form}
 use Rattle.rules.proofs.Choices.{infers, checks, applies, chk-int, chk-bool, no-app}
 
 -- ## An answer, or an error, that leaves all as it is
 
 -- the rule's outcome is an answer with the context as it is
-record Plainly (m : Mode) (q w : List ℕ) (s : State) (g : Span) (ty : ℕ) (r : Rule) (j : Judgement) : Type 0 where
+record Plainly (m : Here) (q w : List ℕ) (s : State) (g : Span) (ty : ℕ) (r : Rule) (j : Judgement) : Type 0 where
   C : Ty
   Γ : Ctx
   run : Run q w (s .top) (g .at) (g .n) Γ
   den : Den q w (s .top) ty C
-  is : rule (mode m) (judge (mode m)) j (s .left) (s .fresh) ≡ done (r, C, Γ, leaf) (s .left) (s .fresh)
+  is : rule (here m) (judge (here m)) j (s .left) (s .fresh) ≡ done (r, C, Γ, leaf) (s .left) (s .fresh)
 
 -- or an error
-record Plainly-not (m : Mode) (q w : List ℕ) (s : State) (b : Bad) (j : Judgement) : Type 0 where
+record Plainly-not (m : Here) (q w : List ℕ) (s : State) (b : Bad) (j : Judgement) : Type 0 where
   e : TypeError
   failed : Failed q w b e (s .left)
-  is : rule (mode m) (judge (mode m)) j (s .left) (s .fresh) ≡ fail e (s .left)
+  is : rule (here m) (judge (here m)) j (s .left) (s .fresh) ≡ fail e (s .left)
 
-module _ {q w : List ℕ} {s : State} {g : Span} {a : Ask} (pre : RulePre q w s g a) where
-  answers : (ty : ℕ) (r : Rule) {n : ℕ} → n ≡ ruleNumber r → ((m : Mode) (j : Judgement) → Asks q w (s .top) g a j → Plainly m q w s g ty r j)
-      → FiresBoth q w w s g a (Done (record { st = s; g = g; ty = ty; rule = n; kids = 0 }))
+module _ {m : Here} {q w : List ℕ} {s : State} {g : Span} {a : Ask} (pre : RulePre q w s g a) where
+  answers : (ty : ℕ) (r : Rule) {n : ℕ} → n ≡ ruleNumber r → ((j : Judgement) → Asks q w (s .top) g a j → Plainly m q w s g ty r j)
+      → Fires m q w w s g a (Done (record { st = s; g = g; ty = ty; rule = n; kids = 0; charge = 0 }))
   unfolding children
   answers ty r i f = record {
-    in-mode = λ m. record {
-      run = λ j k.
-          let y = f m j k in
-          let x = pre .room in
-          let rm : Room q w s 4 = record { base = x .base; fits = omega (arith, x .fits); low = x .low; cap = x .cap; names = x .names } in
-          rw i (fires s g ty r begin rm (omega arith) (y .run) (y .den) _ (y .is));
-    };
+    run = λ j k.
+        let y = f j k in
+        rw i (fires s g ty r begin (room-less (pre .room) 4 (omega arith)) (omega arith) (y .run) (y .den) _ (y .is));
   }
 
-  errors : {b : Bad} → ((m : Mode) (j : Judgement) → Asks q w (s .top) g a j → Plainly-not m q w s b j) → FiresBoth q w w s g a (Fail b)
-  errors f = record { in-mode = λ m. record { run = λ j k. let y = f m j k in refuses begin (y .failed) _ (y .is) } }
+  errors : {b : Bad} → ((j : Judgement) → Asks q w (s .top) g a j → Plainly-not m q w s b j) → Fires m q w w s g a (Fail b)
+  errors f = record { run = λ j k. let y = f j k in refuses begin (y .failed) _ (y .is) }
 
-  -- the run of entries lies in work
-  pub run-within : g .at + 4 * g .n ≤ length w
-  run-within = omega (arith, asks-run (pre .asks) .below, pre .room .fits, pre .room .low)
+-- the run of entries lies in work
+pub run-within : {q w : List ℕ} {s : State} {g : Span} {a : Ask} → RulePre q w s g a → g .at + 4 * g .n ≤ length w
+run-within pre = omega (arith, asks-run (pre .asks) .below, pre .room .fits, pre .room .low)
 
 is-int : (T : Ty) → tyCode T ≡ 1 → T ≡ int
 unfolding tyCode
@@ -76,100 +73,100 @@ is-bool : (T : Ty) → tyCode T ≡ 2 → T ≡ bool
 unfolding tyCode
 is-bool T e = base-case (λ T. tyCode T ≡ 2 → T ≡ bool) T (omega arith) (λ e. absurd (omega arith)) (λ e. refl) e
 
-module _ {q w : List ℕ} {s : State} {g : Span} {ex : ℕ} where
+module _ {m : Here} {q w : List ℕ} {s : State} {g : Span} {ex : ℕ} where
   -- ## Literals
 
-  pub lit-int-done : InferPre q w s g ex 22 → FiresBoth q w w s g (inferAsk ex) (Done (record { st = s; g = g; ty = 2048; rule = 2; kids = 0 }))
+  pub lit-int-done : InferPre q w s g ex 22 → Fires m q w w s g (inferAsk ex) (Done (record { st = s; g = g; ty = 2048; rule = 2; kids = 0; charge = 0 }))
   unfolding ruleNumber inferRule give
   lit-int-done pre =
       answers (pre .rule) 2048 Syntax.InfLitInt refl
-      (λ m j k.
+      (λ j k.
       let v = infer-asked ex k in
       let f : LitInt ex (v .e) = form 22 (pre .code) (v .at) in
-      record { C = int; Γ = v .Γ; run = v .run; den = int-den (pre .rule .room .base); is = infers (mode m) _ _ (v .is) (f .is) refl })
+      record { C = int; Γ = v .Γ; run = v .run; den = int-den (pre .rule .room .base); is = infers (here m) _ _ (v .is) (f .is) refl })
 
-  pub lit-bool-done : InferPre q w s g ex 23 → FiresBoth q w w s g (inferAsk ex) (Done (record { st = s; g = g; ty = 2049; rule = 3; kids = 0 }))
+  pub lit-bool-done : InferPre q w s g ex 23 → Fires m q w w s g (inferAsk ex) (Done (record { st = s; g = g; ty = 2049; rule = 3; kids = 0; charge = 0 }))
   unfolding ruleNumber inferRule give
   lit-bool-done pre =
       answers (pre .rule) 2049 Syntax.InfLitBool refl
-      (λ m j k.
+      (λ j k.
       let v = infer-asked ex k in
       let f : LitBool ex (v .e) = form 23 (pre .code) (v .at) in
-      record { C = bool; Γ = v .Γ; run = v .run; den = bool-den (pre .rule .room .base); is = infers (mode m) _ _ (v .is) (f .is) refl })
+      record { C = bool; Γ = v .Γ; run = v .run; den = bool-den (pre .rule .room .base); is = infers (here m) _ _ (v .is) (f .is) refl })
 
   pub check-lit-done : {ty r : ℕ} → CheckPre q w s g ex ty r → r < 19
-      → FiresBoth q w w s g (checkAsk ex ty) (Done (record { st = s; g = g; ty = 2048; rule = r; kids = 0 }))
+      → Fires m q w w s g (checkAsk ex ty) (Done (record { st = s; g = g; ty = 2048; rule = r; kids = 0; charge = 0 }))
   unfolding ruleNumber closes give
   check-lit-done {ty} {r} pre h = go (pre .choice)
     where
-      go : Choice (pre .k) (pre .c) r → FiresBoth q w w s g (checkAsk ex ty) (Done (record { st = s; g = g; ty = 2048; rule = r; kids = 0 }))
+      go : Choice (pre .k) (pre .c) r → Fires m q w w s g (checkAsk ex ty) (Done (record { st = s; g = g; ty = 2048; rule = r; kids = 0; charge = 0 }))
       go (lit-int i e t) =
           answers (pre .rule) 2048 Syntax.ChkLitInt i
-          (λ m j k.
+          (λ j k.
           let v = check-asked ex ty k in
           let f : LitInt ex (v .e) = form 22 (pre .code ∙ e) (v .at) in
           let b : v .T ≡ int = is-int (v .T) (sym (pre .tag .is (v .T) (v .den)) ∙ t) in
-          let c : checkRule (mode m) (judge (mode m)) (v .Γ) (litInt ex (f .l) (f .h)) int ≡ closes Syntax.ChkLitInt (v .Γ) = chk-int _ _ _ ex (f .l) (f .h) in
-          record { C = int; Γ = v .Γ; run = v .run; den = int-den (pre .rule .room .base); is = checks (mode m) _ _ (v .is) (f .is) b (rw c refl) })
+          let c : checkRule (here m) (judge (here m)) (v .Γ) (litInt ex (f .l) (f .h)) int ≡ closes Syntax.ChkLitInt (v .Γ) = chk-int _ _ _ ex (f .l) (f .h) in
+          record { C = int; Γ = v .Γ; run = v .run; den = int-den (pre .rule .room .base); is = checks (here m) _ _ (v .is) (f .is) b (rw c refl) })
       go (lit-bool i e t) =
           answers (pre .rule) 2048 Syntax.ChkLitBool i
-          (λ m j k.
+          (λ j k.
           let v = check-asked ex ty k in
           let f : LitBool ex (v .e) = form 23 (pre .code ∙ e) (v .at) in
           let b : v .T ≡ bool = is-bool (v .T) (sym (pre .tag .is (v .T) (v .den)) ∙ t) in
-          let c : checkRule (mode m) (judge (mode m)) (v .Γ) (litBool ex (f .b)) bool ≡ closes Syntax.ChkLitBool (v .Γ) = chk-bool _ _ _ ex (f .b) in
-          record { C = int; Γ = v .Γ; run = v .run; den = int-den (pre .rule .room .base); is = checks (mode m) _ _ (v .is) (f .is) b (rw c refl) })
+          let c : checkRule (here m) (judge (here m)) (v .Γ) (litBool ex (f .b)) bool ≡ closes Syntax.ChkLitBool (v .Γ) = chk-bool _ _ _ ex (f .b) in
+          record { C = int; Γ = v .Γ; run = v .run; den = int-den (pre .rule .room .base); is = checks (here m) _ _ (v .is) (f .is) b (rw c refl) })
       go (lam i e t) = absurd (omega arith)
       go (all i t) = absurd (omega arith)
       go (sub i a b c d) = absurd (omega arith)
 
   -- ## What is applied is no function
 
-  pub app-refused : {ty : ℕ} → RefusePre q w s g ty ex → FiresBoth q w w s g (appAsk ty ex) (Fail (record { st = s; code = 12; name = 0; left = ty; right = 0 }))
+  pub app-refused : {ty : ℕ} → RefusePre q w s g ty ex → Fires m q w w s g (appAsk ty ex) (Fail (record { st = s; code = 12; name = 0; shown = OneType ty; charge = 0 }))
   unfolding errorCode errorAt refuse
   app-refused {ty} pre =
       errors (pre .app .rule)
-      (λ m j k.
+      (λ j k.
       let v = app-asked ty ex k in
       let c = pre .app .tag .is (v .T) (v .den) in
-      let n = no-app (judge (mode m)) (v .Γ) (v .e) (v .T) (λ e. pre .no-arrow (c ∙ e)) (λ e. pre .no-etvar (c ∙ e)) in
+      let n = no-app (here m) (judge (here m)) (v .Γ) (v .e) (v .T) (λ e. pre .no-arrow (c ∙ e)) (λ e. pre .no-etvar (c ∙ e)) in
       record {
         e = applicationTypeError (v .T);
-        failed = record { base = pre .app .rule .room .base; within = room-within (pre .app .rule .room); code = refl; name = refl; types = e-application (v .den); left = refl };
-        is = applies (mode m) _ _ (v .is) refl (rw n refl);
+        failed = record { base = pre .app .rule .room .base; within = room-within (pre .app .rule .room); code = refl; name = refl; shown = one-type (v .den); left = refl };
+        is = applies (here m) _ _ (v .is) refl (rw n refl);
       })
 
-  -- ## A variable
+-- ## A variable
 
-  module _ (pre : InferPre q w s g ex 16) where
-    named : {j : Judgement} (k : Asks q w (s .top) g (inferAsk ex) j) → Var q ex (infer-asked ex k .e)
-    named k = form 16 (pre .code) (infer-asked ex k .at)
+module _ {q w : List ℕ} {s : State} {g : Span} {ex : ℕ} (pre : InferPre q w s g ex 16) where
+  named : {j : Judgement} (k : Asks q w (s .top) g (inferAsk ex) j) → Var q ex (infer-asked ex k .e)
+  named k = form 16 (pre .code) (infer-asked ex k .at)
 
-    pub var-within : ex + 1 < length q
-    var-within = named (pre .rule .asks) .name .within
+  pub var-within : ex + 1 < length q
+  var-within = named (pre .rule .asks) .name .within
 
-    module _ {x i : ℕ} (e : x ≡ getD q (ex + 1) 0) (f : Split w g (kVar (record { number = x })) i) where
-      called : {j : Judgement} (k : Asks q w (s .top) g (inferAsk ex) j) → named k .x ≡ record { number = x }
-      called k = rw (e ∙ named k .name .is) refl
+  called : {x : ℕ} → x ≡ getD q (ex + 1) 0 → {j : Judgement} (k : Asks q w (s .top) g (inferAsk ex) j) → named k .x ≡ record { number = x }
+  called e k = rw (e ∙ named k .name .is) refl
 
-      pub var-refused : i ≡ g .n → FiresBoth q w w s g (inferAsk ex) (Fail (record { st = s; code = 11; name = x; left = 0; right = 0 }))
-      unfolding errorCode errorAt inferRule infVar refuse
-      var-refused n =
-          errors (pre .rule)
-          (λ m j k.
-          let v = infer-asked ex k in
-          record {
-            e = unboundVariable (record { number = x });
-            failed = record { base = pre .rule .room .base; within = room-within (pre .rule .room); code = refl; name = refl; types = e-unbound; left = refl };
-            is = infers (mode m) _ _ (v .is) (named k .is) (rw (called k, f .missing n (v .run) .find-is) refl);
-          })
+  module _ {m : Here} {x i : ℕ} (e : x ≡ getD q (ex + 1) 0) (f : Split w g (kVar (record { number = x })) i) where
+    pub var-refused : i ≡ g .n → Fires m q w w s g (inferAsk ex) (Fail (record { st = s; code = 11; name = x; shown = NoType; charge = 0 }))
+    unfolding errorCode errorAt inferRule infVar refuse
+    var-refused n =
+        errors (pre .rule)
+        (λ j k.
+        let v = infer-asked ex k in
+        record {
+          e = unboundVariable (record { number = x });
+          failed = record { base = pre .rule .room .base; within = room-within (pre .rule .room); code = refl; name = refl; shown = no-type; left = refl };
+          is = infers (here m) _ _ (v .is) (named k .is) (rw (called e k, f .missing n (v .run) .find-is) refl);
+        })
 
-      pub var-done : {ty : ℕ} → i < g .n → ty ≡ getD w (g .at + 4 * i + 2) 0
-          → FiresBoth q w w s g (inferAsk ex) (Done (record { st = s; g = g; ty = ty; rule = 1; kids = 0 }))
-      unfolding ruleNumber inferRule infVar give
-      var-done {ty} n t =
-          answers (pre .rule) ty Syntax.InfVar refl
-          (λ m j k.
-          let v = infer-asked ex k in
-          let o = f .found n (v .run) in
-          record { C = o .ty; Γ = v .Γ; run = v .run; den = rw t (o .den); is = infers (mode m) _ _ (v .is) (named k .is) (rw (called k, o .find-is) refl) })
+    pub var-done : {ty : ℕ} → i < g .n → ty ≡ getD w (g .at + 4 * i + 2) 0
+        → Fires m q w w s g (inferAsk ex) (Done (record { st = s; g = g; ty = ty; rule = 1; kids = 0; charge = 0 }))
+    unfolding ruleNumber inferRule infVar give
+    var-done {ty} n t =
+        answers (pre .rule) ty Syntax.InfVar refl
+        (λ j k.
+        let v = infer-asked ex k in
+        let o = f .found n (v .run) in
+        record { C = o .ty; Γ = v .Γ; run = v .run; den = rw t (o .den); is = infers (here m) _ _ (v .is) (named k .is) (rw (called e k, o .find-is) refl) })

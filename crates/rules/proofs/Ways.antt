@@ -33,7 +33,7 @@ use Rattle.judging.proofs.Asking.{small-infer, small-check, small-app, small-su
 use Rattle.judging.proofs.Nodes.{_+++_, nodes-frame, nodes-join}
 use Rattle.judging.proofs.Steps.{NotDone, else-ends, came}
 use Rattle.judging.proofs.Chain.{Sofar, begin, built, stopped, refuses, fires, room-on, room-ready}
-use Rattle.steps.proofs.Going.{ref-small}
+use Rattle.rules.proofs.Standing.{ref-small}
 use Rattle.rules.specs.declared.Mid.{Mid}
 use Rattle.rules.specs.declared.Mid.the-variants.{On, End}
 use Rattle.rules.specs.Going.{Passes, goes, fails, stops, Finished}
@@ -74,7 +74,7 @@ pub apply-pre : {q w : List ℕ} {s : State} {g : Span} {k r : ℕ} {Γ : Ctx} {
 apply-pre r n d = record { spare = _; room = r; ctx = _; run = n; type = _; den = d }
 
 -- an answer whose number and children are known
-numbered : {a : Answer} {x c : ℕ} → a .rule ≡ x → a .kids ≡ c → record { st = a .st; g = a .g; ty = a .ty; rule = x; kids = c } ≡ a
+numbered : {a : Answer} {x c : ℕ} → a .rule ≡ x → a .kids ≡ c → record { st = a .st; g = a .g; ty = a .ty; rule = x; kids = c; charge = a .charge } ≡ a
 numbered e f = rw (← e, ← f) refl
 
 -- a step between went on

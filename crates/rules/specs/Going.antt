@@ -1,4 +1,4 @@
--- What the steps of a rule give: before its recursive calls, between them, and at its end.
+-- What the steps of a rule give: before its judgements, between them, and at its end.
 use mathlib.Core.Path.{_≡_}
 use mathlib.Core.Bool.{Bool, true, false}
 use mathlib.Core.List.{List}
@@ -6,9 +6,10 @@ use Prim.Native.Nat.{ℕ, _+_, _*_, _≤_}
 use lib.ListN.{length}
 use Rattle.definition.specs.Syntax.{TyVar, Ty, etvar, arrow, forall, varBnd, etvarBnd, Ctx, TypeError}
 use Rattle.definition.specs.Run.{Out, done, fail, stop, M, _>>=_, give}
-use Rattle.definition.specs.Rules.{parameter, branch, instantiate}
+use Rattle.definition.specs.Rules.{_from_, parameter, branch, instantiate}
 use Rattle.definition.specs.Contexts.{Key, kTVar, _▹_, rightOf, solvedAndRight}
 use Rattle.layout.specs.Names.{tm}
+use Rattle.layout.specs.States.{freshName}
 use Rattle.layout.specs.Words.{Keep}
 use Rattle.layout.specs.Denotes.{Den, Run}
 use Rattle.layout.specs.Room.{Room}
@@ -19,11 +20,11 @@ use Rattle.types.specs.Reading.{Held}
 use Rattle.substitution.specs.Passing.{Passed}
 use Rattle.judging.specs.declared.Answer.{Answer}
 use Rattle.judging.specs.declared.Bad.{Bad}
-use Rattle.judging.specs.declared.Mode.{Mode}
+use Rattle.judging.specs.declared.Here.{Here}
 use Rattle.judging.specs.declared.Step.{Step}
 use Rattle.judging.specs.declared.Step.the-variants.{Done, Fail, Spent}
+use Rattle.judging.specs.Asking.{here}
 use Rattle.judging.specs.Ending.{Failed}
-use Rattle.steps.specs.Parting.{freshName}
 use Rattle.rules.specs.declared.Lam.{Lam}
 use Rattle.rules.specs.declared.Mid.{Mid}
 use Rattle.rules.specs.declared.Mid.the-variants.{On, End}
@@ -39,7 +40,7 @@ pub record LamPre (q w : List ℕ) (s : State) (g : Span) (a : ℕ) : Type 0 whe
   pub den : Den q w (s .top) a type
 
 -- x : A and the unknown are pushed; the unknown and the lambda's type are made
-pub record LamIn (q w w′ : List ℕ) (s : State) (g : Span) (x : TmVar) (a : ℕ) (o : Lam) : Type 0 where
+pub record LamIn (h : Here) (q w w′ : List ℕ) (s : State) (g : Span) (x : TmVar) (a : ℕ) (o : Lam) : Type 0 where
   pub keep : Keep (s .top) (s .low) w w′
   pub up : s .top ≤ o .st .top
   pub most : o .st .top ≤ s .top + 14 + 4 * g .n
@@ -47,7 +48,7 @@ pub record LamIn (q w w′ : List ℕ) (s : State) (g : Span) (x : TmVar) (a : �
   pub left : o .st .left ≡ s .left
   pub fresh : o .st .fresh ≡ s .fresh + 1
   pub run : (Γ : Ctx) (A : Ty) → Run q w (s .top) (g .at) (g .n) Γ → Den q w (s .top) a A
-      → Run q w′ (o .st .top) (o .g .at) (o .g .n) (Γ ▹ varBnd (tm x) A ▹ etvarBnd (freshName (s .fresh)))
+      → Run q w′ (o .st .top) (o .g .at) (o .g .n) (Γ ▹ varBnd (tm x) A from here h ▹ etvarBnd (freshName (s .fresh)) from here h)
   pub unknown : Den q w′ (o .st .top) (o .b) (etvar (freshName (s .fresh)))
   pub arrow : (A : Ty) → Den q w (s .top) a A → Den q w′ (o .st .top) (o .ty) (arrow A (etvar (freshName (s .fresh))))
 
@@ -77,9 +78,9 @@ pub data Passes {X : Type 0} (q w w′ : List ℕ) (s : State) (D : X → ℕ �
 abbrev pub Nothing : Unit {0} → ℕ → ℕ → ℕ → Type 0
 Nothing u t a b = Unit {0}
 
-pub record Compared (m : Mode) (q w w′ : List ℕ) (s : State) (g : Span) (a p : ℕ) (z : Mid) : Type 0 where
+pub record Compared (h : Here) (q w w′ : List ℕ) (s : State) (g : Span) (a p : ℕ) (z : Mid) : Type 0 where
   pub passes : (Γ : Ctx) (A P : Ty) → Run q w (s .top) (g .at) (g .n) Γ → Den q w (s .top) a A → Den q w (s .top) p P
-      → Passes q w w′ s Nothing z (parameter (m .«compares_parameter») Γ A P (s .left) (s .fresh))
+      → Passes q w w′ s Nothing z (parameter (h .manner .«compares_parameter») Γ A P (s .left) (s .fresh))
 
 -- two types with the context applied, the first first; or as they are
 abbrev pub Dens : List ℕ → List ℕ → Ty × Ty → ℕ → ℕ → ℕ → Type 0

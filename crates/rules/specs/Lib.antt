@@ -1,3 +1,7 @@
--- What the rules of infer, check and infer_app take and give, besides their recursive calls.
+-- What rules take and give besides the judgements that they ask.
 pub mod Taking
+pub mod Built
+pub mod Parting
+pub mod Sides
+pub mod Opening
 pub mod Going

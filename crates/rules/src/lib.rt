@@ -1,22 +1,58 @@
-// The rules of infer, check and infer_app besides their recursive calls: rules that make none, and what the others do before, between and
-// after them. Functions named as 000's do its work.
+// What rules do before, between and after the judgements that they ask, and the rules that ask none. Functions named as 000's do its work.
 use judging::Answer;
 use judging::Bad;
-use judging::Mode;
+use judging::Here;
+use judging::Shown;
 use judging::Step;
+use layout::BOOL;
+use layout::INT;
 use layout::Key;
 use layout::Made;
 use layout::Span;
 use layout::State;
 use layout::TmVar;
 use layout::TyVar;
+ghost use mathlib.Core.Path.{_≡_};
 ghost use Prim.Native.Nat.{_<_};
+ghost use Rattle.definition.specs.Syntax.{onL, onR};
 ghost use Rattle.layout.specs.Names.{ty as tyName, key};
 ghost use Rattle.contexts.specs.Build.{Space};
 ghost use Rattle.judging.specs.Asking.{inferAsk, checkAsk, appAsk};
-ghost use Rattle.steps.specs.Modes.{FiresBoth};
+ghost use Rattle.judging.specs.Ending.{Fires};
+ghost use Rattle.rules.specs.Parting.{PartPre, Parts};
+ghost use Rattle.rules.specs.Opening.{ForallPre, OpensOn};
+ghost use Rattle.rules.specs.Sides.{side, binder};
+ghost use Rattle.rules.specs.declared.Instance.the-variants as instance;
 ghost use Rattle.rules.specs.Taking.{InferPre, Choice, CheckPre, RefusePre};
 ghost use Rattle.rules.specs.Going.{LamPre, LamIn, Two, TwoIn, Compared, AppliedBoth, Instantiated, PlainOut, KeepOut, TabsPre, TabsOut};
+
+// A side of subtype, inst_l or inst_r, on which a type stands.
+pub enum Side {
+    L,
+    R,
+}
+
+// A context in which an unknown is solved as an arrow of two fresh ones, and their types.
+pub struct Parted {
+    pub st: State,
+    pub g: Span,
+    pub b: usize,
+    pub c: usize,
+}
+
+// What stands under a Forall, its name, and the context for it.
+pub struct Body {
+    pub st: State,
+    pub g: Span,
+    pub b: TyVar,
+    pub ty: usize,
+}
+
+// An instance of a Forall; Spent where the next charge would pass the budget.
+pub enum Instance {
+    Of(Body),
+    Spent,
+}
 
 // What a lambda's body is checked in: the context with the parameter and a fresh unknown, the unknown, the lambda's type.
 pub struct Lam {
@@ -26,18 +62,18 @@ pub struct Lam {
     pub ty: usize,
 }
 
-// A step between recursive calls: the rule goes on, with up to two types, or ends.
+// A step between judgements: the rule goes on, with up to two types, or ends.
 pub enum Mid {
     On(State, usize, usize),
     End(Step),
 }
 
-// ---- Rules without recursive calls
+// ---- Rules that ask no judgement
 
 // InfVar: the type of the variable's earliest entry; 11 if there is none.
-pub fn infer_var(q: &[u32], work: &[u32], st: State, g: Span, ex: usize) -> Step
+pub fn infer_var(q: &[u32], work: &[u32], h: Here, st: State, g: Span, ex: usize) -> Step
     requires { ⌜ InferPre (now q) (now work) st g ex 16 ⌝ }
-    ensures { λ z. ⌜ FiresBoth (now (q .entry)) (now (work .entry)) (now (work .entry)) st g (inferAsk ex) z ⌝ }
+    ensures { λ z. ⌜ Fires h (now (q .entry)) (now (work .entry)) (now (work .entry)) st g (inferAsk ex) z ⌝ }
 {
     let at = ex + 1;
     let x = q[at];
@@ -48,8 +84,8 @@ pub fn infer_var(q: &[u32], work: &[u32], st: State, g: Span, ex: usize) -> Step
             st: st,
             code: 11,
             name: x,
-            left: 0,
-            right: 0,
+            shown: Shown::NoType,
+            charge: 0,
         });
     }
     let ty = contexts::type_at(work, g, i);
@@ -59,34 +95,37 @@ pub fn infer_var(q: &[u32], work: &[u32], st: State, g: Span, ex: usize) -> Step
         ty: ty,
         rule: 1,
         kids: 0,
+        charge: 0,
     })
 }
 
 // InfLitInt.
-pub fn infer_lit_int(q: &[u32], work: &[u32], st: State, g: Span, ex: usize) -> Step
+pub fn infer_lit_int(q: &[u32], work: &[u32], h: Here, st: State, g: Span, ex: usize) -> Step
     requires { ⌜ InferPre (now q) (now work) st g ex 22 ⌝ }
-    ensures { λ z. ⌜ FiresBoth (now (q .entry)) (now (work .entry)) (now (work .entry)) st g (inferAsk ex) z ⌝ }
+    ensures { λ z. ⌜ Fires h (now (q .entry)) (now (work .entry)) (now (work .entry)) st g (inferAsk ex) z ⌝ }
 {
     Step::Done(Answer {
         st: st,
         g: g,
-        ty: layout::INT,
+        ty: INT,
         rule: 2,
         kids: 0,
+        charge: 0,
     })
 }
 
 // InfLitBool.
-pub fn infer_lit_bool(q: &[u32], work: &[u32], st: State, g: Span, ex: usize) -> Step
+pub fn infer_lit_bool(q: &[u32], work: &[u32], h: Here, st: State, g: Span, ex: usize) -> Step
     requires { ⌜ InferPre (now q) (now work) st g ex 23 ⌝ }
-    ensures { λ z. ⌜ FiresBoth (now (q .entry)) (now (work .entry)) (now (work .entry)) st g (inferAsk ex) z ⌝ }
+    ensures { λ z. ⌜ Fires h (now (q .entry)) (now (work .entry)) (now (work .entry)) st g (inferAsk ex) z ⌝ }
 {
     Step::Done(Answer {
         st: st,
         g: g,
-        ty: layout::BOOL,
+        ty: BOOL,
         rule: 3,
         kids: 0,
+        charge: 0,
     })
 }
 
@@ -107,6 +146,7 @@ pub fn check_choice(k: usize, c: usize) -> usize
 pub fn check_lit(
     q: &[u32],
     work: &[u32],
+    h: Here,
     st: State,
     g: Span,
     ex: usize,
@@ -114,56 +154,56 @@ pub fn check_lit(
     rule: usize,
 ) -> Step
     requires { ⌜ (CheckPre (now q) (now work) st g ex ty rule) × (rule < 19) ⌝ }
-    ensures { λ z. ⌜ FiresBoth (now (q .entry)) (now (work .entry)) (now (work .entry)) st g (checkAsk ex ty) z ⌝ }
+    ensures { λ z. ⌜ Fires h (now (q .entry)) (now (work .entry)) (now (work .entry)) st g (checkAsk ex ty) z ⌝ }
 {
     Step::Done(Answer {
         st: st,
         g: g,
-        ty: layout::INT,
+        ty: INT,
         rule: rule,
         kids: 0,
+        charge: 0,
     })
 }
 
 // What is applied is no function: 12.
-pub fn refuse_app(q: &[u32], work: &[u32], st: State, g: Span, ty: usize, ex: usize) -> Step
+pub fn refuse_app(
+    q: &[u32],
+    work: &[u32],
+    h: Here,
+    st: State,
+    g: Span,
+    ty: usize,
+    ex: usize,
+) -> Step
     requires { ⌜ RefusePre (now q) (now work) st g ty ex ⌝ }
-    ensures { λ z. ⌜ FiresBoth (now (q .entry)) (now (work .entry)) (now (work .entry)) st g (appAsk ty ex) z ⌝ }
+    ensures { λ z. ⌜ Fires h (now (q .entry)) (now (work .entry)) (now (work .entry)) st g (appAsk ty ex) z ⌝ }
 {
     Step::Fail(Bad {
         st: st,
         code: 12,
         name: 0,
-        left: ty,
-        right: 0,
+        shown: Shown::OneType(ty),
+        charge: 0,
     })
 }
 
-// ---- Before a recursive call
+// ---- Before a judgement
 
 // InfLam: a fresh unknown, the type a to the unknown, and the context with x : a and the unknown.
-pub fn lam_in(q: &[u32], work: &mut [u32], st: State, g: Span, x: TmVar, a: usize) -> Lam
+pub fn lam_in(q: &[u32], work: &mut [u32], h: Here, st: State, g: Span, x: TmVar, a: usize) -> Lam
     requires { ⌜ LamPre (now q) (now work) st g a ⌝ }
-    ensures { λ o. ⌜ LamIn (now (q .entry)) (now (work .entry)) (now (work .exit)) st g x a o ⌝ }
+    ensures { λ o. ⌜ LamIn h (now (q .entry)) (now (work .entry)) (now (work .exit)) st g x a o ⌝ }
 {
     let top = st.top;
-    let low = st.low;
-    let left = st.left;
-    let fresh = st.fresh;
-    let name = 1_000_000 + fresh;
-    let b = TyVar(name as u32);
+    let one = st.draw();
+    let b = one.name;
     let unknown = types::put_etvar(work, top, b);
-    let mid = top + 2;
-    let arrow = types::put_arrow(q, work, mid, a, unknown);
-    let past = mid + 4;
-    let next = fresh + 1;
-    let st1 = State {
-        top: past,
-        low: low,
-        left: left,
-        fresh: next,
-    };
-    let o = contexts::push2(work, st1, g, Key::Var(x), a, Key::ETVar(b), layout::INT);
+    let arrow = types::put_arrow(q, work, top + 2, a, unknown);
+    let past = one.st.raise(6);
+    let e = judging::entry(h, Key::Var(x), a);
+    let e2 = judging::entry(h, Key::ETVar(b), INT);
+    let o = contexts::push2(work, past, g, e, e2);
     let st2 = o.st;
     let g2 = o.g;
     Lam {
@@ -174,22 +214,126 @@ pub fn lam_in(q: &[u32], work: &mut [u32], st: State, g: Span, x: TmVar, a: usiz
     }
 }
 
-// ---- Between recursive calls
+// Solves a as an arrow of two fresh unknowns, which stand right of it.
+pub fn part(q: &[u32], work: &mut [u32], h: Here, st: State, g: Span, a: TyVar) -> Parted
+    requires { ⌜ PartPre (now q) (now work) st g ⌝ }
+    ensures { λ o. ⌜ Parts h (now (q .entry)) (now (work .entry)) (now (work .exit)) st g a o ⌝ }
+{
+    let top = st.top;
+    let one = st.draw();
+    let two = one.st.draw();
+    let first = one.name;
+    let second = two.name;
+    let b = types::put_etvar(work, top, first);
+    let c = types::put_etvar(work, top + 2, second);
+    let arrow = types::put_arrow(q, work, top + 4, b, c);
+    let past = two.st.raise(8);
+    let e = judging::entry(h, Key::SETVar(a), arrow);
+    let e2 = judging::entry(h, Key::ETVar(first), INT);
+    let e3 = judging::entry(h, Key::ETVar(second), INT);
+    let o = contexts::replace3(work, past, g, a, e, e2, e3);
+    let end = o.st;
+    let g1 = o.g;
+    Parted {
+        st: end,
+        g: g1,
+        b: b,
+        c: c,
+    }
+}
+
+// Opens a Forall on the right: its body, with its name pushed.
+pub fn open_right(q: &[u32], work: &mut [u32], h: Here, st: State, g: Span, r: usize) -> Body
+    requires { ⌜ ForallPre (now q) (now work) st g r ⌝ }
+    ensures { λ o. ⌜ OpensOn h (now (q .entry)) (now (work .entry)) (now (work .exit)) st g r onR (instance.Of o) ⌝ }
+{
+    let top = st.top;
+    let b = types::name_of(q, work, top, r);
+    let body = types::body_of(q, work, top, r);
+    let e = judging::entry(h, Key::TVar(b), INT);
+    let o = contexts::push(work, st, g, e);
+    let end = o.st;
+    let g1 = o.g;
+    Body {
+        st: end,
+        g: g1,
+        b: b,
+        ty: body,
+    }
+}
+
+// Opens a Forall on the left: its body with an unknown for its name, with the unknown and a mark pushed.
+fn open_left(q: &[u32], work: &mut [u32], h: Here, st: State, g: Span, r: usize) -> Instance
+    requires { ⌜ ForallPre (now q) (now work) st g r ⌝ }
+    ensures { λ z. ⌜ OpensOn h (now (q .entry)) (now (work .entry)) (now (work .exit)) st g r onL z ⌝ }
+{
+    let top = st.top;
+    let b = types::name_of(q, work, top, r);
+    let body = types::body_of(q, work, top, r);
+    let unknown = types::put_etvar(work, top, b);
+    let past = st.raise(2);
+    let Made::Done(paid, made) = substitution::subst_type(q, work, past, b, unknown, body) else {
+        return Instance::Spent;
+    };
+    let e = judging::entry(h, Key::ETVar(b), INT);
+    let e2 = judging::entry(h, Key::Mark(b), INT);
+    let o = contexts::push2(work, paid, g, e, e2);
+    let end = o.st;
+    let g1 = o.g;
+    Instance::Of(Body {
+        st: end,
+        g: g1,
+        b: b,
+        ty: made,
+    })
+}
+
+// Opens the Forall r, which stands on side s.
+pub fn open_on(
+    q: &[u32],
+    work: &mut [u32],
+    h: Here,
+    st: State,
+    g: Span,
+    s: Side,
+    r: usize,
+) -> Instance
+    requires { ⌜ ForallPre (now q) (now work) st g r ⌝ }
+    ensures { λ z. ⌜ OpensOn h (now (q .entry)) (now (work .entry)) (now (work .exit)) st g r (side s) z ⌝ }
+{
+    match s {
+        Side::L => open_left(q, work, h, st, g, r),
+        Side::R => Instance::Of(open_right(q, work, h, st, g, r)),
+    }
+}
+
+// What opening on side s pushed last, right of which the output stands: the mark of the name b, or the name.
+pub fn pushed(s: Side, b: TyVar) -> Key
+    ensures { λ k. ⌜ key k ≡ binder (side s) (tyName b) ⌝ }
+{
+    match s {
+        Side::L => Key::Mark(b),
+        Side::R => Key::TVar(b),
+    }
+}
+
+// ---- Between judgements
 
 // Strict mode's ChkLam: the written parameter a against the expected p with the context applied, name for name; 17 if they differ.
 pub fn parameter(
     q: &[u32],
     work: &mut [u32],
-    m: Mode,
+    h: Here,
     st: State,
     g: Span,
     a: usize,
     p: usize,
 ) -> Mid
     requires { ⌜ TwoIn (now q) (now work) st g a p ⌝ }
-    ensures { λ z. ⌜ Compared m (now (q .entry)) (now (work .entry)) (now (work .exit)) st g a p z ⌝ }
+    ensures { λ z. ⌜ Compared h (now (q .entry)) (now (work .entry)) (now (work .exit)) st g a p z ⌝ }
 {
-    let compares = m.compares_parameter;
+    let manner = h.manner;
+    let compares = manner.compares_parameter;
     if compares {
         let Made::Done(st1, p1) = substitution::apply_ctx_type(q, work, st, g, p) else {
             return Mid::End(Step::Spent);
@@ -203,8 +347,8 @@ pub fn parameter(
             st: st1,
             code: 17,
             name: 0,
-            left: a,
-            right: p1,
+            shown: Shown::TwoTypes(a, p1),
+            charge: 0,
         }));
     }
     Mid::On(st, 0, 0)
@@ -255,8 +399,8 @@ pub fn instantiate(q: &[u32], work: &mut [u32], st: State, ty: usize, by: usize)
         st: st,
         code: 13,
         name: 0,
-        left: ty,
-        right: 0,
+        shown: Shown::OneType(ty),
+        charge: 0,
     }))
 }
 
@@ -272,6 +416,7 @@ pub fn plain_out(st: State, g: Span, ty: usize, rule: usize, kids: usize) -> Ste
         ty: ty,
         rule: rule,
         kids: kids,
+        charge: 0,
     })
 }
 
@@ -292,14 +437,15 @@ pub fn keep_out(
     let g = r.g;
     if keeps {
         let o = contexts::solved_and_right(work, st, g, k);
-        let st1 = o.st;
-        let g1 = o.g;
+        let end = o.st;
+        let kept = o.g;
         return Step::Done(Answer {
-            st: st1,
-            g: g1,
+            st: end,
+            g: kept,
             ty: ty,
             rule: rule,
             kids: kids,
+            charge: 0,
         });
     }
     let right = contexts::right_of(work, g, k);
@@ -309,6 +455,7 @@ pub fn keep_out(
         ty: ty,
         rule: rule,
         kids: kids,
+        charge: 0,
     })
 }
 
@@ -317,19 +464,9 @@ pub fn tabs_out(q: &[u32], work: &mut [u32], st: State, g: Span, a: TyVar, body:
     requires { ⌜ TabsPre (now q) (now work) st g body ⌝ }
     ensures { λ z. ⌜ TabsOut (now (q .entry)) (now (work .entry)) (now (work .exit)) st g (tyName a) body z ⌝ }
 {
-    let top = st.top;
-    let low = st.low;
-    let left = st.left;
-    let fresh = st.fresh;
-    let ty = types::put_forall(q, work, top, a, body);
-    let past = top + 4;
-    let st1 = State {
-        top: past,
-        low: low,
-        left: left,
-        fresh: fresh,
-    };
-    let o = contexts::solved_and_right(work, st1, g, Key::TVar(a));
+    let ty = types::put_forall(q, work, st.top, a, body);
+    let past = st.raise(4);
+    let o = contexts::solved_and_right(work, past, g, Key::TVar(a));
     let st2 = o.st;
     let g2 = o.g;
     Step::Done(Answer {
@@ -338,5 +475,6 @@ pub fn tabs_out(q: &[u32], work: &mut [u32], st: State, g: Span, a: TyVar, body:
         ty: ty,
         rule: 13,
         kids: 1,
+        charge: 0,
     })
 }

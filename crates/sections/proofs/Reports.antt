@@ -8,7 +8,7 @@ use lib.ListN.{length, getD, take, drop, length-append, length-take, length-drop
 use lib.Seq.{take-at, take-suc, take-nil, drop-nil, drop-append-add, getD-at, split-at}
 use lib.Dec.{eqb, leb}
 use borrow.Author.Tests.{lt-ltb, le-leb, ne-eqb, eqb-true}
-use Rattle.definition.specs.Syntax.{pick, section, noSection, tySection, ctxSection, tyWords, ctxWords, treeWords, TypeError, unboundVariable, applicationTypeError, typeApplicationError, occursCheck, subtypingError, instantiationError, parameterMismatch}
+use Rattle.definition.specs.Syntax.{pick, section, noSection, tySection, ctxSection, tyWords, ctxWords, treeWords, Error, Shown, noType, oneType, twoTypes, TypeError}
 use Rattle.definition.specs.Run.{Out, done, fail, stop}
 use Rattle.definition.specs.Rules.{Result}
 use Rattle.definition.specs.Reply.{Reply, most, refusal, reported, errorCode, errorAt, errorWords, givesType, resultWords, outReply, reply}
@@ -16,7 +16,7 @@ use Rattle.definition.specs.Memory.{reportAfter, call, memory-computes}
 use Rattle.laws.proofs.Steps.{pick-true, pick-false}
 use Rattle.entry.specs.declared.Reply as entry
 use Rattle.entry.specs.Entry.{Replied}
-use Rattle.entry.proofs.Codes.{error, not-seven}
+use Rattle.laws.proofs.Codes.{error, not-seven}
 use Rattle.sized.proofs.Lengths.{Measured, replies}
 use Rattle.sections.specs.declared.Section.{Section}
 use Rattle.sections.specs.declared.Section.the-variants.{Ty, Context, Tree, First, Second}
@@ -158,15 +158,11 @@ result-joined k r = go (givesType k)
     go true = rw append-nil
     go false = rw append-nil
 
-error-joined : (e : TypeError) → errorWords e ≡ joined (firstOf e ∷ secondOf e ∷ [])
+error-joined : (h : Shown) → errorWords h ≡ joined (firstOf h ∷ secondOf h ∷ [])
 unfolding errorWords firstOf secondOf joined tySection noSection section
-error-joined (unboundVariable x) = refl
-error-joined (applicationTypeError A) = refl
-error-joined (typeApplicationError A) = refl
-error-joined (occursCheck a A) = refl
-error-joined (subtypingError A B) = rw append-nil
-error-joined (instantiationError a A) = refl
-error-joined (parameterMismatch A B) = rw append-nil
+error-joined noType = refl
+error-joined (oneType A) = refl
+error-joined (twoTypes A B) = rw append-nil
 
 of-result : (k : ℕ) (r : Result) (x : Section) → partOf x 0 (resultWords k r) ≡ ofResult k r x
 unfolding partOf pick ofResult
@@ -176,19 +172,19 @@ of-result k r Tree = rw (result-joined k r) (section-is _ 2 (omega arith))
 of-result k r First = refl
 of-result k r Second = refl
 
-not-zero : (e : TypeError) → eqb (errorCode e) 0 ≡ false
+not-zero : (e : Error) → eqb (errorCode e) 0 ≡ false
 not-zero e = ne-eqb (errorCode e) 0 (λ h. omega (arith, error e .least, h))
 
-is-error : (e : TypeError) → isError (errorCode e) ≡ true
+is-error : (e : Error) → isError (errorCode e) ≡ true
 is-error e = rw (le-leb 11 (errorCode e) (error e .least), le-leb (errorCode e) 17 (error e .most))
 
-of-error : (e : TypeError) (x : Section) → partOf x (errorCode e) (errorWords e) ≡ ofError e x
+of-error : (e : TypeError) (x : Section) → partOf x (errorCode (e .error)) (errorWords (e .shown)) ≡ ofError e x
 unfolding partOf ofError
-of-error e Ty = pick-false _ _ (not-zero e)
-of-error e Context = pick-false _ _ (not-zero e)
-of-error e Tree = pick-false _ _ (not-zero e)
-of-error e First = pick-true _ _ (is-error e) ∙ rw (error-joined e) (section-is _ 0 (omega arith))
-of-error e Second = pick-true _ _ (is-error e) ∙ rw (error-joined e) (section-is _ 1 (omega arith))
+of-error e Ty = pick-false _ _ (not-zero (e .error))
+of-error e Context = pick-false _ _ (not-zero (e .error))
+of-error e Tree = pick-false _ _ (not-zero (e .error))
+of-error e First = pick-true _ _ (is-error (e .error)) ∙ rw (error-joined (e .shown)) (section-is _ 0 (omega arith))
+of-error e Second = pick-true _ _ (is-error (e .error)) ∙ rw (error-joined (e .shown)) (section-is _ 1 (omega arith))
 
 -- a report that was written, or NoRoom in its place
 of-reported : (room c p u : ℕ) (ws : List ℕ) {vs : List ℕ} (x : Section) (s : List ℕ) → eqb c 7 ≡ false → partOf x c ws ≡ vs
@@ -213,7 +209,8 @@ pub every-outcome : (k budget room : ℕ) (o : Out Result) (x : Section) (s : Li
     → handed x (outReply k budget room o) s ≡ pick (eqb (outReply k budget room o .code) 7) [] (ofOutcome k o x)
 unfolding outReply ofOutcome refusal pick
 every-outcome k budget room (done r l n) x s = of-reported room 0 0 (budget - l) (resultWords k r) x s refl (of-result k r x)
-every-outcome k budget room (fail e l) x s = of-reported room (errorCode e) (errorAt e) (budget - l) (errorWords e) x s (not-seven (error e)) (of-error e x)
+every-outcome k budget room (fail e l) x s =
+    of-reported room (errorCode (e .error)) (errorAt (e .about)) (budget - l) (errorWords (e .shown)) x s (not-seven (error (e .error))) (of-error e x)
 every-outcome k budget room stop x s = after-refusal 6 0 budget x s
 
 -- ## Computed: all five, in a slice that held other words before

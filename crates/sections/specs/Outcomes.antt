@@ -2,7 +2,7 @@
 use mathlib.Core.List.{List, []}
 use Prim.Native.Nat.{ℕ}
 use lib.ListN.{take}
-use Rattle.definition.specs.Syntax.{pick, tyWords, ctxWords, treeWords, TypeError, unboundVariable, applicationTypeError, typeApplicationError, occursCheck, subtypingError, instantiationError, parameterMismatch}
+use Rattle.definition.specs.Syntax.{pick, tyWords, ctxWords, treeWords, Shown, noType, oneType, twoTypes, TypeError}
 use Rattle.definition.specs.Run.{Out, done, fail, stop}
 use Rattle.definition.specs.Rules.{Result}
 use Rattle.definition.specs.Reply.{Reply, givesType}
@@ -20,30 +20,22 @@ ofResult kind r First = []
 ofResult kind r Second = []
 
 -- "A type error's report is two type sections: actual or ty in the first, or left and right; an unused one has count 0."
-unfoldable pub firstOf : TypeError → List ℕ
-firstOf (unboundVariable x) = []
-firstOf (applicationTypeError A) = tyWords A
-firstOf (typeApplicationError A) = tyWords A
-firstOf (occursCheck a A) = tyWords A
-firstOf (subtypingError A B) = tyWords A
-firstOf (instantiationError a A) = tyWords A
-firstOf (parameterMismatch A B) = tyWords A
+unfoldable pub firstOf : Shown → List ℕ
+firstOf noType = []
+firstOf (oneType A) = tyWords A
+firstOf (twoTypes A B) = tyWords A
 
-unfoldable pub secondOf : TypeError → List ℕ
-secondOf (unboundVariable x) = []
-secondOf (applicationTypeError A) = []
-secondOf (typeApplicationError A) = []
-secondOf (occursCheck a A) = []
-secondOf (subtypingError A B) = tyWords B
-secondOf (instantiationError a A) = []
-secondOf (parameterMismatch A B) = tyWords B
+unfoldable pub secondOf : Shown → List ℕ
+secondOf noType = []
+secondOf (oneType A) = []
+secondOf (twoTypes A B) = tyWords B
 
 unfoldable pub ofError : TypeError → Section → List ℕ
 ofError e Ty = []
 ofError e Context = []
 ofError e Tree = []
-ofError e First = firstOf e
-ofError e Second = secondOf e
+ofError e First = firstOf (e .shown)
+ofError e Second = secondOf (e .shown)
 
 -- "6 stops the run where it occurs", and there is no report
 unfoldable pub ofOutcome : ℕ → Out Result → Section → List ℕ

@@ -9,12 +9,12 @@ use native.Mathlib.Nat.{sub-zero}
 use lib.ListN.{length, take, drop}
 use lib.Seq.{take-at}
 use lib.Dec.{eqb}
-use mir.Facts.{no-eqb}
+use borrow.Author.Tests.{ne-eqb}
 use Rattle.definition.specs.Syntax.{pick}
 use Rattle.definition.specs.Reply.{Reply, refusal, reply, workWords}
 use Rattle.definition.specs.Memory.{reportAfter, call}
 use Rattle.definition.specs.Host.{wordsOf, deskReply, byteReply}
-use Rattle.laws.proofs.Steps.{is-false, pick-true, pick-false}
+use Rattle.laws.proofs.Steps.{pick-true, pick-false}
 use Rattle.entry.specs.declared.Reply as entry
 use Rattle.entry.specs.Entry.{Numbers, Replied}
 use Rattle.entry.proofs.Refusing.{too-long}
@@ -45,9 +45,7 @@ too-many room b h = go (eqb (length b % 4) 0)
 
 pub not-whole : (room : ℕ) (b : List ℕ) → 4 * (length b / 4) ≢ length b → byteReply room b ≡ refusal 3 0 0
 unfolding byteReply
-not-whole room b h =
-    let p : length b % 4 ≢ 0 = λ e. h (omega arith) in
-    pick-false _ _ (is-false (eqb (length b % 4) 0) (no-eqb p))
+not-whole room b h = pick-false _ _ (ne-eqb (length b % 4) 0 (λ e. h (omega arith)))
 
 -- ## Whole words
 

@@ -1,23 +1,23 @@
 -- How many words a reply's report has: none on NoRoom, else as many as its length says; never more than there is room for.
-use mathlib.Core.Path.{_≡_, refl, sym, ap, _∙_}
+use mathlib.Core.Path.{_≡_, refl, sym}
 use mathlib.Core.Bool.{Bool, true, false, _&&_, _||_}
 use mathlib.Core.List.{List, []}
 use mathlib.Core.Logic.{_≢_}
 use Prim.Native.Nat.{ℕ, _-_, _≤_, _/_, _%_, min}
 use native.Mathlib.Omega.{arith}
 use lib.ListN.{length}
-use lib.Dec.{T, leb, ltb, eqb, leb→le, eqb-refl}
-use mir.Facts.{no-eqb}
+use lib.Dec.{T, leb, ltb, eqb, leb→le}
+use borrow.Author.Tests.{eq-eqb, ne-eqb}
 use Rattle.definition.specs.Syntax.{pick}
 use Rattle.definition.specs.Question.{Read, got, fault, Question, readQuestion}
 use Rattle.definition.specs.Run.{Out, done, fail, stop}
 use Rattle.definition.specs.Rules.{Result}
 use Rattle.definition.specs.Reply.{Reply, most, refusal, reported, errorCode, outReply, readReply, workWords, reply}
 use Rattle.definition.specs.Host.{deskReply, byteReply, wordsOf}
-use Rattle.laws.proofs.Steps.{is-true, is-false, pick-true, pick-false}
+use Rattle.laws.proofs.Steps.{pick-true, pick-false}
 use Rattle.entry.specs.declared.Reply as entry
 use Rattle.entry.specs.Entry.{Numbers}
-use Rattle.entry.proofs.Codes.{error, not-seven}
+use Rattle.laws.proofs.Codes.{error, not-seven}
 use Rattle.sized.specs.Sized.{writtenOf}
 
 pub record Measured (room : ℕ) (R : Reply) : Type 0 where
@@ -49,7 +49,7 @@ reports room c p u ws e = go (leb (length ws) room) (leb (length ws) most) (leb�
 outs : (k budget room : ℕ) (o : Out Result) → Measured room (outReply k budget room o)
 unfolding outReply
 outs k budget room (done r l n) = reports room 0 0 (budget - l) _ refl
-outs k budget room (fail e l) = reports room (errorCode e) _ (budget - l) _ (not-seven (error e))
+outs k budget room (fail e l) = reports room (errorCode (e .error)) _ (budget - l) _ (not-seven (error (e .error)))
 outs k budget room stop = refused room 6 0 budget
 
 reads : (budget room : ℕ) (x : Read Question) → Measured room (readReply budget room x)
@@ -71,10 +71,10 @@ in-bytes room b = either (eqb (length b % 4) 0) (replies 384 16384 (min room 409
 -- ## In the program's reply
 
 pub none : (r : entry.Reply) → r .code ≡ 7 → 0 ≡ writtenOf r
-none r e = sym (pick-true 0 (r .len) (ap (λ (n : ℕ). eqb n 7) e ∙ is-true (eqb 7 7) (eqb-refl 7)))
+none r e = sym (pick-true 0 (r .len) (eq-eqb (r .code) 7 e))
 
 pub some : (r : entry.Reply) → r .code ≢ 7 → r .len ≡ writtenOf r
-some r p = sym (pick-false 0 (r .len) (is-false (eqb (r .code) 7) (no-eqb p)))
+some r p = sym (pick-false 0 (r .len) (ne-eqb (r .code) 7 p))
 
 pub length-written : {room : ℕ} {R : Reply} {r : entry.Reply} → Measured room R → Numbers R r → length (R .report) ≡ writtenOf r
 length-written t n = rw (n .code, n .len) (t .many)

@@ -6,15 +6,21 @@ use native.Mathlib.Nat.{le-refl, le-trans}
 use native.Mathlib.Omega.{arith}
 use Rattle.definition.specs.Syntax.{Ty}
 use Rattle.definition.specs.Run.{Out, done, stop}
+use Rattle.layout.specs.States.{raised, Charges}
 use Rattle.layout.specs.Words.{Keep}
 use Rattle.layout.specs.Denotes.{Den}
 use Rattle.layout.specs.Room.{Room}
+use Rattle.layout.specs.declared.Paid.{Paid}
+use Rattle.layout.specs.declared.Paid.the-variants as paying
 use Rattle.layout.specs.declared.State.{State}
+use Rattle.layout.proofs.States.{is-paid, not-paid}
+use Rattle.types.specs.Reading.{Tagged}
 use Rattle.layout.specs.declared.Made.{Made}
 use Rattle.layout.specs.declared.Made.the-variants.{Done, Spent}
 use Rattle.layout.proofs.Words.{keep-refl, keep-trans, keep-less}
 use Rattle.layout.proofs.Denotes.{den-frame, base-frame}
-use Rattle.substitution.specs.Passing.{pay, raise, Passed, Makes, made, spent}
+use Rattle.substitution.specs.Passing.{pay, Passed, Makes, made, spent, Begins, at, unpaid}
+use Rattle.substitution.specs.declared.Begun.the-variants as begun
 
 -- ## States, one after the other
 
@@ -62,7 +68,7 @@ module _ {w w′ : List ℕ} {s s′ : State} {n : ℕ} (some : 1 ≤ s .left) (
     built = omega (arith, p .built);
   }
 
-  pub grown : {w″ : List ℕ} → Keep (s′ .top) (s′ .top + 4) w′ w″ → s′ .top + 4 ≤ s′ .low → Passed w w″ s (raise s′) 1
+  pub grown : {w″ : List ℕ} → Keep (s′ .top) (s′ .top + 4) w′ w″ → s′ .top + 4 ≤ s′ .low → Passed w w″ s (raised s′ 4) 1
   grown k l = record {
     keep = keep-on p (keep-less (le-refl _) l k);
     up = omega (arith, p .up);
@@ -110,3 +116,12 @@ ended {q} {w} {w′} {s} h e = go (rw e at h)
   where
     go : {S : Out Ty} → Makes q w w′ s Spent S → Ended w w′ s S
     go (spent k) = record { keep = k; is = refl }
+
+-- ## How a call begins
+
+module _ {q w : List ℕ} {s : State} {r : ℕ} {z : Paid} (c : Charges s 1 z) where
+  pub begin-spent : z ≡ paying.Spent → Begins q w s r begun.Spent
+  begin-spent e = let l = not-paid c e in unpaid (omega arith)
+
+  pub begin-at : {p : State} {k : ℕ} → z ≡ paying.On p → Tagged q w (s .top) r k → Begins q w s r (begun.At p k)
+  begin-at e t = let x = is-paid c e in rw (x .is) (at (x .enough) t)

@@ -6,6 +6,7 @@ use Rattle.definition.specs.Syntax.{pick, Ty}
 use Rattle.definition.specs.Run.{Out, done, stop}
 use Rattle.definition.specs.Types.{sameName}
 use Rattle.layout.specs.Names.{ty}
+use Rattle.layout.specs.States.{paid, raised}
 use Rattle.layout.specs.Words.{Keep}
 use Rattle.layout.specs.Denotes.{Den}
 use Rattle.layout.specs.declared.TyVar.{TyVar}
@@ -21,11 +22,7 @@ use Rattle.substitution.specs.declared.Begun.the-variants as begun
 
 -- one unit is paid
 abbrev pub pay : State → State
-pay s = record { top = s .top; low = s .low; left = s .left - 1; fresh = s .fresh }
-
--- four words are built
-abbrev pub raise : State → State
-raise s = record { top = s .top + 4; low = s .low; left = s .left; fresh = s .fresh }
+pay s = paid s 1
 
 -- from w and s to w′ and s′: n units were paid, or more, and for each four words were built, or fewer
 pub record Passed (w w′ : List ℕ) (s s′ : State) (n : ℕ) : Type 0 where
@@ -59,10 +56,10 @@ pub record Chosen (q w : List ℕ) (t : ℕ) (a : TyVar) (b r x : ℕ) : Type 0 
 -- a record at the top of work
 pub record ArrowMade (q w w′ : List ℕ) (s : State) (l r : ℕ) (z : Made) : Type 0 where
   pub ref : ℕ
-  pub is : z ≡ Done (raise s) ref
+  pub is : z ≡ Done (raised s 4) ref
   pub put : PutArrow q w w′ (s .top) l r ref
 
 pub record ForallMade (q w w′ : List ℕ) (s : State) (a : TyVar) (r : ℕ) (z : Made) : Type 0 where
   pub ref : ℕ
-  pub is : z ≡ Done (raise s) ref
+  pub is : z ≡ Done (raised s 4) ref
   pub put : PutForall q w w′ (s .top) a r ref

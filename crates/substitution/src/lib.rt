@@ -1,14 +1,14 @@
 // Substitution and context application, by reference: each call pays one unit, and builds one record of four words at most.
 use layout::Key;
 use layout::Made;
+use layout::Paid;
 use layout::Span;
 use layout::State;
 use layout::TyVar;
 ghost use mathlib.Core.Path.{_≡_};
-ghost use Prim.Native.Nat.{_≤_};
 ghost use Rattle.types.specs.Reading.{Held, HeldNamed};
 ghost use Rattle.types.specs.Making.{ArrowRoom, ForallRoom};
-ghost use Rattle.substitution.specs.Passing.{raise, Begins, Chosen, ArrowMade, ForallMade};
+ghost use Rattle.substitution.specs.Passing.{Begins, Chosen, ArrowMade, ForallMade};
 ghost use Rattle.substitution.specs.Calls.{SubstPre, Substed, ApplyPre, Applied};
 
 // How a call begins: the state once it is paid for and the code of its type, or the budget is spent.
@@ -22,18 +22,10 @@ fn begin(q: &[u32], work: &[u32], st: State, r: usize) -> Begun
     requires { ⌜ Held (now q) (now work) (st .top) r ⌝ }
     ensures { λ z. ⌜ Begins (now (q .entry)) (now (work .entry)) st r z ⌝ }
 {
-    let left = st.left;
-    if left == 0 {
+    let Paid::On(paid) = st.charge(1) else {
         return Begun::Spent;
-    }
-    let less = left - 1;
-    let k = types::tag(q, work, st.top, r);
-    let paid = State {
-        top: st.top,
-        low: st.low,
-        left: less,
-        fresh: st.fresh,
     };
+    let k = types::tag(q, work, st.top, r);
     Begun::At(paid, k)
 }
 
@@ -49,28 +41,13 @@ fn chosen(q: &[u32], work: &[u32], top: usize, a: TyVar, by: usize, r: usize) ->
     r
 }
 
-// The state past a record of four words at the top of work.
-fn raised(st: State) -> State
-    requires { ⌜ st .top ≤ 1000000 ⌝ }
-    ensures { λ s. ⌜ s ≡ raise st ⌝ }
-{
-    let top = st.top;
-    let past = top + 4;
-    State {
-        top: past,
-        low: st.low,
-        left: st.left,
-        fresh: st.fresh,
-    }
-}
-
 // An Arrow of two parts, as a new record.
 fn arrow_made(q: &[u32], work: &mut [u32], st: State, left: usize, right: usize) -> Made
     requires { ⌜ ArrowRoom (now q) (now work) (st .top) left right ⌝ }
     ensures { λ z. ⌜ ArrowMade (now (q .entry)) (now (work .entry)) (now (work .exit)) st left right z ⌝ }
 {
     let made = types::put_arrow(q, work, st.top, left, right);
-    let past = raised(st);
+    let past = st.raise(4);
     Made::Done(past, made)
 }
 
@@ -80,7 +57,7 @@ fn forall_made(q: &[u32], work: &mut [u32], st: State, a: TyVar, body: usize) ->
     ensures { λ z. ⌜ ForallMade (now (q .entry)) (now (work .entry)) (now (work .exit)) st a body z ⌝ }
 {
     let made = types::put_forall(q, work, st.top, a, body);
-    let past = raised(st);
+    let past = st.raise(4);
     Made::Done(past, made)
 }
 

@@ -1,7 +1,10 @@
 -- Which arm of the definition two types fall into.
 use mathlib.Core.Path.{_≡_, refl, sym, _∙_, ap}
 use mathlib.Core.Bool.{Bool, true, false, not}
-use mathlib.Core.List.{List}
+use mathlib.Core.List.{List, [], _∷_}
+use mathlib.Core.Logic.{⊎-elim}
+use denote.Enum.Declared
+use types.Run.{OneOf}
 use mathlib.Core.Option.{Option, none, some}
 use Prim.Native.Nat.{ℕ, _+_, _*_, _≤_, _<_}
 use native.Mathlib.Omega.{arith}
@@ -10,7 +13,7 @@ use Rattle.definition.specs.Syntax
 use Rattle.definition.specs.Syntax.{pick, Ty, int, bool, var, etvar, arrow, forall, Ctx, onL, onR, ruleNumber, subtypingError}
 use Rattle.definition.specs.Run.{refuse}
 use Rattle.definition.specs.Types.{sameName, occurs}
-use Rattle.definition.specs.Rules.{Judge, closes, _orElse_, when, on, onBoth, tyCode, asVar, asETVar, asArrow, asForall, subArr, subAllR, subAllL, subInst, notIn, sameBase, same, subtypeRule}
+use Rattle.definition.specs.Rules.{Here, Judge, closes, _orElse_, when, on, onBoth, tyCode, asVar, asETVar, asArrow, asForall, subArr, subAllR, subAllL, subInst, notIn, sameBase, same, subtypeRule}
 use Rattle.layout.specs.Names.{ty}
 use Rattle.layout.specs.Denotes.{Den}
 use Rattle.layout.specs.declared.TyVar.{TyVar}
@@ -19,10 +22,12 @@ use Rattle.types.proofs.Codes.{base-case, name-case, sizes}
 use Rattle.walks.specs.Walks.{Occurs}
 use Rattle.walks.proofs.Names.{names}
 use Rattle.rules.proofs.Choices.{no-arrow, no-forall}
-use Rattle.steps.specs.declared.Side.the-variants as side
-use Rattle.steps.proofs.Forms.{IsETVar, is-etvar, is-arrow, is-forall}
-use Rattle.subtyping.specs.Arms.{BothHeld, Comes, NotAlike, AlikeBy, by-rule, by-none, Alike, Absent, Fits, fits-refl, fits-arr, fits-all, fits-inst, fits-none, Chosen}
+use Rattle.rules.specs.declared.Side.the-variants as side
+use Rattle.rules.proofs.TypeForms.{IsETVar, is-etvar, is-arrow, is-forall}
+use Rattle.subtyping.specs.Arms.{BothHeld, Comes, NotAlike, AlikeBy, by-rule, by-none, Alike, Absent, Formed, both-arrows, right-forall, left-forall, no-form, ByUnknown, left-unknown, right-unknown, no-unknown, Fits, fits-refl, fits-arr, fits-all, fits-inst, fits-none, Chosen}
+use Rattle.subtyping.specs.declared.Arm.{Arm}
 use Rattle.subtyping.specs.declared.Arm.the-variants as arm
+use Rattle.subtyping.proofs.Arm as ArmT
 
 -- ## By the code
 
@@ -77,12 +82,12 @@ large (arrow A A′) B h = record { base = refl; vars = refl; etvars = refl }
 large (forall a A) B h = record { base = refl; vars = refl; etvars = refl }
 
 -- Int and Int, Bool and Bool
-base-alike : (A B : Ty) → tyCode A < 3 → tyCode A ≡ tyCode B → Comes A B (λ judge Γ. closes Syntax.SubRefl Γ)
+base-alike : (A B : Ty) → tyCode A < 3 → tyCode A ≡ tyCode B → Comes A B (λ h judge Γ. closes Syntax.SubRefl Γ)
 unfolding tyCode subtypeRule sameBase when pick _orElse_
 base-alike A B h e =
-    base-case (λ T. tyCode T ≡ tyCode B → Comes T B (λ judge Γ. closes Syntax.SubRefl Γ)) A h
-    (λ f judge Γ. rw (eq-eqb 1 (tyCode B) f) refl)
-    (λ f judge Γ. rw (eq-eqb 2 (tyCode B) f) refl)
+    base-case (λ T. tyCode T ≡ tyCode B → Comes T B (λ h judge Γ. closes Syntax.SubRefl Γ)) A h
+    (λ f h judge Γ. rw (eq-eqb 1 (tyCode B) f) refl)
+    (λ f h judge Γ. rw (eq-eqb 2 (tyCode B) f) refl)
     e
 
 -- two Vars, two ETVars
@@ -98,13 +103,13 @@ same-named A B l m e =
     (λ u f. name-case (λ S. 4 ≡ tyCode S → SameNamed (etvar u) S) B (omega arith) (omega arith) (λ v h. absurd (omega arith)) (λ v h. etvars u v) f)
     e
 
-vars-alike : (u v : Syntax.TyVar) → sameName u v ≡ true → Comes (var u) (var v) (λ judge Γ. closes Syntax.SubReflTVar Γ)
+vars-alike : (u v : Syntax.TyVar) → sameName u v ≡ true → Comes (var u) (var v) (λ h judge Γ. closes Syntax.SubReflTVar Γ)
 unfolding tyCode subtypeRule sameBase same asVar when pick _orElse_
-vars-alike u v e judge Γ = rw e
+vars-alike u v e h judge Γ = rw e
 
-etvars-alike : (u v : Syntax.TyVar) → sameName u v ≡ true → Comes (etvar u) (etvar v) (λ judge Γ. closes Syntax.SubReflETVar Γ)
+etvars-alike : (u v : Syntax.TyVar) → sameName u v ≡ true → Comes (etvar u) (etvar v) (λ h judge Γ. closes Syntax.SubReflETVar Γ)
 unfolding tyCode subtypeRule sameBase same asVar asETVar when pick _orElse_
-etvars-alike u v e judge Γ = rw e
+etvars-alike u v e h judge Γ = rw e
 
 module _ {q w : List ℕ} {t a b k m : ℕ} (tk : Tagged q w t a k) (tm : Tagged q w t b m) where
   pub alike-apart : (k ≡ m → ⊥) → Alike q w t a b 0
@@ -196,49 +201,61 @@ not-both (arrow A A′) B k h = both-none (some (A, A′)) k (no-arrow B (h refl
 not-both (forall a A) B k h = refl
 
 module _ {A B : Ty} (none-alike : NotAlike A B) where
-  rest : (judge : Judge) (Γ : Ctx) → subtypeRule judge Γ A B
-      ≡ (onBoth (asArrow A) (asArrow B) (subArr judge Γ)
-      orElse on (asForall B) (subAllR judge Γ A)
-      orElse on (asForall A) (subAllL judge Γ B)
-      orElse on (notIn B (asETVar A)) (subInst judge Syntax.SubInstL onL Γ B)
-      orElse on (notIn A (asETVar B)) (subInst judge Syntax.SubInstR onR Γ A)
+  rest : (h : Here) (judge : Judge) (Γ : Ctx) → subtypeRule h judge Γ A B
+      ≡ (onBoth (asArrow A) (asArrow B) (subArr h judge Γ)
+      orElse on (asForall B) (subAllR h judge Γ A)
+      orElse on (asForall A) (subAllL h judge Γ B)
+      orElse on (notIn B (asETVar A)) (subInst h judge Syntax.SubInstL onL Γ B)
+      orElse on (notIn A (asETVar B)) (subInst h judge Syntax.SubInstR onR Γ A)
       orElse refuse (subtypingError A B))
   unfolding subtypeRule when pick _orElse_
-  rest judge Γ = rw (none-alike .base, none-alike .vars, none-alike .etvars)
+  rest h judge Γ = rw (none-alike .base, none-alike .vars, none-alike .etvars)
 
-  arrows : (A₁ A₂ B₁ B₂ : Ty) → A ≡ arrow A₁ A₂ → B ≡ arrow B₁ B₂ → Comes A B (λ judge Γ. subArr judge Γ (A₁, A₂) (B₁, B₂))
+  arrows : (A₁ A₂ B₁ B₂ : Ty) → A ≡ arrow A₁ A₂ → B ≡ arrow B₁ B₂ → Comes A B (λ h judge Γ. subArr h judge Γ (A₁, A₂) (B₁, B₂))
   unfolding asArrow onBoth _orElse_
-  arrows A₁ A₂ B₁ B₂ e f judge Γ = rest judge Γ ∙ rw (e, f) refl
+  arrows A₁ A₂ B₁ B₂ e f h judge Γ = rest h judge Γ ∙ rw (e, f) refl
 
-  right-all : (b : Syntax.TyVar) (T : Ty) → B ≡ forall b T → Comes A B (λ judge Γ. subAllR judge Γ A (b, T))
+  right-all : (b : Syntax.TyVar) (T : Ty) → B ≡ forall b T → Comes A B (λ h judge Γ. subAllR h judge Γ A (b, T))
   unfolding asArrow asForall on _orElse_
-  right-all b T e judge Γ = rest judge Γ ∙ rw e (rw (both-none (asArrow A) (subArr judge Γ) refl) refl)
+  right-all b T e h judge Γ = rest h judge Γ ∙ rw e (rw (both-none (asArrow A) (subArr h judge Γ) refl) refl)
 
   module _ (not-r : tyCode B ≡ 6 → ⊥) where
-    left-all : (a : Syntax.TyVar) (T : Ty) → A ≡ forall a T → Comes A B (λ judge Γ. subAllL judge Γ B (a, T))
+    left-all : (a : Syntax.TyVar) (T : Ty) → A ≡ forall a T → Comes A B (λ h judge Γ. subAllL h judge Γ B (a, T))
     unfolding asArrow onBoth asForall on _orElse_
-    left-all a T e judge Γ = rest judge Γ ∙ rw (no-forall B not-r, e) refl
+    left-all a T e h judge Γ = rest h judge Γ ∙ rw (no-forall B not-r, e) refl
 
-    left-inst : (x : Syntax.TyVar) → A ≡ etvar x → notIn B (asETVar A) ≡ some x → Comes A B (λ judge Γ. subInst judge Syntax.SubInstL onL Γ B x)
+    left-inst : (x : Syntax.TyVar) → A ≡ etvar x → notIn B (asETVar A) ≡ some x → Comes A B (λ h judge Γ. subInst h judge Syntax.SubInstL onL Γ B x)
     unfolding asArrow onBoth asForall on _orElse_
-    left-inst x e f judge Γ = rest judge Γ ∙ rw (no-forall B not-r, f, e) refl
+    left-inst x e f h judge Γ = rest h judge Γ ∙ rw (no-forall B not-r, f, e) refl
 
     module _ (not-l : tyCode A ≡ 6 → ⊥) (in-l : notIn B (asETVar A) ≡ none) where
-      right-inst : (y : Syntax.TyVar) → B ≡ etvar y → notIn A (asETVar B) ≡ some y → Comes A B (λ judge Γ. subInst judge Syntax.SubInstR onR Γ A y)
+      right-inst : (y : Syntax.TyVar) → B ≡ etvar y → notIn A (asETVar B) ≡ some y → Comes A B (λ h judge Γ. subInst h judge Syntax.SubInstR onR Γ A y)
       unfolding asArrow on _orElse_
-      right-inst y e f judge Γ =
-          rest judge Γ
-          ∙ rw (no-forall B not-r, no-forall A not-l, in-l, f, both-none (asArrow A) (subArr judge Γ) (ap (λ (T : Ty). asArrow T) e)) refl
+      right-inst y e f h judge Γ =
+          rest h judge Γ
+          ∙ rw (no-forall B not-r, no-forall A not-l, in-l, f, both-none (asArrow A) (subArr h judge Γ) (ap (λ (T : Ty). asArrow T) e)) refl
 
-      neither : (tyCode A ≡ 5 → tyCode B ≡ 5 → ⊥) → notIn A (asETVar B) ≡ none → Comes A B (λ judge Γ. refuse (subtypingError A B))
+      neither : (tyCode A ≡ 5 → tyCode B ≡ 5 → ⊥) → notIn A (asETVar B) ≡ none → Comes A B (λ h judge Γ. refuse (subtypingError A B))
       unfolding on _orElse_
-      neither h f judge Γ = rest judge Γ ∙ rw (not-both A B (subArr judge Γ) h, no-forall B not-r, no-forall A not-l, in-l, f) refl
+      neither n f h judge Γ = rest h judge Γ ∙ rw (not-both A B (subArr h judge Γ) n, no-forall B not-r, no-forall A not-l, in-l, f) refl
 
-pub codes-small : {q w : List ℕ} {t a b k m : ℕ} → BothHeld q w t a b → Tagged q w t a k → Tagged q w t b m → (k < 7) × (m < 7)
-codes-small h tk tm = (
-  omega (arith, tk .is (h .left .type) (h .left .den), sizes (h .left .type) .high),
-  omega (arith, tm .is (h .right .type) (h .right .den), sizes (h .right .type) .high),
-)
+module _ {q w : List ℕ} {t a b : ℕ} {r : Bool} (ab : Absent q w t a b r) where
+  pub unknown-left : r ≡ true → ByUnknown q w t a b (arm.Inst side.L)
+  unknown-left e = left-unknown (rw e at ab)
+
+  module _ (no : r ≡ false) {r′ : Bool} (ab′ : Absent q w t b a r′) where
+    pub unknown-right : r′ ≡ true → ByUnknown q w t a b (arm.Inst side.R)
+    unknown-right e = right-unknown (rw no at ab) (rw e at ab′)
+
+    pub unknown-neither : r′ ≡ false → ByUnknown q w t a b arm.Neither
+    unknown-neither e = no-unknown (rw no at ab) (rw e at ab′)
+
+-- an arm that is another: what the code's `_` knows
+abbrev pub NotNeither : Arm → Type 0
+NotNeither z = OneOf (0 ∷ 1 ∷ 2 ∷ 3 ∷ []) (Declared.tagOf ArmT.the-type z)
+
+is-neither : NotNeither arm.Neither → ⊥
+is-neither h = ⊎-elim (λ e. omega arith) (λ h. ⊎-elim (λ e. omega arith) (λ h. ⊎-elim (λ e. omega arith) (λ e. omega arith) h) h) h
 
 pub chosen-refl : {q w : List ℕ} {t a b n : ℕ} → Alike q w t a b n → (n ≡ 0 → ⊥) → Chosen q w t a b (arm.Refl n)
 chosen-refl {n = n} al h = record { is = λ A B d e. go (al .is A B d e) }
@@ -255,47 +272,47 @@ module _ {q w : List ℕ} {t a b n k m : ℕ} (al : Alike q w t a b n) (is-0 : n
       go (by-rule R l e f) = absurd (omega arith)
       go (by-none e f) = f
 
-  pub chosen-arr : (k < 7) × (m < 7) → 10 * k + m ≡ 55 → Chosen q w t a b arm.Arr
-  chosen-arr l h = record {
+  -- by the codes
+  pub chosen-form : {z : Arm} → NotNeither z → Formed k m z → Chosen q w t a b z
+  chosen-form h (both-arrows f g) = record {
     is = λ A B d e.
-        let u = is-arrow A (omega (arith, tk .is A d)) in
-        let v = is-arrow B (omega (arith, tm .is B e)) in
+        let u = is-arrow A (sym (tk .is A d) ∙ f) in
+        let v = is-arrow B (sym (tm .is B e) ∙ g) in
         fits-arr (u .is) (v .is) (arrows (unlike A B d e) (u .A) (u .B) (v .A) (v .B) (u .is) (v .is));
   }
-
-  pub chosen-all-r : m ≡ 6 → Chosen q w t a b (arm.All side.R)
-  chosen-all-r h = record {
-    is = λ A B d e. let v = is-forall B (sym (tm .is B e) ∙ h) in fits-all (v .is) (right-all (unlike A B d e) (v .a) (v .A) (v .is));
+  chosen-form h (right-forall g) = record {
+    is = λ A B d e. let v = is-forall B (sym (tm .is B e) ∙ g) in fits-all (v .is) (right-all (unlike A B d e) (v .a) (v .A) (v .is));
   }
+  chosen-form h (left-forall not-6 f) = record {
+    is = λ A B d e.
+        let u = is-forall A (sym (tk .is A d) ∙ f) in
+        fits-all (u .is) (left-all (unlike A B d e) (λ g. not-6 (tm .is B e ∙ g)) (u .a) (u .A) (u .is));
+  }
+  chosen-form h (no-form f g i) = absurd (is-neither h)
 
-  module _ (not-6 : m ≡ 6 → ⊥) where
-    pub chosen-all-l : k ≡ 6 → Chosen q w t a b (arm.All side.L)
-    chosen-all-l h = record {
+  -- by an unknown
+  module _ (not-55 : k ≡ 5 → m ≡ 5 → ⊥) (not-6 : m ≡ 6 → ⊥) (not-6′ : k ≡ 6 → ⊥) where
+    chosen-by : {y : Arm} → ByUnknown q w t a b y → Chosen q w t a b y
+    chosen-by (left-unknown ab) = record {
       is = λ A B d e.
-          let u = is-forall A (sym (tk .is A d) ∙ h) in
-          fits-all (u .is) (left-all (unlike A B d e) (λ f. not-6 (tm .is B e ∙ f)) (u .a) (u .A) (u .is));
+          let u = ab .yes refl A B d e in
+          fits-inst (u .is) (left-inst (unlike A B d e) (λ g. not-6 (tm .is B e ∙ g)) (u .x) (u .is) (u .not-in));
+    }
+    chosen-by (right-unknown ab ab′) = record {
+      is = λ A B d e.
+          let v = ab′ .yes refl B A e d in
+          fits-inst (v .is)
+          (right-inst (unlike A B d e) (λ g. not-6 (tm .is B e ∙ g)) (λ g. not-6′ (tk .is A d ∙ g)) (ab .no refl A B d e) (v .x) (v .is) (v .not-in));
+    }
+    chosen-by (no-unknown ab ab′) = record {
+      is = λ A B d e.
+          fits-none
+          (neither (unlike A B d e) (λ g. not-6 (tm .is B e ∙ g)) (λ g. not-6′ (tk .is A d ∙ g)) (ab .no refl A B d e)
+          (λ f g. not-55 (tk .is A d ∙ f) (tm .is B e ∙ g)) (ab′ .no refl B A e d));
     }
 
-    pub chosen-inst-l : {r : Bool} → Absent q w t a b r → r ≡ true → Chosen q w t a b (arm.Inst side.L)
-    chosen-inst-l ab h = record {
-      is = λ A B d e.
-          let u = ab .yes h A B d e in
-          fits-inst (u .is) (left-inst (unlike A B d e) (λ f. not-6 (tm .is B e ∙ f)) (u .x) (u .is) (u .not-in));
-    }
-
-    module _ (not-6′ : k ≡ 6 → ⊥) {r : Bool} (ab : Absent q w t a b r) (no : r ≡ false) {r′ : Bool} (ab′ : Absent q w t b a r′) where
-      pub chosen-inst-r : r′ ≡ true → Chosen q w t a b (arm.Inst side.R)
-      chosen-inst-r h = record {
-        is = λ A B d e.
-            let v = ab′ .yes h B A e d in
-            fits-inst (v .is)
-            (right-inst (unlike A B d e) (λ f. not-6 (tm .is B e ∙ f)) (λ f. not-6′ (tk .is A d ∙ f)) (ab .no no A B d e) (v .x) (v .is) (v .not-in));
-      }
-
-      pub chosen-neither : (10 * k + m ≡ 55 → ⊥) → r′ ≡ false → Chosen q w t a b arm.Neither
-      chosen-neither n55 h = record {
-        is = λ A B d e.
-            fits-none
-            (neither (unlike A B d e) (λ f. not-6 (tm .is B e ∙ f)) (λ f. not-6′ (tk .is A d ∙ f)) (ab .no no A B d e)
-            (λ f g. n55 (omega (arith, tk .is A d, tm .is B e))) (ab′ .no h B A e d));
-      }
+  pub chosen-unknown : {z y : Arm} → z ≡ arm.Neither → Formed k m z → ByUnknown q w t a b y → Chosen q w t a b y
+  chosen-unknown {y = y} e f u = go (rw e at f)
+    where
+      go : Formed k m arm.Neither → Chosen q w t a b y
+      go (no-form f g i) = chosen-by f g i u

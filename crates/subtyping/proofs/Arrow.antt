@@ -13,19 +13,19 @@ use Rattle.layout.specs.declared.Span.{Span}
 use Rattle.layout.specs.declared.State.{State}
 use Rattle.layout.proofs.Denotes.{den-frame, run-frame}
 use Rattle.types.specs.Reading.{HeldAs, LeftOf, RightOf}
-use Rattle.judging.specs.Asking.{mode, Asks, as-sub, subAsk, JudgePre}
+use Rattle.judging.specs.Asking.{here, Asks, as-sub, subAsk, JudgePre}
 use Rattle.judging.specs.declared.Answer.{Answer}
-use Rattle.judging.specs.declared.Mode.{Mode}
+use Rattle.judging.specs.declared.Here.{Here}
 use Rattle.judging.specs.declared.Step.{Step}
 use Rattle.judging.specs.declared.Step.the-variants.{Done}
 use Rattle.judging.proofs.Chain.{Sofar, begin, gave, on}
 use Rattle.judging.proofs.Steps.{NotDone, Came}
-use Rattle.steps.specs.Ending.{Through}
-use Rattle.steps.specs.Modes.{JudgedBoth, FiresBoth}
-use Rattle.steps.proofs.Going.{held-is, either, else-fires, then-done, through-ends}
+use Rattle.judging.specs.Ending.{Judged, Fires}
+use Rattle.rules.proofs.Standing.{held-is}
+use Rattle.rules.proofs.Premises.{else-fires, then-done, through-ends}
 use Rattle.rules.specs.declared.Mid.{Mid}
 use Rattle.rules.specs.declared.Mid.the-variants.{On, End}
-use Rattle.rules.specs.Going.{TwoIn, Passes, Dens, applyBoth, AppliedBoth}
+use Rattle.rules.specs.Going.{PlainOut, TwoIn, Passes, Dens, applyBoth, AppliedBoth}
 use Rattle.rules.proofs.Ways.{Way, asks-sub, Onward, onward, there}
 use Rattle.subtyping.specs.Arms.{Comes, Fits, fits-arr, ArmPre}
 use Rattle.subtyping.specs.declared.Arm.the-variants as arm
@@ -40,7 +40,7 @@ record Halves (A B : Ty) : Type 0 where
   B₂ : Ty
   left : A ≡ arrow A₁ A₂
   right : B ≡ arrow B₁ B₂
-  comes-to : Comes A B (λ judge Γ. subArr judge Γ (A₁, A₂) (B₁, B₂))
+  comes-to : Comes A B (λ h judge Γ. subArr h judge Γ (A₁, A₂) (B₁, B₂))
 
 halves : {A B : Ty} → Fits A B arm.Arr → Halves A B
 halves (fits-arr {A₁ = A₁} {A₂ = A₂} {B₁ = B₁} {B₂ = B₂} e f c) =
@@ -68,6 +68,7 @@ module _ {q w : List ℕ} {s : State} {g : Span} {a b : ℕ} (pre : ArmPre q w s
 
 -- it is asked, and the halves of its types are read; t is the cycle's measure
 pub record Halved (t : ℕ) : Type 0 where
+  pub m : Here
   pub q : List ℕ
   pub w : List ℕ
   pub s : State
@@ -91,7 +92,7 @@ pub record Lefts (t : ℕ) : Type 0 where
   pub w : List ℕ
   pub z : Step
   pub r : Answer
-  pub call : JudgedBoth (on .q) (on .w) w (on .s) (on .g) (subAsk (on .b₁) (on .a₁)) z
+  pub call : Judged (on .m) (on .q) (on .w) w (on .s) (on .g) (subAsk (on .b₁) (on .a₁)) z
   pub done : z ≡ Done r
 
 -- the right halves are as they were
@@ -113,7 +114,7 @@ module _ {t : ℕ} (h : Halved t) where
   At j = Asks (h .q) (h .w) (h .s .top) (h .g) (subAsk (h .a) (h .b)) j
 
   abbrev Ends : List ℕ → Step → Type 0
-  Ends w′ z = FiresBoth (h .q) (h .w) w′ (h .s) (h .g) (subAsk (h .a) (h .b)) z
+  Ends w′ z = Fires (h .m) (h .q) (h .w) w′ (h .s) (h .g) (subAsk (h .a) (h .b)) z
 
   abbrev parts : {j : Judgement} (k : At j) → Halves (askd (h .pre) k .A) (askd (h .pre) k .B)
   parts k = half (h .pre) k
@@ -127,27 +128,27 @@ module _ {t : ℕ} (h : Halved t) where
   pub arr-first : (3 * h .s .left < t) × JudgePre (h .q) (h .w) (h .s) (h .g) (subAsk (h .b₁) (h .a₁))
   arr-first = (omega (arith, h .falls), asks-sub (h .pre .pre .room) (asks₁ (h .pre .pre .asks)))
 
-  says₁ : (m : Mode) {j : Judgement} (k : At j) → rule (mode m) (judge (mode m)) j (h .s .left) (h .s .fresh)
-      ≡ andThen (judge (mode m) (lefts k) (h .s .left) (h .s .fresh))
-      (λ r l n. andThen (judge (mode m) (subtype (r .1) (parts k .A₂) (parts k .B₂)) l n) (λ u. give (Syntax.SubArr, int, u .1, r .2 & u .2 & leaf)))
+  says₁ : {j : Judgement} (k : At j) → rule (here (h .m)) (judge (here (h .m))) j (h .s .left) (h .s .fresh)
+      ≡ andThen (judge (here (h .m)) (lefts k) (h .s .left) (h .s .fresh))
+      (λ r l n. andThen (judge (here (h .m)) (subtype (r .1) (parts k .A₂) (parts k .B₂)) l n) (λ u. give (Syntax.SubArr, int, u .1, r .2 & u .2 & leaf)))
   unfolding subArr _>>=_
-  says₁ m k = comes (h .pre) m k (parts k .comes-to)
+  says₁ k = comes (h .pre) (h .m) k (parts k .comes-to)
 
-  pub arr-else₁ : {w₁ : List ℕ} {z : Step} → JudgedBoth (h .q) (h .w) w₁ (h .s) (h .g) (subAsk (h .b₁) (h .a₁)) z → NotDone z → Ends w₁ z
-  arr-else₁ call nd = else-fires (λ m j k. record { ts = leaf; so = begin; i = _; asks = asks₁ k; next = _; says = says₁ m k }) call nd
+  pub arr-else₁ : {w₁ : List ℕ} {z : Step} → Judged (h .m) (h .q) (h .w) w₁ (h .s) (h .g) (subAsk (h .b₁) (h .a₁)) z → NotDone z → Ends w₁ z
+  arr-else₁ call nd = else-fires (λ j k. record { ts = leaf; so = begin; i = _; asks = asks₁ k; next = _; says = says₁ k }) call nd
 
 -- ## The right halves
 
 module _ {t : ℕ} (c : Lefts t) where
-  came : (m : Mode) {j : Judgement} (k : At (c .on) j)
-      → Came (c .on .q) (c .w) (c .on .s) (c .r) (judge (mode m) (lefts (c .on) k) (c .on .s .left) (c .on .s .fresh))
-  came m k = gave begin (c .call .in-mode m) (asks₁ (c .on) k) (c .done)
+  came : {j : Judgement} (k : At (c .on) j)
+      → Came (c .on .q) (c .w) (c .on .s) (c .r) (judge (here (c .on .m)) (lefts (c .on) k) (c .on .s .left) (c .on .s .fresh))
+  came k = gave begin (c .call) (asks₁ (c .on) k) (c .done)
 
-  so : (m : Mode) {j : Judgement} (k : At (c .on) j) → Sofar (c .on .q) (c .on .w) (c .w) (c .on .s) (c .r .st) (came m k .t & leaf)
-  so m k = on begin (c .call .in-mode m) (asks₁ (c .on) k) (came m k)
+  so : {j : Judgement} (k : At (c .on) j) → Sofar (c .on .q) (c .on .w) (c .w) (c .on .s) (c .r .st) (came k .t & leaf)
+  so k = on begin (c .call) (asks₁ (c .on) k) (came k)
 
   stays : {n : ℕ} {T : Ty} → Den (c .on .q) (c .on .w) (c .on .s .top) n T → Den (c .on .q) (c .w) (c .r .st .top) n T
-  stays d = let x = so either (c .on .pre .pre .asks) in den-frame (x .keep) (x .up) d
+  stays d = let x = so (c .on .pre .pre .asks) in den-frame (x .keep) (x .up) d
 
   left₂ : {j : Judgement} (k : At (c .on) j) → Den (c .on .q) (c .w) (c .r .st .top) (c .on .a₂) (parts (c .on) k .A₂)
   left₂ k = stays (c .on .right-a .is _ _ (left (c .on .pre) k) .den)
@@ -156,52 +157,50 @@ module _ {t : ℕ} (c : Lefts t) where
   right₂ k = stays (c .on .right-b .is _ _ (right (c .on .pre) k) .den)
 
   pub arr-two : TwoIn (c .on .q) (c .w) (c .r .st) (c .r .g) (c .on .a₂) (c .on .b₂)
-  arr-two = let k = c .on .pre .pre .asks in let x = came either k .land in
+  arr-two = let k = c .on .pre .pre .asks in let x = came k .land in
       record { two = record { spare = _; room = x .room; A = _; B = _; left = left₂ k; right = right₂ k }; Γ = _; run = x .run }
 
-  way : (m : Mode) {j : Judgement} (k : At (c .on) j)
-      → Way (c .on .q) (c .on .w) (c .w) (c .on .s) (c .r .st) (came m k .t & leaf) (4 * c .r .g .n + 4)
-      (rule (mode m) (judge (mode m)) j (c .on .s .left) (c .on .s .fresh))
-      (applyBoth false (came m k .Δ) (parts (c .on) k .A₂) (parts (c .on) k .B₂) >>= λ T. judge (mode m) (subtype (came m k .Δ) (T .0) (T .1))
-      >>= λ u. give (Syntax.SubArr, int, u .1, came m k .t & u .2 & leaf))
+  way : {j : Judgement} (k : At (c .on) j)
+      → Way (c .on .q) (c .on .w) (c .w) (c .on .s) (c .r .st) (came k .t & leaf) (4 * c .r .g .n + 4)
+      (rule (here (c .on .m)) (judge (here (c .on .m))) j (c .on .s .left) (c .on .s .fresh))
+      (applyBoth false (came k .Δ) (parts (c .on) k .A₂) (parts (c .on) k .B₂) >>= λ T. judge (here (c .on .m)) (subtype (came k .Δ) (T .0) (T .1))
+      >>= λ u. give (Syntax.SubArr, int, u .1, came k .t & u .2 & leaf))
   unfolding branch _>>=_ andThen give
-  way m k = record { so = so m k; room = came m k .land .room; is = says₁ (c .on) m k ∙ then-done _ (came m k .is) }
+  way k = record { so = so k; room = came k .land .room; is = says₁ (c .on) k ∙ then-done _ (came k .is) }
 
   module _ {w₂ : List ℕ} {v : Mid} (mid : AppliedBoth false (c .on .q) (c .w) w₂ (c .r .st) (c .r .g) (c .on .a₂) (c .on .b₂) v) where
-    passes : (m : Mode) {j : Judgement} (k : At (c .on) j) → Passes (c .on .q) (c .w) w₂ (c .r .st) (Dens (c .on .q) w₂) v
-        (applyBoth false (came m k .Δ) (parts (c .on) k .A₂) (parts (c .on) k .B₂) (c .r .st .left) (c .r .st .fresh))
-    passes m k = mid .passes _ _ _ (came m k .land .run) (left₂ k) (right₂ k)
+    passes : {j : Judgement} (k : At (c .on) j) → Passes (c .on .q) (c .w) w₂ (c .r .st) (Dens (c .on .q) w₂) v
+        (applyBoth false (came k .Δ) (parts (c .on) k .A₂) (parts (c .on) k .B₂) (c .r .st .left) (c .r .st .fresh))
+    passes k = mid .passes _ _ _ (came k .land .run) (left₂ k) (right₂ k)
 
     pub arr-end : {y : Step} → v ≡ End y → Ends (c .on) w₂ y
-    arr-end e = record { in-mode = λ m. record { run = λ j k. there (Dens (c .on .q) w₂) _ _ (way m k) (passes m k) e } }
+    arr-end e = record { run = λ j k. there (Dens (c .on .q) w₂) _ _ (way k) (passes k) e }
 
 module _ {t : ℕ} (b : Between t) where
   -- the rule as it was asked
   abbrev asked : Halved t
   asked = b .on .on
 
-  next : (m : Mode) {j : Judgement} (k : At asked j) → Onward (Dens (asked .q) (b .w)) _ _ (way (b .on) m k) (b .w) (b .s) (b .a) (b .b)
-  next m k = onward (Dens (asked .q) (b .w)) _ _ (way (b .on) m k) (passes (b .on) (b .call) m k) (b .done)
+  next : {j : Judgement} (k : At asked j) → Onward (Dens (asked .q) (b .w)) _ _ (way (b .on) k) (b .w) (b .s) (b .a) (b .b)
+  next k = onward (Dens (asked .q) (b .w)) _ _ (way (b .on) k) (passes (b .on) (b .call) k) (b .done)
 
-  asks₂ : (m : Mode) {j : Judgement} (k : At asked j)
-      → Asks (asked .q) (b .w) (b .s .top) (b .on .r .g) (subAsk (b .a) (b .b)) (subtype (came (b .on) m k .Δ) (next m k .x .0) (next m k .x .1))
-  asks₂ m k = let x = next m k in as-sub refl refl (run-frame (x .keep) (x .up) (came (b .on) m k .land .run)) (x .says .0) (x .says .1)
+  asks₂ : {j : Judgement} (k : At asked j)
+      → Asks (asked .q) (b .w) (b .s .top) (b .on .r .g) (subAsk (b .a) (b .b)) (subtype (came (b .on) k .Δ) (next k .x .0) (next k .x .1))
+  asks₂ k = let x = next k in as-sub refl refl (run-frame (x .keep) (x .up) (came (b .on) k .land .run)) (x .says .0) (x .says .1)
 
   pub arr-second : (3 * b .s .left < t) × JudgePre (asked .q) (b .w) (b .s) (b .on .r .g) (subAsk (b .a) (b .b))
-  arr-second = let k = asked .pre .pre .asks in let x = next either k .way in
-      (omega (arith, asked .falls, x .so .less), asks-sub (x .room) (asks₂ either k))
+  arr-second = let k = asked .pre .pre .asks in let x = next k .way in
+      (omega (arith, asked .falls, x .so .less), asks-sub (x .room) (asks₂ k))
 
-  module _ {w₃ : List ℕ} {y : Step} (call : JudgedBoth (asked .q) (b .w) w₃ (b .s) (b .on .r .g) (subAsk (b .a) (b .b)) y) where
+  module _ {w₃ : List ℕ} {y : Step} (call : Judged (asked .m) (asked .q) (b .w) w₃ (b .s) (b .on .r .g) (subAsk (b .a) (b .b)) y) where
     pub arr-else₂ : NotDone y → Ends asked w₃ y
     unfolding _>>=_
-    arr-else₂ nd = else-fires (λ m j k. let x = next m k .way in record { ts = _; so = x .so; i = _; asks = asks₂ m k; next = _; says = x .is }) call nd
+    arr-else₂ nd = else-fires (λ j k. let x = next k .way in record { ts = _; so = x .so; i = _; asks = asks₂ k; next = _; says = x .is }) call nd
 
-    pub arr-done : {u : Answer} {z : Step} → y ≡ Done u → Through u 25 2 z → Ends asked w₃ z
+    pub arr-done : {u : Answer} {z : Step} → y ≡ Done u → PlainOut (u .st) (u .g) 2048 25 2 z → Ends asked w₃ z
     unfolding children ruleNumber _>>=_
     arr-done d th = record {
-      in-mode = λ m. record {
-        run = λ j k.
-            let x = next m k .way in
-            through-ends (x .so) (call .in-mode m) (asks₂ m k) d Syntax.SubArr refl (λ t. refl) (omega arith) th _ (x .is);
-      };
+      run = λ j k.
+          let x = next k .way in
+          through-ends (x .so) call (asks₂ k) d Syntax.SubArr refl (λ t. refl) (omega arith) th _ (x .is);
     }

@@ -6,21 +6,21 @@ use Rattle.definition.specs.Syntax
 use Rattle.definition.specs.Syntax.{TyVar, Ty, int, forall, Ctx, Side, onL, onR, Judgement, subtype, Rule, ruleNumber, leaf, _&_}
 use Rattle.definition.specs.Run.{andThen, give, _>>=_}
 use Rattle.definition.specs.Contexts.{rightOf}
-use Rattle.definition.specs.Rules.{Judge, judge, subAllR, subAllL, tyCode}
+use Rattle.definition.specs.Rules.{Here, Judge, judge, subAllR, subAllL, tyCode}
 use Rattle.layout.specs.Denotes.{Den}
 use Rattle.layout.specs.Room.{Room}
 use Rattle.layout.specs.declared.Span.{Span}
 use Rattle.layout.specs.declared.State.{State}
 use Rattle.layout.proofs.Denotes.{den-frame}
-use Rattle.judging.specs.Asking.{mode, Asks, as-sub, subAsk, Small}
-use Rattle.judging.specs.declared.Mode.{Mode}
+use Rattle.judging.specs.Asking.{here, Asks, as-sub, subAsk, Small}
+use Rattle.judging.specs.declared.Here as program-here
 use Rattle.judging.proofs.Asking.{small-sub}
-use Rattle.steps.specs.Opening.{ForallPre, OpensOn}
-use Rattle.steps.specs.Sides.{side, openedTy, openedCtx, binder}
-use Rattle.steps.specs.declared.Instance.{Instance}
-use Rattle.steps.specs.declared.Side as program
-use Rattle.steps.proofs.Going.{forall-pre, ref-small}
-use Rattle.steps.proofs.Under.{Under}
+use Rattle.rules.specs.Opening.{ForallPre, OpensOn}
+use Rattle.rules.specs.Sides.{side, openedTy, openedCtx, binder}
+use Rattle.rules.specs.declared.Instance.{Instance}
+use Rattle.rules.specs.declared.Side as program
+use Rattle.rules.proofs.Standing.{forall-pre, ref-small}
+use Rattle.rules.proofs.Under.{Under}
 use Rattle.subtyping.specs.Arms.{oneOf, subAll, Comes, Fits, fits-all, ArmPre}
 use Rattle.subtyping.specs.declared.Arm.the-variants as arm
 use Rattle.subtyping.proofs.Rules.{one-den, one-small, askd, fits, comes}
@@ -29,7 +29,7 @@ record Opened (sd : Side) (A B : Ty) : Type 0 where
   x : TyVar
   T : Ty
   is : oneOf sd A B ≡ forall x T
-  comes-to : Comes A B (λ judge Γ. subAll sd judge Γ (oneOf sd B A) (x, T))
+  comes-to : Comes A B (λ h judge Γ. subAll sd h judge Γ (oneOf sd B A) (x, T))
 
 all-fits : {A B : Ty} {z : program.Side} → Fits A B (arm.All z) → Opened (side z) A B
 all-fits (fits-all {x = x} {T = T} e c) = record { x = x; T = T; is = e; comes-to = c }
@@ -44,13 +44,13 @@ all-number onL = refl
 all-number onR = refl
 
 -- the two rules in one form: the opened type takes the Forall's place
-all-is : (judge : Judge) (Γ : Ctx) (A B : Ty) (x : TyVar) (T : Ty) (l n : ℕ) (sd : Side) → subAll sd judge Γ (oneOf sd B A) (x, T) l n
+all-is : (h : Here) (judge : Judge) (Γ : Ctx) (A B : Ty) (x : TyVar) (T : Ty) (l n : ℕ) (sd : Side) → subAll sd h judge Γ (oneOf sd B A) (x, T) l n
     ≡ andThen (openedTy sd x T l n)
-    (λ T′ l n. andThen (judge (subtype (openedCtx sd Γ x) (oneOf sd T′ A) (oneOf sd B T′)) l n)
+    (λ T′ l n. andThen (judge (subtype (openedCtx h sd Γ x) (oneOf sd T′ A) (oneOf sd B T′)) l n)
     (λ u. give (ruleAll sd, int, rightOf (binder sd x) (u .1), u .2 & leaf)))
 unfolding subAllR subAllL _>>=_ andThen
-all-is judge Γ A B x T l n onL = refl
-all-is judge Γ A B x T l n onR = refl
+all-is h judge Γ A B x T l n onL = refl
+all-is h judge Γ A B x T l n onR = refl
 
 module _ {q w : List ℕ} {s : State} {g : Span} {a b : ℕ} {z : program.Side} (pre : ArmPre q w s g a b (arm.All z)) where
   inside : {j : Judgement} (k : Asks q w (s .top) g (subAsk a b) j) → Opened (side z) (askd pre k .A) (askd pre k .B)
@@ -71,10 +71,10 @@ module _ {q w : List ℕ} {s : State} {g : Span} {a b : ℕ} {z : program.Side} 
       small-sub (one-small (side z) (ref-small room d) (ref-small (pre .pre .room) (v .left)))
       (one-small (side z) (ref-small (pre .pre .room) (v .right)) (ref-small room d))
 
-  pub under-on : {w₁ : List ℕ} {r : ℕ} {x : Instance} → r ≡ oneOf (side z) a b → OpensOn q w w₁ s g r (side z) x → (m : Mode) (j : Judgement)
+  pub under-on : {m : program-here.Here} {w₁ : List ℕ} {r : ℕ} {x : Instance} → r ≡ oneOf (side z) a b → OpensOn m q w w₁ s g r (side z) x → (j : Judgement)
       → Asks q w (s .top) g (subAsk a b) j
       → Under m q w w₁ s g (λ p. subAsk (oneOf (side z) (p .ty) a) (oneOf (side z) b (p .ty))) (binder (side z)) (ruleAll (side z)) x j
-  under-on e in₁ m j k =
+  under-on {m} e in₁ j k =
       let v = askd pre k in
       let f = inside k in
       record {
@@ -86,5 +86,5 @@ module _ {q w : List ℕ} {s : State} {g : Span} {a b : ℕ} {z : program.Side} 
         asks = λ p T bt op.
             as-sub refl refl (op .run) (one-den (side z) (op .den) (den-frame (bt .keep) (bt .up) (v .left)))
             (one-den (side z) (den-frame (bt .keep) (bt .up) (v .right)) (op .den));
-        says = comes pre m k (f .comes-to) ∙ all-is (judge (mode m)) (v .Γ) (v .A) (v .B) (f .x) (f .T) (s .left) (s .fresh) (side z);
+        says = comes pre m k (f .comes-to) ∙ all-is (here m) (judge (here m)) (v .Γ) (v .A) (v .B) (f .x) (f .T) (s .left) (s .fresh) (side z);
       }

@@ -5,26 +5,29 @@ use Prim.Native.Nat.{ℕ, _<_}
 use native.Mathlib.Omega.{arith}
 use Rattle.definition.specs.Syntax.{TyVar, Ty, int, etvar, Ctx, Side, onL, onR, Judgement, inst, Rule, ruleNumber, leaf, _&_, children, subtypingError}
 use Rattle.definition.specs.Run.{M, andThen, give, refuse, _>>=_}
+use Rattle.definition.specs.Rules as definition
 use Rattle.definition.specs.Rules.{Fired, Judge, closes, subInst, rule, judge}
 use Rattle.definition.specs.Reply.{errorCode, errorAt}
 use Rattle.layout.specs.Denotes.{Den}
 use Rattle.layout.specs.declared.Span.{Span}
 use Rattle.layout.specs.declared.State.{State}
 use Rattle.types.proofs.Held.{room-held}
-use Rattle.judging.specs.Asking.{mode, Asks, subAsk, instAsk, JudgePre, RulePre}
-use Rattle.judging.specs.Ending.{e-subtyping, Failed}
+use Rattle.judging.specs.Asking.{here, Asks, subAsk, instAsk, JudgePre, RulePre}
+use Rattle.judging.specs.Ending.{two-types, Failed}
 use Rattle.judging.specs.declared.Answer.{Answer}
-use Rattle.judging.specs.declared.Mode.{Mode}
+use Rattle.judging.specs.declared.Here.{Here}
+use Rattle.judging.specs.declared.Shown.the-variants.{TwoTypes}
 use Rattle.judging.specs.declared.Step.{Step}
 use Rattle.judging.specs.declared.Step.the-variants.{Done, Fail}
 use Rattle.judging.proofs.Asking.{SubAsked, sub-asked, asks-inst}
 use Rattle.judging.proofs.Chain.{begin, refuses, room-within}
 use Rattle.judging.proofs.Steps.{NotDone}
-use Rattle.steps.specs.Ending.{Through}
-use Rattle.steps.specs.Modes.{JudgedBoth, FiresBoth}
-use Rattle.steps.specs.Sides.{side}
-use Rattle.steps.specs.declared.Side as program
-use Rattle.steps.proofs.Going.{room-less, inst-pre, else-fires, ends, through-ends}
+use Rattle.rules.specs.Going.{PlainOut}
+use Rattle.judging.specs.Ending.{Judged, Fires}
+use Rattle.rules.specs.Sides.{side}
+use Rattle.rules.specs.declared.Side as program
+use Rattle.rules.proofs.Standing.{room-less}
+use Rattle.rules.proofs.Premises.{inst-pre, else-fires, ends, through-ends}
 use Rattle.subtyping.specs.Arms.{oneOf, ruleInst, BothHeld, Comes, Fits, fits-refl, fits-inst, fits-none, Chosen, ArmPre}
 use Rattle.subtyping.specs.declared.Arm.{Arm}
 use Rattle.subtyping.specs.declared.Arm.the-variants as arm
@@ -59,48 +62,45 @@ module _ {q w : List ℕ} {s : State} {g : Span} {a b : ℕ} {z : Arm} (pre : Ar
   pub fits : {j : Judgement} (k : Asks q w (s .top) g (subAsk a b) j) → Fits (askd k .A) (askd k .B) z
   fits k = pre .chosen .is (askd k .A) (askd k .B) (askd k .left) (askd k .right)
 
-  pub comes : (m : Mode) {j : Judgement} (k : Asks q w (s .top) g (subAsk a b) j) {K : Judge → Ctx → M Fired} → Comes (askd k .A) (askd k .B) K
-      → rule (mode m) (judge (mode m)) j (s .left) (s .fresh) ≡ K (judge (mode m)) (askd k .Γ) (s .left) (s .fresh)
+  pub comes : (m : Here) {j : Judgement} (k : Asks q w (s .top) g (subAsk a b) j) {K : definition.Here → Judge → Ctx → M Fired}
+      → Comes (askd k .A) (askd k .B) K
+      → rule (here m) (judge (here m)) j (s .left) (s .fresh) ≡ K (here m) (judge (here m)) (askd k .Γ) (s .left) (s .fresh)
   unfolding rule
   comes m k c =
-      ap (λ (i : Judgement). rule (mode m) (judge (mode m)) i (s .left) (s .fresh)) (askd k .is)
-      ∙ ap (λ (f : M Fired). f (s .left) (s .fresh)) (c (judge (mode m)) (askd k .Γ))
+      ap (λ (i : Judgement). rule (here m) (judge (here m)) i (s .left) (s .fresh)) (askd k .is)
+      ∙ ap (λ (f : M Fired). f (s .left) (s .fresh)) (c (here m) (judge (here m)) (askd k .Γ))
 
 -- ## The arms without premises
 
 record ReflFits (A B : Ty) (n : ℕ) : Type 0 where
   R : Rule
   number : n ≡ ruleNumber R
-  comes-to : Comes A B (λ judge Γ. closes R Γ)
+  comes-to : Comes A B (λ h judge Γ. closes R Γ)
 
 refl-fits : {A B : Ty} {n : ℕ} → Fits A B (arm.Refl n) → ReflFits A B n
 refl-fits (fits-refl R e c) = record { R = R; number = e; comes-to = c }
 
-pub refl-fires : {q w : List ℕ} {s : State} {g : Span} {a b n : ℕ} → ArmPre q w s g a b (arm.Refl n)
-    → FiresBoth q w w s g (subAsk a b) (Done (record { st = s; g = g; ty = 2048; rule = n; kids = 0 }))
+pub refl-fires : {m : Here} {q w : List ℕ} {s : State} {g : Span} {a b n : ℕ} → ArmPre q w s g a b (arm.Refl n)
+    → Fires m q w w s g (subAsk a b) (Done (record { st = s; g = g; ty = 2048; rule = n; kids = 0; charge = 0 }))
 unfolding closes give children
-refl-fires {s = s} {g = g} pre = record {
-  in-mode = λ m. record {
-    run = λ j k.
-        let f = refl-fits (fits pre k) in
-        ends s g (f .R) (f .number) refl (omega arith) begin (room-less (pre .pre .room) 4 (omega arith)) (askd pre k .run) _ (comes pre m k (f .comes-to));
-  };
+refl-fires {m} {s = s} {g = g} pre = record {
+  run = λ j k.
+      let f = refl-fits (fits pre k) in
+      ends s g (f .R) (f .number) refl (omega arith) begin (room-less (pre .pre .room) 4 (omega arith)) (askd pre k .run) _ (comes pre m k (f .comes-to));
 }
 
-none-fits : {A B : Ty} → Fits A B arm.Neither → Comes A B (λ judge Γ. refuse (subtypingError A B))
+none-fits : {A B : Ty} → Fits A B arm.Neither → Comes A B (λ h judge Γ. refuse (subtypingError A B))
 none-fits (fits-none c) = c
 
-pub none-fires : {q w : List ℕ} {s : State} {g : Span} {a b : ℕ} → ArmPre q w s g a b arm.Neither
-    → FiresBoth q w w s g (subAsk a b) (Fail (record { st = s; code = 15; name = 0; left = a; right = b }))
+pub none-fires : {m : Here} {q w : List ℕ} {s : State} {g : Span} {a b : ℕ} → ArmPre q w s g a b arm.Neither
+    → Fires m q w w s g (subAsk a b) (Fail (record { st = s; code = 15; name = 0; shown = TwoTypes a b; charge = 0 }))
 unfolding refuse errorCode errorAt
-none-fires {q} {w} {s} {g} {a} {b} pre = record {
-  in-mode = λ m. record {
-    run = λ j k.
-        let v = askd pre k in
-        let f : Failed q w (record { st = s; code = 15; name = 0; left = a; right = b }) (subtypingError (v .A) (v .B)) (s .left) =
-        record { base = pre .pre .room .base; within = room-within (pre .pre .room); code = refl; name = refl; types = e-subtyping (v .left) (v .right); left = refl } in
-        refuses begin f _ (comes pre m k (none-fits (fits pre k)));
-  };
+none-fires {m} {q} {w} {s} {g} {a} {b} pre = record {
+  run = λ j k.
+      let v = askd pre k in
+      let f : Failed q w (record { st = s; code = 15; name = 0; shown = TwoTypes a b; charge = 0 }) (subtypingError (v .A) (v .B)) (s .left) =
+      record { base = pre .pre .room .base; within = room-within (pre .pre .room); code = refl; name = refl; shown = two-types (v .left) (v .right); left = refl } in
+      refuses begin f _ (comes pre m k (none-fits (fits pre k)));
 }
 
 -- ## SubInstL and SubInstR: one instantiation, of the unknown u by the type t
@@ -108,7 +108,7 @@ none-fires {q} {w} {s} {g} {a} {b} pre = record {
 record Unknown (sd : Side) (A B : Ty) : Type 0 where
   x : TyVar
   is : oneOf sd A B ≡ etvar x
-  comes-to : Comes A B (λ judge Γ. subInst judge (ruleInst sd) sd Γ (oneOf sd B A) x)
+  comes-to : Comes A B (λ h judge Γ. subInst h judge (ruleInst sd) sd Γ (oneOf sd B A) x)
 
 unknown-fits : {A B : Ty} {z : program.Side} → Fits A B (arm.Inst z) → Unknown (side z) A B
 unknown-fits (fits-inst {x = x} e c) = record { x = x; is = e; comes-to = c }
@@ -126,8 +126,8 @@ module _ {q w : List ℕ} {s : State} {g : Span} {a b : ℕ} {z : program.Side} 
   abbrev way : {j : Judgement} → Asks q w (s .top) g (subAsk a b) j → Judgement
   way k = inst (side z) (askd pre k .Γ) (unknown k .x) (oneOf (side z) (askd pre k .B) (askd pre k .A))
 
-  says : (m : Mode) {j : Judgement} (k : Asks q w (s .top) g (subAsk a b) j) → rule (mode m) (judge (mode m)) j (s .left) (s .fresh)
-      ≡ andThen (judge (mode m) (way k) (s .left) (s .fresh)) (λ v. give (ruleInst (side z), int, v .1, v .2 & leaf))
+  says : (m : Here) {j : Judgement} (k : Asks q w (s .top) g (subAsk a b) j) → rule (here m) (judge (here m)) j (s .left) (s .fresh)
+      ≡ andThen (judge (here m) (way k) (s .left) (s .fresh)) (λ v. give (ruleInst (side z), int, v .1, v .2 & leaf))
   unfolding subInst _>>=_
   says m k = comes pre m k (unknown k .comes-to)
 
@@ -141,18 +141,16 @@ module _ {q w : List ℕ} {s : State} {g : Span} {a b : ℕ} {z : program.Side} 
     pub inst-first : JudgePre q w s g (instAsk (side z) u t)
     inst-first = let k = pre .pre .asks in inst-pre (side z) (pre .pre .room) (askd pre k .run) (unknown-den k) (type-den k)
 
-    module _ {w₁ : List ℕ} {y : Step} (call : JudgedBoth q w w₁ s g (instAsk (side z) u t) y) where
-      asks₁ : {j : Judgement} (k : Asks q w (s .top) g (subAsk a b) j) → Asks q w (s .top) g (instAsk (side z) u t) (way k)
-      asks₁ k = asks-inst (side z) (askd pre k .run) (unknown-den k) (type-den k)
+    asks₁ : {j : Judgement} (k : Asks q w (s .top) g (subAsk a b) j) → Asks q w (s .top) g (instAsk (side z) u t) (way k)
+    asks₁ k = asks-inst (side z) (askd pre k .run) (unknown-den k) (type-den k)
 
-      pub inst-else : NotDone y → FiresBoth q w w₁ s g (subAsk a b) y
-      inst-else nd = else-fires (λ m j k. record { ts = leaf; so = begin; i = _; asks = asks₁ k; next = _; says = says m k }) call nd
+    module _ {m : Here} {w₁ : List ℕ} {y : Step} (call : Judged m q w w₁ s g (instAsk (side z) u t) y) where
+      pub inst-else : NotDone y → Fires m q w w₁ s g (subAsk a b) y
+      inst-else nd = else-fires (λ j k. record { ts = leaf; so = begin; i = _; asks = asks₁ k; next = _; says = says m k }) call nd
 
-      pub inst-done : {r : Answer} {n : ℕ} {o : Step} → y ≡ Done r → n ≡ oneOf (side z) 28 29 → Through r n 1 o → FiresBoth q w w₁ s g (subAsk a b) o
+      pub inst-done : {r : Answer} {n : ℕ} {o : Step} → y ≡ Done r → n ≡ oneOf (side z) 28 29 → PlainOut (r .st) (r .g) 2048 n 1 o → Fires m q w w₁ s g (subAsk a b) o
       unfolding children
       inst-done d en th = record {
-        in-mode = λ m. record {
-          run = λ j k.
-              through-ends begin (call .in-mode m) (asks₁ k) d (ruleInst (side z)) (en ∙ inst-number (side z)) (λ v. refl) (omega arith) th _ (says m k);
-        };
+        run = λ j k.
+            through-ends begin call (asks₁ k) d (ruleInst (side z)) (en ∙ inst-number (side z)) (λ v. refl) (omega arith) th _ (says m k);
       }

@@ -4,10 +4,9 @@ use mathlib.Core.List.{List, [], _∷_, _++_, append-assoc}
 use Prim.Native.Nat.{ℕ, zero, suc, _+_, _*_, _/_, _%_, _≤_, _<_}
 use native.Mathlib.Omega.{arith}
 use native.Mathlib.Numerals.{add-one}
-use lib.ListN.{length, getD, set, take, drop, length-append, take-append-drop, drop-of-length-le}
-use lib.Seq.{sets-eq, take-at, drop-drop, drop-append-add, drop-cons, length-take-le}
+use lib.ListN.{length, getD, set, take, drop, length-append}
+use lib.Seq.{sets-eq, set-at, drop-nil, drop-cons, drop-drop, take-all, take-add, paste, take-paste, drop-paste}
 use Rattle.definition.specs.Host.{wordAt, wordsOf, bytesOf}
-use Rattle.wire.specs.Bytes.{putWord}
 
 -- ## Putting
 
@@ -18,53 +17,51 @@ length-bytes (w ∷ ws) = omega (arith, length-bytes ws)
 
 -- four stores put a word
 pub put-word : (d : List ℕ) (at x : ℕ) → at + 4 ≤ length d
-    → set (set (set (set d at (x % 256)) (at + 1) (x / 256 % 256)) (at + 2) (x / 65536 % 256)) (at + 3) (x / 16777216 % 256) ≡ putWord d at x
+    → set (set (set (set d at (x % 256)) (at + 1) (x / 256 % 256)) (at + 2) (x / 65536 % 256)) (at + 3) (x / 16777216 % 256)
+    ≡ paste d at (bytesOf (x ∷ [])) 4
 unfolding bytesOf
 put-word d at x h =
     let e₁ : at + 1 ≡ suc at = omega arith in
     let e₂ : at + 2 ≡ suc (suc at) = omega arith in
     let e₃ : at + 3 ≡ suc (suc (suc at)) = omega arith in
-    let bs : List ℕ = x % 256 ∷ x / 256 % 256 ∷ x / 65536 % 256 ∷ x / 16777216 % 256 ∷ [] in
-    rw (e₁, e₂, e₃) (sets-eq bs d at h ∙ append-assoc (take at d) bs (drop (at + 4) d))
+    rw (e₁, e₂, e₃) (sets-eq (bytesOf (x ∷ [])) d at h)
 
--- one word after the other
-abbrev pub putWords : List ℕ → ℕ → List ℕ → List ℕ
-putWords d at [] = d
-putWords d at (w ∷ ws) = putWords (putWord d at w) (at + 4) ws
+-- what comes next in s, put behind its first n
+paste-more : (d : List ℕ) (at : ℕ) (s : List ℕ) (n m : ℕ) → at + n ≤ length d → n ≤ length s
+    → paste (paste d at s n) (at + n) (drop n s) m ≡ paste d at s (n + m)
+paste-more d at s n m h k =
+    let e : at + n + m ≡ at + (n + m) = omega arith in
+    let dp : drop (at + n + m) (paste d at s n) ≡ drop (at + (n + m)) d =
+    sym (drop-drop m (at + n) (paste d at s n)) ∙ ap (drop m) (drop-paste d at s n (omega arith) k) ∙ drop-drop m (at + n) d ∙ rw e in
+    rw (take-paste d at s n (omega arith) k, dp, take-add n m s)
+    (ap (_++ drop (at + (n + m)) d) (append-assoc (take at d) (take n s) (take m (drop n s))))
 
-pub length-put : (d : List ℕ) (at x : ℕ) → at + 4 ≤ length d → length (putWord d at x) ≡ length d
-length-put d at x h =
-    let l : length (take at d) ≡ at = length-take-le at d (omega arith) in
-    let b : length (bytesOf (x ∷ [])) ≡ 4 = length-bytes (x ∷ []) in
-    simp (length-append, lib.ListN.length-drop) (omega arith)
-
-pub put-words : (ws d : List ℕ) (at : ℕ) → at + 4 * length ws ≤ length d
-    → putWords d at ws ≡ take at d ++ (bytesOf ws ++ drop (at + 4 * length ws) d)
+bytes-drop : (ws : List ℕ) (i : ℕ) → drop (4 * i) (bytesOf ws) ≡ bytesOf (drop i ws)
 unfolding bytesOf
-put-words [] d at h =
-    let e : at + 4 * 0 ≡ at = omega arith in
-    rw e (sym (take-append-drop at d))
-put-words (w ∷ ws) d at h =
-    let b : List ℕ = bytesOf (w ∷ []) in
-    let lt : length (take at d) ≡ at = length-take-le at d (omega arith) in
-    let lb : length b ≡ 4 = length-bytes (w ∷ []) in
-    let la : length (take at d ++ b) ≡ at + 4 = length-append (take at d) b ∙ omega arith in
-    let d′ : putWord d at w ≡ (take at d ++ b) ++ drop (at + 4) d = sym (append-assoc (take at d) b (drop (at + 4) d)) in
-    let tk : take (at + 4) (putWord d at w) ≡ take at d ++ b = ap (take (at + 4)) d′ ∙ take-at (take at d ++ b) (drop (at + 4) d) (at + 4) la in
-    let i : at + 4 + 4 * length ws ≡ length (take at d ++ b) + 4 * length ws = omega arith in
-    let j : at + 4 + 4 * length ws ≡ at + 4 * length (w ∷ ws) = omega arith in
-    let dp : drop (at + 4 + 4 * length ws) (putWord d at w) ≡ drop (at + 4 * length (w ∷ ws)) d =
-    ap (λ (n : ℕ). drop n (putWord d at w)) i ∙ ap (drop (length (take at d ++ b) + 4 * length ws)) d′
-    ∙ drop-append-add (take at d ++ b) (drop (at + 4) d) (4 * length ws) ∙ drop-drop (4 * length ws) (at + 4) d ∙ ap (λ (n : ℕ). drop n d) j in
-    put-words ws (putWord d at w) (at + 4) (omega (arith, length-put d at w (omega arith)))
-    ∙ rw (tk, dp) (append-assoc (take at d) b (bytesOf ws ++ drop (at + 4 * length (w ∷ ws)) d))
+bytes-drop ws zero = refl
+bytes-drop [] (suc i) = drop-nil (4 * suc i)
+bytes-drop (w ∷ ws) (suc i) =
+    let e : 4 * suc i ≡ suc (suc (suc (suc (4 * i)))) = omega arith in
+    rw e (bytes-drop ws i)
 
-pub put-step : (d : List ℕ) (to : ℕ) (ws : List ℕ) (i : ℕ) → i < length ws
-    → putWords d to (drop i ws) ≡ putWords (putWord d to (getD ws i 0)) (to + 4) (drop (i + 1) ws)
-put-step d to ws i h = rw (add-one i, drop-cons ws i 0 h)
+-- the word i is put behind those before it
+pub put-more : (d : List ℕ) (at : ℕ) (ws : List ℕ) (i to : ℕ) {d₁ d₂ : List ℕ} → at + 4 * length ws ≤ length d → i < length ws → to ≡ at + 4 * i
+    → d₁ ≡ paste d at (bytesOf ws) (4 * i) → d₂ ≡ paste d₁ to (bytesOf (getD ws i 0 ∷ [])) 4 → d₂ ≡ paste d at (bytesOf ws) (4 * (i + 1))
+unfolding bytesOf
+put-more d at ws i to h k e f g =
+    let n : drop (4 * i) (bytesOf ws) ≡ bytesOf (getD ws i 0 ∷ drop (suc i) ws) = bytes-drop ws i ∙ ap bytesOf (drop-cons ws i 0 k) in
+    let j : 4 * (i + 1) ≡ 4 * i + 4 = omega arith in
+    g ∙ rw (e, f, j) (rw n at (paste-more d at (bytesOf ws) (4 * i) 4 (omega arith) (omega (arith, length-bytes ws))))
 
-pub put-end : (d : List ℕ) (to : ℕ) (ws : List ℕ) (i : ℕ) → length ws ≤ i → putWords d to (drop i ws) ≡ d
-put-end d to ws i h = rw (drop-of-length-le ws h)
+-- four numbers, then words behind them
+pub put-both : (a b c e : ℕ) (ws d : List ℕ) {d₁ d₂ : List ℕ} → 16 + 4 * length ws ≤ length d → d₁ ≡ paste d 0 (bytesOf (a ∷ b ∷ c ∷ e ∷ [])) 16
+    → d₂ ≡ paste d₁ 16 (bytesOf ws) (4 * length ws) → d₂ ≡ bytesOf (a ∷ b ∷ c ∷ e ∷ ws) ++ drop (16 + 4 * length ws) d
+unfolding bytesOf
+put-both a b c e ws d h f g =
+    let s : List ℕ = bytesOf (a ∷ b ∷ c ∷ e ∷ ws) in
+    let l : length s ≤ 16 + 4 * length ws = omega (arith, length-bytes ws) in
+    let z : 0 + (16 + 4 * length ws) ≡ 16 + 4 * length ws = omega arith in
+    g ∙ rw f (paste-more d 0 s 16 (4 * length ws) (omega arith) (omega (arith, length-bytes ws)) ∙ rw (take-all (16 + 4 * length ws) s l, z))
 
 -- ## Reading
 
@@ -80,5 +77,5 @@ unfolding wordsOf
 read-more b ws₀ ws i x h e f =
     let c : drop i ws₀ ≡ getD ws₀ i 0 ∷ drop (suc i) ws₀ = drop-cons ws₀ i 0 h in
     rw (add-one i, e, c, f)
-    (lib.Seq.set-at (wordsOf b i) (getD ws₀ i 0) (drop (suc i) ws₀) (wordAt b i) i (length-words b i)
+    (set-at (wordsOf b i) (getD ws₀ i 0) (drop (suc i) ws₀) (wordAt b i) i (length-words b i)
     ∙ sym (append-assoc (wordsOf b i) (wordAt b i ∷ []) (drop (suc i) ws₀)))

@@ -1,10 +1,10 @@
 // Words on the wire: little-endian bytes.
 ghost use mathlib.Core.Path.{_≡_};
-ghost use mathlib.Core.List.{_++_};
+ghost use mathlib.Core.List.{[], _∷_, _++_};
 ghost use Prim.Native.Nat.{_+_, _*_, _%_, _≤_, _<_};
-ghost use lib.ListN.{length, take, drop};
+ghost use lib.ListN.{length, drop};
+ghost use lib.Seq.{paste};
 ghost use Rattle.definition.specs.Host.{wordAt, wordsOf, bytesOf};
-ghost use Rattle.wire.specs.Bytes.{putWord};
 
 fn wide(x: u8) -> u32
     ensures { λ r. ⌜ (r ≡ x) × (r < 256) ⌝ }
@@ -41,9 +41,9 @@ pub fn read_words(b: &[u8], ws: &mut [u32], n: usize)
 }
 
 // The word x at a place.
-pub fn put_word(dst: &mut [u8], at: usize, x: u32)
+fn put_word(dst: &mut [u8], at: usize, x: u32)
     requires { ⌜ at + 4 ≤ length (now dst) ⌝ }
-    ensures { λ _. ⌜ now (dst .exit) ≡ putWord (now (dst .entry)) at x ⌝ }
+    ensures { λ _. ⌜ now (dst .exit) ≡ paste (now (dst .entry)) at (bytesOf (x ∷ [])) 4 ⌝ }
 {
     dst[at] = low(x);
     dst[at + 1] = low(x / 256);
@@ -52,9 +52,9 @@ pub fn put_word(dst: &mut [u8], at: usize, x: u32)
 }
 
 // The words ws from a place on.
-pub fn put_words(dst: &mut [u8], at: usize, ws: &[u32])
+fn put_words(dst: &mut [u8], at: usize, ws: &[u32])
     requires { ⌜ at + 4 * length (now ws) ≤ length (now dst) ⌝ }
-    ensures { λ _. ⌜ now (dst .exit) ≡ take at (now (dst .entry)) ++ (bytesOf (now (ws .entry)) ++ drop (at + 4 * length (now (ws .entry))) (now (dst .entry))) ⌝ }
+    ensures { λ _. ⌜ now (dst .exit) ≡ paste (now (dst .entry)) at (bytesOf (now (ws .entry))) (4 * length (now (ws .entry))) ⌝ }
 {
     let mut i = 0;
     let mut to = at;
@@ -63,4 +63,14 @@ pub fn put_words(dst: &mut [u8], at: usize, ws: &[u32])
         i += 1;
         to += 4;
     }
+}
+
+// A reply: its four numbers, then the words of its report.
+pub fn put_reply(reply: &mut [u8], code: u32, at: u32, len: u32, units: u32, report: &[u32])
+    requires { ⌜ 16 + 4 * length (now report) ≤ length (now reply) ⌝ }
+    ensures { λ _. ⌜ now (reply .exit) ≡ bytesOf (code ∷ at ∷ len ∷ units ∷ now (report .entry)) ++ drop (16 + 4 * length (now (report .entry))) (now (reply .entry)) ⌝ }
+{
+    let four = [code, at, len, units];
+    put_words(reply, 0, &four);
+    put_words(reply, 16, report);
 }

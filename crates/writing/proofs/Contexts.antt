@@ -5,8 +5,8 @@ use mathlib.Core.List.{List, [], _∷_}
 use Prim.Native.Nat.{ℕ, _+_, _-_, _*_, _≤_, _<_}
 use native.Mathlib.Omega.{arith}
 use lib.ListN.{length, getD}
-use Rattle.definition.specs.Syntax.{tyWords, Entry, varBnd, tvarBnd, etvarBnd, setvarBnd, mark, entryWords, Ctx, ctxWords}
-use Rattle.definition.specs.Contexts.{keyOf, kindOf, nameOf, held}
+use Rattle.definition.specs.Syntax.{tyWords, Binding, varBnd, tvarBnd, etvarBnd, setvarBnd, mark, bindingWords, entryWords, Ctx, ctxWords}
+use Rattle.definition.specs.Contexts.{bindingKey, keyOf, kindOf, nameOf, bindingType, held}
 use Rattle.layout.specs.Denotes.{Den, CtxAt, nil, cons, Run}
 use Rattle.writing.specs.Spelling.{Just, _Then_}
 use Rattle.writing.specs.Types.{OfPart}
@@ -15,9 +15,9 @@ use Rattle.writing.proofs.Spelling.{join, if-filled, if-unused}
 
 -- ## An entry: its kind, its name, and its type if it holds one
 
-typed : {q w : List ℕ} {t r : ℕ} (e : Entry) → Den q w t r (held e)
-    → (Just (kindOf (keyOf e) ∷ nameOf (keyOf e) ∷ []) Then OfPart q w t (holdsType (kindOf (keyOf e))) r) (entryWords e)
-unfolding entryWords keyOf kindOf nameOf held
+typed : {q w : List ℕ} {t r : ℕ} (b : Binding) → Den q w t r (bindingType b)
+    → (Just (kindOf (bindingKey b) ∷ nameOf (bindingKey b) ∷ []) Then OfPart q w t (holdsType (kindOf (bindingKey b))) r) (bindingWords b)
+unfolding bindingWords bindingKey kindOf nameOf bindingType
 typed (varBnd x A) d = join (32 ∷ x .number ∷ []) (tyWords A) (record { is = refl }) (if-filled (tyWords A) (record { it = A; stands = d; is = refl }))
 typed (tvarBnd a) d = join (33 ∷ a .number ∷ []) [] (record { is = refl }) if-unused
 typed (etvarBnd a) d = join (34 ∷ a .number ∷ []) [] (record { is = refl }) if-unused
@@ -26,12 +26,13 @@ typed (mark a) d = join (36 ∷ a .number ∷ []) [] (record { is = refl }) if-u
 
 pub entry-parts : {q w : List ℕ} {t at k n r : ℕ} {b : Bool} → k ≡ getD w at 0 → n ≡ getD w (at + 1) 0 → r ≡ getD w (at + 2) 0 → b ≡ holdsType k
     → (ws : List ℕ) → OfEntry q w t at ws → (Just (k ∷ n ∷ []) Then OfPart q w t b r) ws
+unfolding entryWords keyOf held
 entry-parts {k = k} {n = n} {r = r} {b = b} ek en er eb ws x =
     let y = x .stands in
     let k-is = ek ∙ y .kind in
     let n-is = en ∙ y .name in
     let r-is = er ∙ y .ref-is in
-    rw (x .is, eb, k-is, n-is, r-is) (typed (x .it) (y .den))
+    rw (x .is, eb, k-is, n-is, r-is) (typed (x .it .binding) (y .den))
 
 -- ## A context
 

@@ -20,4 +20,4 @@ pub finish-spec : {M : Type 1} → statement M
 finish-spec =
     tie.close (tie.spec (λ c. search needs) (λ c. search answer-left) (λ c κs. search answer-spelled) (λ c κs. search (answer-small, needs))
     (λ c. search needs) (λ c. search error-left) (λ c κs. search error-words) (λ c κs. search (error-code, error-length, needs)) (λ c. search needs)
-    (λ c. search needs) (λ c. search needs) returns (λ c. search needs) returns-2 (λ c. search spent-gives))
+    (λ c κs. search needs) (λ c. search needs) returns (λ c. search needs) returns-2 (λ c. search spent-gives))

@@ -43,36 +43,21 @@ infer-requires-2 c κs =
 
 resolve-requires : tie.Need-resolve-requires
 resolve-requires c κs =
-    let at-infer2 = c .before .before .before in let at-match = at-infer2 .before .before in let at-mode-of = at-match .before in
-    let at-start = at-mode-of .before .before .before in
-    resolve-pre (at-start .pre) 7 (kind-seven (at-start .pre) (at-match .match .rest)) (asks-7 (at-start .pre .run)) (at-mode-of .mode-of .ensures)
+    let at-infer2 = c .before .before .before in let at-match = at-infer2 .before .before in let at-outside = at-match .before in
+    let at-start = at-outside .before .before .before in
+    resolve-pre (at-start .pre) 7 (kind-seven (at-start .pre) (at-match .match .rest)) (asks-7 (at-start .pre .run)) (at-outside .outside .ensures)
     (at-infer2 .infer2 .ensures)
-
-returns-4 : tie.Need-returns-4
-returns-4 c =
-    let at-subtype = c .before .before in let at-mode-of = at-subtype .before .before .before in
-    kind-answers (search) 4 (search) (search asks-4) (search) (at-subtype .subtype .ensures .in-mode (at-mode-of .mode-of .result)) refl
-
-returns-5 : tie.Need-returns-5
-returns-5 c =
-    let at-inst-l = c .before .before in let at-mode-of = at-inst-l .before .before .before in
-    kind-answers (search) 5 (search) (search asks-5) (search) (at-inst-l .inst-l .ensures .in-mode (at-mode-of .mode-of .result)) refl
-
-returns-6 : tie.Need-returns-6
-returns-6 c =
-    let at-inst-r = c .before .before in let at-mode-of = at-inst-r .before .before .before in
-    kind-answers (search) 6 (search) (search asks-6) (search) (at-inst-r .inst-r .ensures .in-mode (at-mode-of .mode-of .result)) refl
 
 returns-7 : tie.Need-returns-7
 returns-7 c =
     let at-resolve = c .before .before in let at-infer2 = at-resolve .before .before .before .before in let at-match = at-infer2 .before .before in
-    let at-mode-of = at-match .before in let at-start = at-mode-of .before .before .before in
-    kind7-answers (at-start .pre) 7 (kind-seven (at-start .pre) (at-match .match .rest)) (asks-7 (at-start .pre .run)) (at-mode-of .mode-of .ensures)
+    let at-outside = at-match .before in let at-start = at-outside .before .before .before in
+    kind7-answers (at-start .pre) 7 (kind-seven (at-start .pre) (at-match .match .rest)) (asks-7 (at-start .pre .run)) (at-outside .outside .ensures)
     (at-infer2 .infer2 .ensures) refl (sym (at-resolve .resolve .kept .1 .0)) (at-resolve .resolve .ensures)
 
 pub judge-spec : {M : Type 1} → statement M
 judge-spec =
     tie.close (tie.spec (λ c κs. search needs) infer-requires check-requires infer-app-requires subtype-requires inst-l-requires inst-r-requires
     infer-requires-2 resolve-requires (λ c. search needs) (λ c. search (kind-answers, asks-1)) (λ c. search needs)
-    (λ c. search (kind-answers, asks-2)) (λ c. search needs) (λ c. search (kind-answers, asks-3)) (λ c. search needs) returns-4 (λ c. search needs)
-    returns-5 (λ c. search needs) returns-6 (λ c. search needs) returns-7)
+    (λ c. search (kind-answers, asks-2)) (λ c. search needs) (λ c. search (kind-answers, asks-3)) (λ c. search needs) (λ c. search (kind-answers, asks-4)) (λ c. search needs)
+    (λ c. search (kind-answers, asks-5)) (λ c. search needs) (λ c. search (kind-answers, asks-6)) (λ c. search needs) returns-7)

@@ -6,5 +6,5 @@ use Rattle.entry.proofs.run.Tie as tie
 
 pub run-spec : {M : Type 1} → statement M
 run-spec =
-    tie.close (tie.spec (λ c. search needs) (λ c. search unpaid) (λ c κs. search needs) (λ c κs. search needs) (λ c κs. search finish-pre)
+    tie.close (tie.spec (λ c κs. search needs) (λ c. search unpaid) (λ c κs. search needs) (λ c κs. search needs) (λ c κs. search finish-pre)
     (λ c. search needs) (λ c. search needs) (λ c. search runs))

@@ -1,5 +1,5 @@
 -- `meet` meets its contract.
-use Rattle.steps.specs.Sides.{side}
+use Rattle.rules.specs.Sides.{side}
 use Rattle.instantiation.proofs.Solving.{side-unknown, side-run, etvar-named, meet-reach, meet-solve}
 use borrow.Author.Needs.{needs}
 use Rattle.instantiation.proofs.meet.Statement.{statement}

@@ -1,6 +1,6 @@
 -- `reach` meets its contract.
 use native.Mathlib.Omega.{arith}
-use Rattle.steps.specs.Sides.{side}
+use Rattle.rules.specs.Sides.{side}
 use Rattle.instantiation.proofs.Sides.{first-is, in-row}
 use Rattle.instantiation.proofs.Solving.{etvar-named, space-unknown, reach-done}
 use borrow.Author.Needs.{needs}

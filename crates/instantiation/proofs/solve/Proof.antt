@@ -1,5 +1,5 @@
 -- `solve` meets its contract.
-use Rattle.steps.specs.Sides.{side}
+use Rattle.rules.specs.Sides.{side}
 use Rattle.instantiation.proofs.Sides.{first-is}
 use Rattle.instantiation.proofs.Solving.{side-unknown, side-held, space-type, solve-occurs, solve-done}
 use borrow.Author.Needs.{needs}

@@ -1,11 +1,11 @@
 -- `enter` meets its contract.
-use Rattle.judging.specs.Leaving.{entered, unpaid}
+use Rattle.judging.proofs.Paying.{enter-spent, enter-lower, enter-in}
 use borrow.Author.Needs.{needs}
+use native.Mathlib.Omega.{arith}
 use Rattle.judging.proofs.enter.Statement.{statement}
 use Rattle.judging.proofs.enter.Tie as tie
 
-sub-node : tie.Need-sub-node
-sub-node c = c .before .pre .node (c .if1 .left)
-
 pub enter-spec : {M : Type 1} → statement M
-enter-spec = tie.close (tie.spec (λ c. search unpaid) (λ c. search needs) (λ c. search needs) sub-node (λ c. search entered))
+enter-spec =
+    tie.close (tie.spec (λ c. search needs) (λ c κs. search needs) (λ c. search needs) (λ c. search needs) (λ c. search enter-spent)
+    (λ c κs. search enter-lower) (λ c. search enter-in))

@@ -1,18 +1,16 @@
 -- `leave` meets its contract.
-use Rattle.judging.specs.Leaving.{unpaid-out, wrote}
-use Rattle.judging.proofs.Nodes.{node-keep, node-words}
+use Rattle.judging.proofs.Paying.{leave-conclude, leave-fail, leave-spent}
 use borrow.Author.Needs.{needs}
 use Rattle.judging.proofs.leave.Statement.{statement}
 use Rattle.judging.proofs.leave.Tie as tie
 
-returns-2 : tie.Need-returns-2
-returns-2 c =
-    let at-put43 = c .before .before in let at-put42 = at-put43 .before .before .before .before in
-    let at-put4 = at-put42 .before .before .before .before in let at-if1 = at-put4 .before .before in
-    wrote (at-if1 .if1 .left) (node-keep (at-put4 .put4 .ensures) (at-put42 .put42 .ensures) (at-put43 .put43 .ensures))
-    (node-words (at-put4 .put4 .ensures) (at-put42 .put42 .ensures) (at-put43 .put43 .ensures))
+conclude-requires : tie.Need-conclude-requires
+conclude-requires c κs = c .before .before .before .before .before .pre .answers (c .before .before .z .given .1)
+
+charged-since-requires : tie.Need-charged-since-requires
+charged-since-requires c κs = c .before .before .before .before .before .pre .fails (c .before .before .z2 .given .1)
 
 pub leave-spec : {M : Type 1} → statement M
 leave-spec =
-    tie.close (tie.spec (λ c. search unpaid-out) (λ c κs. search needs) (λ c. search needs) (λ c κs. search needs) (λ c. search needs)
-    (λ c κs. search needs) (λ c. search needs) returns-2)
+    tie.close (tie.spec (λ c. search needs) conclude-requires (λ c. search needs) charged-since-requires (λ c. search needs) (λ c. search needs)
+    (λ c. search leave-conclude) (λ c. search leave-fail) (λ c. search leave-spent))

@@ -37,13 +37,13 @@ load-from-claims t = (
 )
 
 load-from-word-requires : (t : ℕ) → load-from-lts.Need-word-requires (load-from-claims t) (load-from-at t) load-from.Post
-load-from-word-requires t c κs = begins (search) (c .before .before .before .pre .1 .list) .entry .kind .within
+load-from-word-requires t c κs = begins (search) (c .before .before .before .pre .1 .list) .entry .binds .kind .within
 
 load-from-add-word : (t : ℕ) → load-from-lts.Need-add-word (load-from-claims t) (load-from-at t) load-from.Post
-load-from-add-word t c = omega (arith, begins (c .before .if1 .left) (c .before .before .before .before .pre .1 .list) .entry .kind .inside)
+load-from-add-word t c = omega (arith, begins (c .before .if1 .left) (c .before .before .before .before .pre .1 .list) .entry .binds .kind .inside)
 
 load-from-word-requires-2 : (t : ℕ) → load-from-lts.Need-word-requires-2 (load-from-claims t) (load-from-at t) load-from.Post
-load-from-word-requires-2 t c κs = begins (search) (c .before .before .before .before .pre .1 .list) .entry .name .within
+load-from-word-requires-2 t c κs = begins (search) (c .before .before .before .before .pre .1 .list) .entry .binds .name .within
 
 load-from-rest-of-requires : (t : ℕ) → load-from-lts.Need-rest-of-requires (load-from-claims t) (load-from-at t) load-from.Post
 load-from-rest-of-requires t c κs =

@@ -2,7 +2,7 @@
 use mathlib.Core.Path.{refl}
 use borrow.Author.Needs.{needs}
 use Rattle.reading.proofs.Items.{onward, word-on}
-use Rattle.reading.proofs.Contexts.{entryRows, entry-end, entry-none, entry-var, entry-tvar, entry-etvar, entry-setvar, entry-mark}
+use Rattle.reading.proofs.Contexts.{bindingRows, binding-end, binding-none, binding-var, binding-tvar, binding-etvar, binding-setvar, binding-mark, entry-read}
 use Rattle.reading.proofs.read_entry.Statement.{statement}
 use Rattle.reading.proofs.read_entry.Tie as tie
 
@@ -17,11 +17,11 @@ then-type-requires-2 c κs =
     onward (refl, at-start .pre) (at-if1 .if1 .left) (λ n. word-on n _) (c .read-name4 .ensures) .1
 
 returns-7 : tie.Need-returns-7
-unfolding entryRows
-returns-7 c = search entry-none
+unfolding bindingRows
+returns-7 c = search (entry-read, binding-none)
 
 pub read-entry-spec : {M : Type 1} → statement M
 read-entry-spec =
-    tie.close (tie.spec (λ c. search entry-end) (λ c. search needs) (λ c. search needs) (λ c. search needs) (λ c κs. search needs) then-type-requires
-    (λ c κs. search needs) (λ c κs. search needs) (λ c κs. search needs) then-type-requires-2 (λ c κs. search needs) (λ c. search entry-var)
-    (λ c. search entry-tvar) (λ c. search entry-etvar) (λ c. search entry-setvar) (λ c. search entry-mark) returns-7)
+    tie.close (tie.spec (λ c. search (entry-read, binding-end)) (λ c. search needs) (λ c. search needs) (λ c. search needs) (λ c κs. search needs) then-type-requires
+    (λ c κs. search needs) (λ c κs. search needs) (λ c κs. search needs) then-type-requires-2 (λ c κs. search needs) (λ c. search (entry-read, binding-var))
+    (λ c. search (entry-read, binding-tvar)) (λ c. search (entry-read, binding-etvar)) (λ c. search (entry-read, binding-setvar)) (λ c. search (entry-read, binding-mark)) returns-7)

@@ -11,13 +11,13 @@ app-etvar-check-requires : (t : ℕ) → app-etvar-lts.Need-check-requires (app-
 app-etvar-check-requires t c κs =
     let at-part = c .before .before .before .before .before in let at-name-of = at-part .before .before in
     let at-start = at-name-of .before .before .before .before in
-    may-ask (etvar-asks (at-start .args .m) (at-start .pre .1) (at-name-of .name-of .ensures) (at-part .part .ensures)) (at-start .pre .0)
+    may-ask (etvar-asks (at-start .args .h) (at-start .pre .1) (at-name-of .name-of .ensures) (at-part .part .ensures)) (at-start .pre .0)
 
 app-etvar-returns : (t : ℕ) → app-etvar-lts.Need-returns (app-etvar-claims t) (app-etvar-at t) app-etvar.Post
 app-etvar-returns t c =
     let at-check = c .before .before .before in let at-part = at-check .before .before .before .before .before .before in
     let at-name-of = at-part .before .before in let at-start = at-name-of .before .before .before .before in
-    unless (etvar-asks (at-start .args .m) (at-start .pre .1) (at-name-of .name-of .ensures) (at-part .part .ensures)) (at-check .check .ensures)
+    unless (etvar-asks (at-start .args .h) (at-start .pre .1) (at-name-of .name-of .ensures) (at-part .part .ensures)) (at-check .check .ensures)
     (c .match .keys2)
 
 app-etvar-returns-2 : (t : ℕ) → app-etvar-lts.Need-returns-2 (app-etvar-claims t) (app-etvar-at t) app-etvar.Post
@@ -25,7 +25,7 @@ app-etvar-returns-2 t c =
     let at-z = c .before .before .before .before in let at-check = at-z .before .before .before .before in
     let at-part = at-check .before .before .before .before .before .before in let at-name-of = at-part .before .before in
     let at-start = at-name-of .before .before .before .before in
-    etvar-done (at-start .args .m) (at-start .pre .1) (at-name-of .name-of .ensures) (at-part .part .ensures) (at-check .check .ensures)
+    etvar-done (at-start .args .h) (at-start .pre .1) (at-name-of .name-of .ensures) (at-part .part .ensures) (at-check .check .ensures)
     (at-z .z .given .1) (c .plain-out .ensures)
 
 pub app-etvar-closed : {M : Type 1} (t : ℕ) → app-etvar-lts.Closed (app-etvar-claims t) (app-etvar-at t) app-etvar.Post M

@@ -6,11 +6,8 @@ use Rattle.inference.proofs.app_rule.Reads as app-rule
 use Rattle.inference.proofs.+app_arr+app_etvar+app_rule+check+chk_all+chk_lam+chk_rule+chk_sub+inf_rule+infer+infer_abs+infer_ann+infer_app+infer_application+infer_binop+infer_if+infer_let+infer_tabs+infer_tapp.Lts-app_rule as app-rule-lts
 use Rattle.inference.proofs.+app_arr+app_etvar+app_rule+check+chk_all+chk_lam+chk_rule+chk_sub+inf_rule+infer+infer_abs+infer_ann+infer_app+infer_application+infer_binop+infer_if+infer_let+infer_tabs+infer_tapp.Proof.Base.{app-rule-at, app-rule-claims}
 
-app-rule-returns-3 : (t : ℕ) → app-rule-lts.Need-returns-3 (app-rule-claims t) (app-rule-at t) app-rule.Post
-app-rule-returns-3 t c = c .refuse-app .ensures .in-mode (c .before .before .before .before .before .before .before .args .m)
-
 pub app-rule-closed : {M : Type 1} (t : ℕ) → app-rule-lts.Closed (app-rule-claims t) (app-rule-at t) app-rule.Post M
 app-rule-closed t =
     app-rule-lts.spec (app-rule-claims t) (app-rule-at t) app-rule.Post (λ c κs. search app-held) (λ c κs. search (app-arm, needs))
     (λ c κs. search (app-arm, needs)) (λ c κs. search app-refuse) (λ c. search needs) (λ c. search needs) (λ c. search needs) (λ c. search needs)
-    (λ c. search needs) (app-rule-returns-3 t)
+    (λ c. search needs) (λ c. search needs)

@@ -64,6 +64,7 @@ use Rattle.contexts.proofs.push.Reads as push-reads
 use Rattle.inference.proofs.operator.Reads as operator-reads
 use Rattle.inference.proofs.subtype_applied.Reads as subtype-applied-reads
 use Rattle.judging.proofs.enter.Reads as enter-reads
+use Rattle.judging.proofs.entry.Reads as entry-reads
 use Rattle.judging.proofs.leave.Reads as leave-reads
 use Rattle.layout.proofs.word.Reads as word-reads
 use Rattle.rules.proofs.check_choice.Reads as check-choice-reads
@@ -78,8 +79,8 @@ use Rattle.rules.proofs.parameter.Reads as parameter-reads
 use Rattle.rules.proofs.plain_out.Reads as plain-out-reads
 use Rattle.rules.proofs.refuse_app.Reads as refuse-app-reads
 use Rattle.rules.proofs.tabs_out.Reads as tabs-out-reads
-use Rattle.steps.proofs.open_right.Reads as open-right-reads
-use Rattle.steps.proofs.part.Reads as part-reads
+use Rattle.rules.proofs.open_right.Reads as open-right-reads
+use Rattle.rules.proofs.part.Reads as part-reads
 use Rattle.substitution.proofs.apply_ctx_type.Reads as apply-ctx-type-reads
 use Rattle.types.proofs.left_of.Reads as left-of-reads
 use Rattle.types.proofs.name_of.Reads as name-of-reads
@@ -353,6 +354,8 @@ chk-lam-claims t = (
   right-of-reads.Learnt,
   parameter-reads.Asked,
   parameter-reads.Learnt,
+  entry-reads.Asked,
+  entry-reads.Learnt,
   push-reads.Asked,
   push-reads.Learnt,
   check-below t,
@@ -479,6 +482,8 @@ infer-let-claims t = (
   word-reads.Learnt,
   infer-below t,
   infer.Post,
+  entry-reads.Asked,
+  entry-reads.Learnt,
   push-reads.Asked,
   push-reads.Learnt,
   keep-out-reads.Asked,
@@ -515,6 +520,8 @@ inf-rule-claims t = (
 
 abbrev pub infer-tabs-claims : ℕ → infer-tabs-lts.Claims
 infer-tabs-claims t = (
+  entry-reads.Asked,
+  entry-reads.Learnt,
   push-reads.Asked,
   push-reads.Learnt,
   infer-below t,

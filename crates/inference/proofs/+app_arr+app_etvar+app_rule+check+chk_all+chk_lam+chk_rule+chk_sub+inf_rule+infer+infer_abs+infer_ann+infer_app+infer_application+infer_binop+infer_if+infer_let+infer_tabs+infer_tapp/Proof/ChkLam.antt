@@ -1,5 +1,6 @@
 -- `chk_lam`: ChkLam.
 use borrow.Author.Needs.{needs}
+use Rattle.judging.proofs.Chain.{as-long}
 use Prim.Native.Nat.{ℕ}
 use Rattle.inference.proofs.Checking.{lam-name, lam-table, lam-held, lam-two, lam-end, lam-space, lam-done, lam-asks}
 use Rattle.inference.proofs.Premise.{may-ask, unless, space-back}
@@ -13,62 +14,65 @@ chk-lam-parameter-requires t c κs = lam-two (search) (search) (search) (c .befo
 
 chk-lam-push-requires : (t : ℕ) → chk-lam-lts.Need-push-requires (chk-lam-claims t) (chk-lam-at t) chk-lam.Post
 chk-lam-push-requires t c κs =
-    let at-mid = c .before .before in let at-parameter = at-mid .before .before .before .before in let at-right-of = at-parameter .before .before in
-    let at-left-of = at-right-of .before .before in let at-start = at-left-of .before .before .before .before .before .before .before in
-    lam-space (at-start .args .m) (at-start .pre .1) (at-left-of .left-of .ensures) (at-right-of .right-of .ensures)
-    (at-parameter .parameter .ensures) (at-mid .mid .given .1)
+    let at-entry = c .before in let at-mid = at-entry .before .before in let at-parameter = at-mid .before .before .before .before in
+    let at-right-of = at-parameter .before .before in let at-left-of = at-right-of .before .before in
+    let at-start = at-left-of .before .before .before .before .before .before .before in
+    lam-space (at-start .args .h) (at-start .pre .1) (at-left-of .left-of .ensures) (at-right-of .right-of .ensures)
+    (at-parameter .parameter .ensures) (at-mid .mid .given .1) (at-entry .entry .ensures)
 
 chk-lam-check-requires : (t : ℕ) → chk-lam-lts.Need-check-requires (chk-lam-claims t) (chk-lam-at t) chk-lam.Post
 chk-lam-check-requires t c κs =
-    let at-push = c .before .before .before .before .before in let at-mid = at-push .before .before .before in
+    let at-push = c .before .before .before .before .before in let at-entry = at-push .before .before in let at-mid = at-entry .before .before in
     let at-parameter = at-mid .before .before .before .before in let at-right-of = at-parameter .before .before in
     let at-left-of = at-right-of .before .before in let at-word = at-left-of .before .before in
     let at-start = at-word .before .before .before .before .before in
-    may-ask (lam-asks (at-start .args .m) (at-start .pre .1) (at-left-of .left-of .ensures) (at-right-of .right-of .ensures)
-    (at-parameter .parameter .ensures) (at-mid .mid .given .1) refl (at-word .word .ensures .0) (at-push .push .ensures)) (at-start .pre .0)
+    may-ask (lam-asks (at-start .args .h) (at-start .pre .1) (at-left-of .left-of .ensures) (at-right-of .right-of .ensures)
+    (at-parameter .parameter .ensures) (at-mid .mid .given .1) refl (at-word .word .ensures .0) (at-entry .entry .ensures) (at-push .push .ensures))
+    (at-start .pre .0)
 
 chk-lam-returns : (t : ℕ) → chk-lam-lts.Need-returns (chk-lam-claims t) (chk-lam-at t) chk-lam.Post
 chk-lam-returns t c =
     let at-check = c .before .before .before in let at-push = at-check .before .before .before .before .before .before in
-    let at-mid = at-push .before .before .before in let at-parameter = at-mid .before .before .before .before in
+    let at-entry = at-push .before .before in let at-mid = at-entry .before .before in let at-parameter = at-mid .before .before .before .before in
     let at-right-of = at-parameter .before .before in let at-left-of = at-right-of .before .before in let at-word = at-left-of .before .before in
     let at-start = at-word .before .before .before .before .before in
-    unless (lam-asks (at-start .args .m) (at-start .pre .1) (at-left-of .left-of .ensures) (at-right-of .right-of .ensures)
-    (at-parameter .parameter .ensures) (at-mid .mid .given .1) refl (at-word .word .ensures .0) (at-push .push .ensures)) (at-check .check .ensures)
+    unless (lam-asks (at-start .args .h) (at-start .pre .1) (at-left-of .left-of .ensures) (at-right-of .right-of .ensures)
+    (at-parameter .parameter .ensures) (at-mid .mid .given .1) refl (at-word .word .ensures .0) (at-entry .entry .ensures) (at-push .push .ensures))
+    (at-check .check .ensures)
     (c .match2 .keys2)
 
 chk-lam-keep-out-requires : (t : ℕ) → chk-lam-lts.Need-keep-out-requires (chk-lam-claims t) (chk-lam-at t) chk-lam.Post
 chk-lam-keep-out-requires t c κs =
     let at-z = c .before .before in let at-check = at-z .before .before .before .before in
-    let at-push = at-check .before .before .before .before .before .before in let at-mid = at-push .before .before .before in
-    let at-parameter = at-mid .before .before .before .before in let at-right-of = at-parameter .before .before in
-    let at-left-of = at-right-of .before .before in let at-word = at-left-of .before .before in
+    let at-push = at-check .before .before .before .before .before .before in let at-entry = at-push .before .before in
+    let at-mid = at-entry .before .before in let at-parameter = at-mid .before .before .before .before in
+    let at-right-of = at-parameter .before .before in let at-left-of = at-right-of .before .before in let at-word = at-left-of .before .before in
     let at-start = at-word .before .before .before .before .before in
-    space-back (lam-asks (at-start .args .m) (at-start .pre .1) (at-left-of .left-of .ensures) (at-right-of .right-of .ensures)
-    (at-parameter .parameter .ensures) (at-mid .mid .given .1) refl (at-word .word .ensures .0) (at-push .push .ensures)) (at-check .check .ensures)
+    space-back (lam-asks (at-start .args .h) (at-start .pre .1) (at-left-of .left-of .ensures) (at-right-of .right-of .ensures)
+    (at-parameter .parameter .ensures) (at-mid .mid .given .1) refl (at-word .word .ensures .0) (at-entry .entry .ensures) (at-push .push .ensures))
+    (at-check .check .ensures)
     (at-z .z .given .1)
-
-chk-lam-same-length-2 : (t : ℕ) → chk-lam-lts.Need-same-length-2 (chk-lam-claims t) (chk-lam-at t) chk-lam.Post
-chk-lam-same-length-2 t c =
-    let at-keep-out = c .before .before in let at-check = at-keep-out .before .before .before .before .before .before .before in
-    let at-push = at-check .before .before .before .before .before .before in
-    let at-parameter = at-push .before .before .before .before .before .before .before in
-    at-keep-out .keep-out .kept .0 ∙ at-check .check .kept .1 .0 ∙ at-push .push .kept .0 ∙ at-parameter .parameter .kept .1 .0
 
 chk-lam-returns-2 : (t : ℕ) → chk-lam-lts.Need-returns-2 (chk-lam-claims t) (chk-lam-at t) chk-lam.Post
 chk-lam-returns-2 t c =
     let at-keep-out = c .before .before in let at-z = at-keep-out .before .before .before in let at-check = at-z .before .before .before .before in
-    let at-push = at-check .before .before .before .before .before .before in let at-mid = at-push .before .before .before in
-    let at-parameter = at-mid .before .before .before .before in let at-right-of = at-parameter .before .before in
-    let at-left-of = at-right-of .before .before in let at-word = at-left-of .before .before in
+    let at-push = at-check .before .before .before .before .before .before in let at-entry = at-push .before .before in
+    let at-mid = at-entry .before .before in let at-parameter = at-mid .before .before .before .before in
+    let at-right-of = at-parameter .before .before in let at-left-of = at-right-of .before .before in let at-word = at-left-of .before .before in
     let at-start = at-word .before .before .before .before .before in
-    lam-done (at-start .args .m) (at-start .pre .1) (at-left-of .left-of .ensures) (at-right-of .right-of .ensures) (at-parameter .parameter .ensures)
-    (at-mid .mid .given .1) refl (at-word .word .ensures .0) (at-push .push .ensures) (at-check .check .ensures) (at-z .z .given .1)
+    lam-done (at-start .args .h) (at-start .pre .1) (at-left-of .left-of .ensures) (at-right-of .right-of .ensures) (at-parameter .parameter .ensures)
+    (at-mid .mid .given .1) refl (at-word .word .ensures .0) (at-entry .entry .ensures) (at-push .push .ensures) (at-check .check .ensures)
+    (at-z .z .given .1)
     (at-keep-out .keep-out .ensures)
+
+chk-lam-same-length-2 : (t : ℕ) → chk-lam-lts.Need-same-length-2 (chk-lam-claims t) (chk-lam-at t) chk-lam.Post
+chk-lam-same-length-2 t c =
+    let at-start = c .before .before .before .before .before .before .before .before .before .before .before .before .before .before .before .before .before .before .before .before .before .before .before .before .before .before .before .before .before .before .before .before .before .before in
+    as-long (at-start .pre .1 .rule) (chk-lam-returns-2 t c)
 
 pub chk-lam-closed : {M : Type 1} (t : ℕ) → chk-lam-lts.Closed (chk-lam-claims t) (chk-lam-at t) chk-lam.Post M
 chk-lam-closed t =
     chk-lam-lts.spec (chk-lam-claims t) (chk-lam-at t) chk-lam.Post (λ c. search needs) (λ c. search needs) (λ c. search needs) (λ c. search lam-name)
     (λ c. search needs) (λ c κs. search lam-table) (λ c κs. search lam-held) (λ c κs. search lam-held) (chk-lam-parameter-requires t)
-    (λ c. search needs) (chk-lam-push-requires t) (chk-lam-check-requires t) (λ c. search needs) (λ c. search needs) (chk-lam-returns t)
+    (λ c. search needs) (λ c κs. search needs) (chk-lam-push-requires t) (chk-lam-check-requires t) (λ c. search needs) (λ c. search needs) (chk-lam-returns t)
     (chk-lam-keep-out-requires t) (λ c. search needs) (chk-lam-same-length-2 t) (chk-lam-returns-2 t) (λ c. search needs) (λ c. search lam-end)

@@ -19,14 +19,9 @@ chk-rule-chk-sub-requires t c κs =
           (λ w. omega (arith, w .1 .left, at-match .match .rest, choices (at-check-choice .check-choice .ensures))) (at-if1 .if1 .came)),
     )
 
-chk-rule-returns-3 : (t : ℕ) → chk-rule-lts.Need-returns-3 (chk-rule-claims t) (chk-rule-at t) chk-rule.Post
-chk-rule-returns-3 t c =
-    let at-start = c .before .before .before .before .before .before .before .before .before .before .before in
-    c .check-lit .ensures .in-mode (at-start .args .m)
-
 pub chk-rule-closed : {M : Type 1} (t : ℕ) → chk-rule-lts.Closed (chk-rule-claims t) (chk-rule-at t) chk-rule.Post M
 chk-rule-closed t =
     chk-rule-lts.spec (chk-rule-claims t) (chk-rule-at t) chk-rule.Post (λ c κs. search check-within) (λ c κs. search check-held) (λ c κs. tt)
     (λ c κs. search (check-arm, needs)) (λ c κs. search (check-arm, needs)) (λ c κs. search (check-arm, refl)) (chk-rule-chk-sub-requires t)
-    (λ c. search needs) (λ c. search needs) (λ c. search needs) (λ c. search needs) (λ c. search needs) (chk-rule-returns-3 t) (λ c. search needs)
+    (λ c. search needs) (λ c. search needs) (λ c. search needs) (λ c. search needs) (λ c. search needs) (λ c. search needs) (λ c. search needs)
     (λ c. search needs)

@@ -10,7 +10,7 @@ use Rattle.inference.proofs.+app_arr+app_etvar+app_rule+check+chk_all+c
 module _ (t : ℕ) where
   -- what is known as it starts, and past its expression
   abbrev on : chk-sub-lts.Start (chk-sub-claims t) (chk-sub-at t) chk-sub.Post → Sub t
-  on c = record { m = c .args .m; q = _; w = _; s = _; g = _; ex = _; r = _; pre = c .pre .1; falls = c .pre .0 }
+  on c = record { m = c .args .h; q = _; w = _; s = _; g = _; ex = _; r = _; pre = c .pre .1; falls = c .pre .0 }
 
   abbrev inferred : chk-sub-lts.After-z (chk-sub-claims t) (chk-sub-at t) chk-sub.Post → SubInferred t
   inferred c = record { on = on (search); w = _; z = _; u = _; call = c .before .before .before .before .infer .ensures; done = c .z .given .1 }

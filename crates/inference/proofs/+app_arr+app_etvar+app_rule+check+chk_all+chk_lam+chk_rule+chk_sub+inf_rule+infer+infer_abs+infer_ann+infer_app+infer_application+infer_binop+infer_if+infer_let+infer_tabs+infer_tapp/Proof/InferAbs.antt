@@ -13,13 +13,13 @@ infer-abs-check-requires : (t : ℕ) → infer-abs-lts.Need-check-requires (infe
 infer-abs-check-requires t c κs =
     let at-lam-in = c .before .before .before .before .before in let at-word = at-lam-in .before .before in
     let at-start = at-word .before .before .before .before .before in
-    may-ask (abs-asks (at-start .args .m) (at-start .pre .1) refl (at-word .word .ensures .0) (at-lam-in .lam-in .ensures)) (at-start .pre .0)
+    may-ask (abs-asks (at-start .args .h) (at-start .pre .1) refl (at-word .word .ensures .0) (at-lam-in .lam-in .ensures)) (at-start .pre .0)
 
 infer-abs-returns : (t : ℕ) → infer-abs-lts.Need-returns (infer-abs-claims t) (infer-abs-at t) infer-abs.Post
 infer-abs-returns t c =
     let at-check = c .before .before .before in let at-lam-in = at-check .before .before .before .before .before .before in
     let at-word = at-lam-in .before .before in let at-start = at-word .before .before .before .before .before in
-    unless (abs-asks (at-start .args .m) (at-start .pre .1) refl (at-word .word .ensures .0) (at-lam-in .lam-in .ensures)) (at-check .check .ensures)
+    unless (abs-asks (at-start .args .h) (at-start .pre .1) refl (at-word .word .ensures .0) (at-lam-in .lam-in .ensures)) (at-check .check .ensures)
     (c .match .keys2)
 
 infer-abs-keep-out-requires : (t : ℕ) → infer-abs-lts.Need-keep-out-requires (infer-abs-claims t) (infer-abs-at t) infer-abs.Post
@@ -27,7 +27,7 @@ infer-abs-keep-out-requires t c κs =
     let at-z = c .before .before in let at-check = at-z .before .before .before .before in
     let at-lam-in = at-check .before .before .before .before .before .before in let at-word = at-lam-in .before .before in
     let at-start = at-word .before .before .before .before .before in
-    space-back (abs-asks (at-start .args .m) (at-start .pre .1) refl (at-word .word .ensures .0) (at-lam-in .lam-in .ensures))
+    space-back (abs-asks (at-start .args .h) (at-start .pre .1) refl (at-word .word .ensures .0) (at-lam-in .lam-in .ensures))
     (at-check .check .ensures) (at-z .z .given .1)
 
 infer-abs-returns-2 : (t : ℕ) → infer-abs-lts.Need-returns-2 (infer-abs-claims t) (infer-abs-at t) infer-abs.Post
@@ -35,7 +35,7 @@ infer-abs-returns-2 t c =
     let at-keep-out = c .before .before in let at-z = at-keep-out .before .before .before in let at-check = at-z .before .before .before .before in
     let at-lam-in = at-check .before .before .before .before .before .before in let at-word = at-lam-in .before .before in
     let at-start = at-word .before .before .before .before .before in
-    abs-done (at-start .args .m) (at-start .pre .1) refl (at-word .word .ensures .0) (at-lam-in .lam-in .ensures) (at-check .check .ensures)
+    abs-done (at-start .args .h) (at-start .pre .1) refl (at-word .word .ensures .0) (at-lam-in .lam-in .ensures) (at-check .check .ensures)
     (at-z .z .given .1) (at-keep-out .keep-out .ensures)
 
 pub infer-abs-closed : {M : Type 1} (t : ℕ) → infer-abs-lts.Closed (infer-abs-claims t) (infer-abs-at t) infer-abs.Post M

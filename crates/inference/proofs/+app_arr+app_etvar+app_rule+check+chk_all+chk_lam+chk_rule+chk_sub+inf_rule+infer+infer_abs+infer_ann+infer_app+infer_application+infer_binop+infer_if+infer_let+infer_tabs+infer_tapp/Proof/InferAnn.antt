@@ -11,12 +11,12 @@ use Rattle.inference.proofs.+app_arr+app_etvar+app_rule+check+chk_all+c
 infer-ann-check-requires : (t : ℕ) → infer-ann-lts.Need-check-requires (infer-ann-claims t) (infer-ann-at t) infer-ann.Post
 infer-ann-check-requires t c κs =
     let at-word = c .before in let at-start = at-word .before .before .before .before in
-    may-ask (ann-asks (at-start .args .m) (at-start .pre .1) (at-word .word .ensures .0)) (at-start .pre .0)
+    may-ask (ann-asks (at-start .args .h) (at-start .pre .1) (at-word .word .ensures .0)) (at-start .pre .0)
 
 infer-ann-returns : (t : ℕ) → infer-ann-lts.Need-returns (infer-ann-claims t) (infer-ann-at t) infer-ann.Post
 infer-ann-returns t c =
     let at-check = c .before .before .before in let at-word = at-check .before .before in let at-start = at-word .before .before .before .before in
-    unless (ann-asks (at-start .args .m) (at-start .pre .1) (at-word .word .ensures .0)) (at-check .check .ensures) (c .match .keys2)
+    unless (ann-asks (at-start .args .h) (at-start .pre .1) (at-word .word .ensures .0)) (at-check .check .ensures) (c .match .keys2)
 
 pub infer-ann-closed : {M : Type 1} (t : ℕ) → infer-ann-lts.Closed (infer-ann-claims t) (infer-ann-at t) infer-ann.Post M
 infer-ann-closed t =

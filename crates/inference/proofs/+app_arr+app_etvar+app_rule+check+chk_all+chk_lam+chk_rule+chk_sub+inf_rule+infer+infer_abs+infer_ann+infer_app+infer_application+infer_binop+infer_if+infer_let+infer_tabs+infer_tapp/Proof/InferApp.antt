@@ -1,8 +1,8 @@
 -- `infer_app`: entering, its rule, leaving.
 use borrow.Author.Needs.{needs}
 use Prim.Native.Nat.{ℕ}
-use Rattle.judging.proofs.Whole.{whole-spent, whole-rule, whole-less, whole-else, whole-leave, whole-done}
 use Rattle.judging.proofs.Judgements.{may-enter}
+use Rattle.judging.proofs.Whole.{whole-spent, whole-rule, whole-less, whole-leave, whole-left}
 use native.Mathlib.Omega.{arith}
 use Rattle.inference.proofs.infer_app.Reads as infer-app
 use Rattle.inference.proofs.+app_arr+app_etvar+app_rule+check+chk_all+chk_lam+chk_rule+chk_sub+inf_rule+infer+infer_abs+infer_ann+infer_app+infer_application+infer_binop+infer_if+infer_let+infer_tabs+infer_tapp.Lts-infer_app as infer-app-lts
@@ -15,16 +15,7 @@ infer-app-app-rule-requires t c κs =
       whole-rule (at-start .pre .1) (at-enter .enter .ensures) (at-inner .inner .given .1),
     )
 
-infer-app-returns-3 : (t : ℕ) → infer-app-lts.Need-returns-3 (infer-app-claims t) (infer-app-at t) infer-app.Post
-infer-app-returns-3 t c =
-    let at-leave = c .before .before in let at-z = at-leave .before .before .before in let at-app-rule = at-z .before .before .before .before in
-    let at-inner = at-app-rule .before .before .before in let at-enter = at-inner .before .before in
-    let at-start = at-enter .before .before .before in
-    whole-done (at-start .pre .1) (at-enter .enter .ensures) (at-inner .inner .given .1) (at-app-rule .app-rule .ensures) (at-z .z .given .1)
-    (at-leave .leave .ensures)
-
 pub infer-app-closed : {M : Type 1} (t : ℕ) → infer-app-lts.Closed (infer-app-claims t) (infer-app-at t) infer-app.Post M
 infer-app-closed t =
     infer-app-lts.spec (infer-app-claims t) (infer-app-at t) infer-app.Post (λ c κs. search may-enter) (λ c. search needs) (λ c. search needs)
-    (λ c. search whole-spent) (infer-app-app-rule-requires t) (λ c. search needs) (λ c. search needs) (λ c. search whole-else)
-    (λ c κs. search whole-leave) (λ c. search needs) (infer-app-returns-3 t)
+    (λ c. search whole-spent) (infer-app-app-rule-requires t) (λ c κs. search whole-leave) (λ c. search needs) (λ c. search whole-left)

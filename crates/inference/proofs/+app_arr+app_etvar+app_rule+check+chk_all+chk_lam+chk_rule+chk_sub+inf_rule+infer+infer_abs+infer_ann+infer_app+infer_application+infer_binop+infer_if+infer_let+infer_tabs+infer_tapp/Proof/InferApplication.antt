@@ -12,7 +12,7 @@ use Rattle.inference.proofs.+app_arr+app_etvar+app_rule+check+chk_all+c
 module _ (t : ℕ) where
   -- what is known as it starts, with the argument's place, past the function, and where the argument is asked
   abbrev on : infer-application-lts.Start (infer-application-claims t) (infer-application-at t) infer-application.Post → Begun 17 t
-  on c = record { m = c .args .m; q = _; w = _; s = _; g = _; ex = _; pre = c .pre .1; falls = c .pre .0 }
+  on c = record { m = c .args .h; q = _; w = _; s = _; g = _; ex = _; pre = c .pre .1; falls = c .pre .0 }
 
   abbrev placed : infer-application-lts.After-word (infer-application-claims t) (infer-application-at t) infer-application.Post → Placed 17 1 t
   placed c = record { on = on (search); p = _; second = c .word .ensures .0 }

@@ -14,7 +14,7 @@ use Rattle.inference.proofs.+app_arr+app_etvar+app_rule+check+chk_all+c
 module _ (t : ℕ) where
   -- what is known as it starts, with the right side's place, and where the left side is asked
   abbrev on : infer-binop-lts.Start (infer-binop-claims t) (infer-binop-at t) infer-binop.Post → Begun 26 t
-  on c = record { m = c .args .m; q = _; w = _; s = _; g = _; ex = _; pre = c .pre .1; falls = c .pre .0 }
+  on c = record { m = c .args .h; q = _; w = _; s = _; g = _; ex = _; pre = c .pre .1; falls = c .pre .0 }
 
   abbrev placed : infer-binop-lts.After-word2 (infer-binop-claims t) (infer-binop-at t) infer-binop.Post → Placed 26 2 t
   placed c = record { on = on (search); p = _; second = c .word2 .ensures .0 }

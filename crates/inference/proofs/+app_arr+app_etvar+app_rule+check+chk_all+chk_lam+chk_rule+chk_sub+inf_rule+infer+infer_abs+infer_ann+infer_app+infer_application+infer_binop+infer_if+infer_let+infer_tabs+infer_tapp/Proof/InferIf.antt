@@ -13,7 +13,7 @@ module _ (t : ℕ) where
   -- what is known where the condition is asked, the first branch, the second, and past them
   abbrev on : infer-if-lts.After-word2 (infer-if-claims t) (infer-if-at t) infer-if.Post → If t
   on c = let at-start = c .before .before .before .before .before .before in record {
-    m = at-start .args .m;
+    m = at-start .args .h;
     q = _;
     w = _;
     s = _;

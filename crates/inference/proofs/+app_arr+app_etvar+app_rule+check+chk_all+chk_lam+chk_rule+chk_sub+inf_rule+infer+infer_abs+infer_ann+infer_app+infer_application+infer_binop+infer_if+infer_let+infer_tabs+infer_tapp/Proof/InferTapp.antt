@@ -11,19 +11,19 @@ use Rattle.inference.proofs.+app_arr+app_etvar+app_rule+check+chk_all+c
 infer-tapp-infer-requires : (t : ℕ) → infer-tapp-lts.Need-infer-requires (infer-tapp-claims t) (infer-tapp-at t) infer-tapp.Post
 infer-tapp-infer-requires t c κs =
     let at-start = c .before .before .before .before .before in
-    may-ask (tapp-asks (at-start .args .m) (at-start .pre .1)) (at-start .pre .0)
+    may-ask (tapp-asks (at-start .args .h) (at-start .pre .1)) (at-start .pre .0)
 
 infer-tapp-returns : (t : ℕ) → infer-tapp-lts.Need-returns (infer-tapp-claims t) (infer-tapp-at t) infer-tapp.Post
 infer-tapp-returns t c =
     let at-infer = c .before .before .before in let at-start = at-infer .before .before .before .before .before .before in
-    unless (tapp-asks (at-start .args .m) (at-start .pre .1)) (at-infer .infer .ensures) (c .match .keys2)
+    unless (tapp-asks (at-start .args .h) (at-start .pre .1)) (at-infer .infer .ensures) (c .match .keys2)
 
 infer-tapp-returns-2 : (t : ℕ) → infer-tapp-lts.Need-returns-2 (infer-tapp-claims t) (infer-tapp-at t) infer-tapp.Post
 infer-tapp-returns-2 t c =
     let at-mid = c .before .before in let at-instantiate = at-mid .before .before .before .before in
     let at-z = at-instantiate .before .before .before .before .before in let at-infer = at-z .before .before .before .before in
     let at-word = at-infer .before .before in let at-start = at-word .before .before .before .before in
-    tapp-done (at-start .args .m) (at-start .pre .1) (at-infer .infer .ensures) (at-word .word .ensures .0) (at-z .z .given .1)
+    tapp-done (at-start .args .h) (at-start .pre .1) (at-infer .infer .ensures) (at-word .word .ensures .0) (at-z .z .given .1)
     (at-instantiate .instantiate .ensures) (at-mid .mid .given .1) (c .plain-out .ensures)
 
 infer-tapp-returns-3 : (t : ℕ) → infer-tapp-lts.Need-returns-3 (infer-tapp-claims t) (infer-tapp-at t) infer-tapp.Post
@@ -31,7 +31,7 @@ infer-tapp-returns-3 t c =
     let at-mid2 = c .before in let at-instantiate = at-mid2 .before .before .before .before in
     let at-z = at-instantiate .before .before .before .before .before in let at-infer = at-z .before .before .before .before in
     let at-word = at-infer .before .before in let at-start = at-word .before .before .before .before in
-    tapp-end (at-start .args .m) (at-start .pre .1) (at-infer .infer .ensures) (at-word .word .ensures .0) (at-z .z .given .1)
+    tapp-end (at-start .args .h) (at-start .pre .1) (at-infer .infer .ensures) (at-word .word .ensures .0) (at-z .z .given .1)
     (at-instantiate .instantiate .ensures) (at-mid2 .mid2 .given .1)
 
 pub infer-tapp-closed : {M : Type 1} (t : ℕ) → infer-tapp-lts.Closed (infer-tapp-claims t) (infer-tapp-at t) infer-tapp.Post M

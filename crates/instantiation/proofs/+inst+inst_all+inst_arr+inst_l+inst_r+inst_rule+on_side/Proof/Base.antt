@@ -30,11 +30,11 @@ use Rattle.instantiation.proofs.other.Reads as other-reads
 use Rattle.instantiation.proofs.solve.Reads as solve-reads
 use Rattle.judging.proofs.enter.Reads as enter-reads
 use Rattle.judging.proofs.leave.Reads as leave-reads
-use Rattle.steps.proofs.open_on.Reads as open-on-reads
-use Rattle.steps.proofs.part.Reads as part-reads
-use Rattle.steps.proofs.pushed.Reads as pushed-reads
-use Rattle.steps.proofs.right_alone.Reads as right-alone-reads
-use Rattle.steps.proofs.through.Reads as through-reads
+use Rattle.rules.proofs.open_on.Reads as open-on-reads
+use Rattle.rules.proofs.part.Reads as part-reads
+use Rattle.rules.proofs.pushed.Reads as pushed-reads
+use Rattle.rules.proofs.keep_out.Reads as keep-out-reads
+use Rattle.rules.proofs.plain_out.Reads as plain-out-reads
 use Rattle.substitution.proofs.apply_ctx_type.Reads as apply-ctx-type-reads
 use Rattle.types.proofs.left_of.Reads as left-of-reads
 use Rattle.types.proofs.name_of.Reads as name-of-reads
@@ -42,25 +42,25 @@ use Rattle.types.proofs.right_of.Reads as right-of-reads
 use Rattle.types.proofs.tag.Reads as tag-reads
 
 abbrev pub μ-inst : Measures 2 inst-kinds.ps ℕ
-μ-inst κs a = 5 * a .1 .1 .0 .left
+μ-inst κs a = 5 * a .1 .1 .1 .0 .left
 
 abbrev pub μ-inst-all : Measures 2 inst-all-kinds.ps ℕ
-μ-inst-all κs a = 5 * a .1 .1 .0 .left + 3
+μ-inst-all κs a = 5 * a .1 .1 .1 .0 .left + 3
 
 abbrev pub μ-inst-arr : Measures 2 inst-arr-kinds.ps ℕ
-μ-inst-arr κs a = 5 * a .1 .1 .0 .left + 3
+μ-inst-arr κs a = 5 * a .1 .1 .1 .0 .left + 3
 
 abbrev pub μ-inst-l : Measures 2 inst-l-kinds.ps ℕ
-μ-inst-l κs a = 5 * a .1 .1 .0 .left + 1
+μ-inst-l κs a = 5 * a .1 .1 .1 .0 .left + 1
 
 abbrev pub μ-inst-r : Measures 2 inst-r-kinds.ps ℕ
-μ-inst-r κs a = 5 * a .1 .1 .0 .left + 1
+μ-inst-r κs a = 5 * a .1 .1 .1 .0 .left + 1
 
 abbrev pub μ-inst-rule : Measures 2 inst-rule-kinds.ps ℕ
-μ-inst-rule κs a = 5 * a .1 .1 .0 .left + 4
+μ-inst-rule κs a = 5 * a .1 .1 .1 .0 .left + 4
 
 abbrev pub μ-on-side : Measures 2 on-side-kinds.ps ℕ
-μ-on-side κs a = 5 * a .1 .1 .0 .left + 2
+μ-on-side κs a = 5 * a .1 .1 .1 .0 .left + 2
 
 abbrev pub inst-at : ℕ → In 2 inst-kinds.ps
 inst-at t = and 2 inst-kinds.ps (is 2 inst-kinds.ps μ-inst t) inst.Pre
@@ -131,8 +131,8 @@ inst-all-claims t = (
   on-side.Post,
   pushed-reads.Asked,
   pushed-reads.Learnt,
-  right-alone-reads.Asked,
-  right-alone-reads.Learnt,
+  keep-out-reads.Asked,
+  keep-out-reads.Learnt,
 )
 
 abbrev pub inst-arr-claims : ℕ → inst-arr-lts.Claims
@@ -153,8 +153,8 @@ inst-arr-claims t = (
   on-side.Post,
   apply-ctx-type-reads.Asked,
   apply-ctx-type-reads.Learnt,
-  through-reads.Asked,
-  through-reads.Learnt,
+  plain-out-reads.Asked,
+  plain-out-reads.Learnt,
 )
 
 abbrev pub inst-l-claims : ℕ → inst-l-lts.Claims

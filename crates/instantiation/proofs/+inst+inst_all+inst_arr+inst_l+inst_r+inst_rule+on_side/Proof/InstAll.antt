@@ -2,7 +2,8 @@
 use mathlib.Core.Path.{_∙_}
 use native.Mathlib.Omega.{arith}
 use borrow.Author.Needs.{needs}
-use Rattle.steps.proofs.Under.{under-spent, under-room, under-first, under-falls, under-else, under-within, under-done}
+use Rattle.judging.proofs.Chain.{as-long}
+use Rattle.rules.proofs.Under.{under-spent, under-room, under-first, under-falls, under-else, under-space, under-done}
 use Rattle.instantiation.proofs.Sides.{other-is, first-is, in-row}
 use Rattle.instantiation.proofs.Binder.{all-open, all-small, under-on}
 use Prim.Native.Nat.{ℕ}
@@ -38,26 +39,32 @@ inst-all-returns-2 t c =
     let u = under-on (at-start .pre .1) (other-is (at-start .args .s) (at-other .other .ensures)) (at-open-on .open-on .ensures) in under-else u
     (at-start .pre .1 .pre) (at-o .o .given .1) (at-on-side .on-side .ensures) (c .match2 .keys2)
 
-inst-all-right-alone-requires : (t : ℕ) → inst-all-lts.Need-right-alone-requires (inst-all-claims t) (inst-all-at t) inst-all.Post
-inst-all-right-alone-requires t c κs =
+inst-all-keep-out-requires : (t : ℕ) → inst-all-lts.Need-keep-out-requires (inst-all-claims t) (inst-all-at t) inst-all.Post
+inst-all-keep-out-requires t c κs =
     let at-z = c .before .before .before in let at-on-side = at-z .before .before .before .before in
     let at-o = at-on-side .before .before .before .before .before .before in let at-open-on = at-o .before .before .before .before in
     let at-other = at-open-on .before .before in let at-start = at-other .before .before .before .before in
-    let u = under-on (at-start .pre .1) (other-is (at-start .args .s) (at-other .other .ensures)) (at-open-on .open-on .ensures) in under-within u
+    let u = under-on (at-start .pre .1) (other-is (at-start .args .s) (at-other .other .ensures)) (at-open-on .open-on .ensures) in under-space u
     (at-start .pre .1 .pre) (at-o .o .given .1) (at-on-side .on-side .ensures) (at-z .z .given .1)
 
 inst-all-returns-3 : (t : ℕ) → inst-all-lts.Need-returns-3 (inst-all-claims t) (inst-all-at t) inst-all.Post
 inst-all-returns-3 t c =
-    let at-pushed = c .before .before in let at-z = at-pushed .before .before in let at-on-side = at-z .before .before .before .before in
-    let at-o = at-on-side .before .before .before .before .before .before in let at-open-on = at-o .before .before .before .before in
-    let at-other = at-open-on .before .before in let at-first = at-other .before in let at-start = at-first .before .before .before in
+    let at-keep-out = c .before .before in let at-pushed = at-keep-out .before .before in let at-z = at-pushed .before .before in
+    let at-on-side = at-z .before .before .before .before in let at-o = at-on-side .before .before .before .before .before .before in
+    let at-open-on = at-o .before .before .before .before in let at-other = at-open-on .before .before in let at-first = at-other .before in
+    let at-start = at-first .before .before .before in
     let u = under-on (at-start .pre .1) (other-is (at-start .args .s) (at-other .other .ensures)) (at-open-on .open-on .ensures) in under-done u
     (at-start .pre .1 .pre) (at-o .o .given .1) (at-on-side .on-side .ensures) (at-z .z .given .1)
-    (in-row _ (first-is (at-start .args .s) (at-first .first .ensures)) .all) (rw (at-pushed .pushed .ensures) at (c .right-alone .ensures))
+    (in-row _ (first-is (at-start .args .s) (at-first .first .ensures)) .all) (rw (at-pushed .pushed .ensures) at (at-keep-out .keep-out .ensures))
+
+inst-all-same-length-3 : (t : ℕ) → inst-all-lts.Need-same-length-3 (inst-all-claims t) (inst-all-at t) inst-all.Post
+inst-all-same-length-3 t c =
+    let at-start = c .before .before .before .before .before .before .before .before .before .before .before .before .before .before .before .before .before .before .before .before .before .before .before .before .before .before in
+    as-long (at-start .pre .1 .pre) (inst-all-returns-3 t c)
 
 pub inst-all-closed : {M : Type 1} (t : ℕ) → inst-all-lts.Closed (inst-all-claims t) (inst-all-at t) inst-all.Post M
 inst-all-closed t =
     inst-all-lts.spec (inst-all-claims t) (inst-all-at t) inst-all.Post (λ c κs. search needs) (inst-all-add-rule t) (λ c κs. search needs)
     (λ c κs. search all-open) (λ c. search needs) (λ c. search needs) (λ c. search needs) (inst-all-returns t) (inst-all-on-side-requires t)
-    (λ c. search needs) (λ c. search needs) (inst-all-returns-2 t) (λ c κs. search needs) (inst-all-right-alone-requires t) (λ c. search needs)
-    (inst-all-returns-3 t)
+    (λ c. search needs) (λ c. search needs) (inst-all-returns-2 t) (λ c κs. search needs) (inst-all-keep-out-requires t)
+    (inst-all-same-length-3 t) (inst-all-returns-3 t)

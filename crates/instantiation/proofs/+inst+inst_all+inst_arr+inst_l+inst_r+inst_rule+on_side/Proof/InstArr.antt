@@ -3,7 +3,6 @@ use native.Mathlib.Omega.{arith}
 use borrow.Author.Needs.{needs}
 use Prim.Native.Nat.{ℕ}
 use Rattle.judging.proofs.Chain.{as-long}
-use Rattle.steps.proofs.Going.{either}
 use Rattle.instantiation.proofs.Arrow.{Halved, First, Between, arr-held, arr-unknown, arr-part, arr-first, arr-else₁, arr-apply, arr-spent, arr-second, arr-else₂, arr-done}
 use Rattle.instantiation.proofs.Sides.{other-is, first-is, in-row}
 use Rattle.instantiation.proofs.inst_arr.Reads as inst-arr
@@ -16,6 +15,7 @@ module _ (t : ℕ) where
   halved c =
       let at-name-of = c .before .before in let at-right-of = at-name-of .before .before in let at-left-of = at-right-of .before .before in
       let at-other = at-left-of .before .before in let at-start = at-other .before .before .before .before in record {
+        m = _;
         q = _;
         w = _;
         s = _;
@@ -51,7 +51,7 @@ inst-arr-returns-3 : (t : ℕ) → inst-arr-lts.Need-returns-3 (inst-arr-claims 
 inst-arr-returns-3 t c = arr-else₂ (between t (search)) (search) (c .match3 .keys2)
 
 inst-arr-returns-4 : (t : ℕ) → inst-arr-lts.Need-returns-4 (inst-arr-claims t) (inst-arr-at t) inst-arr.Post
-inst-arr-returns-4 t c = arr-done (between t (search)) (search) (c .before .before .y .given .1) (c .through .ensures)
+inst-arr-returns-4 t c = arr-done (between t (search)) (search) (c .before .before .y .given .1) (c .plain-out .ensures)
 
 pub inst-arr-closed : {M : Type 1} (t : ℕ) → inst-arr-lts.Closed (inst-arr-claims t) (inst-arr-at t) inst-arr.Post M
 inst-arr-closed t =
@@ -62,5 +62,5 @@ inst-arr-closed t =
     (λ c. arr-else₁ (halved t (search)) (search) (c .match .keys2)) (λ c κs. arr-apply (first t (search))) (λ c. search needs) (λ c. search needs)
     (λ c. search needs) (λ c. arr-spent (first t (search)) (c .before .before .before .before .apply-ctx-type .ensures) (c .enum-told .given .1))
     (λ c κs. arr-second (between t (search))) (λ c. search needs)
-    (λ c. as-long (between t (search) .on .on .pre .pre) (inst-arr-returns-3 t c .in-mode either)) (inst-arr-returns-3 t) (λ c κs. search needs)
-    (λ c. as-long (between t (search) .on .on .pre .pre) (inst-arr-returns-4 t c .in-mode either)) (inst-arr-returns-4 t)
+    (λ c. as-long (between t (search) .on .on .pre .pre) (inst-arr-returns-3 t c)) (inst-arr-returns-3 t) (λ c κs. search needs)
+    (λ c. as-long (between t (search) .on .on .pre .pre) (inst-arr-returns-4 t c)) (inst-arr-returns-4 t)

@@ -1,6 +1,6 @@
 -- What `inst_rule` needs.
 use borrow.Author.Needs.{needs}
-use Rattle.steps.specs.Sides.{side}
+use Rattle.rules.specs.Sides.{side}
 use Rattle.instantiation.proofs.Solving.{side-held}
 use Rattle.instantiation.proofs.Choosing.{choose-form, choose-solve}
 use Prim.Native.Nat.{ℕ}

@@ -17,10 +17,10 @@ use Rattle.subtyping.proofs.+sub_all+sub_arr+sub_rule+subtype.Lts-subty
 use Rattle.judging.proofs.enter.Reads as enter-reads
 use Rattle.judging.proofs.leave.Reads as leave-reads
 use Rattle.rules.proofs.apply_both.Reads as apply-both-reads
-use Rattle.steps.proofs.open_on.Reads as open-on-reads
-use Rattle.steps.proofs.pushed.Reads as pushed-reads
-use Rattle.steps.proofs.right_alone.Reads as right-alone-reads
-use Rattle.steps.proofs.through.Reads as through-reads
+use Rattle.rules.proofs.open_on.Reads as open-on-reads
+use Rattle.rules.proofs.pushed.Reads as pushed-reads
+use Rattle.rules.proofs.keep_out.Reads as keep-out-reads
+use Rattle.rules.proofs.plain_out.Reads as plain-out-reads
 use Rattle.subtyping.proofs.choose.Reads as choose-reads
 use Rattle.subtyping.proofs.one.Reads as one-reads
 use Rattle.subtyping.proofs.sub_inst.Reads as sub-inst-reads
@@ -28,16 +28,16 @@ use Rattle.types.proofs.left_of.Reads as left-of-reads
 use Rattle.types.proofs.right_of.Reads as right-of-reads
 
 abbrev pub μ-sub-all : Measures 2 sub-all-kinds.ps ℕ
-μ-sub-all κs a = 3 * a .1 .1 .0 .left + 1
+μ-sub-all κs a = 3 * a .1 .1 .1 .0 .left + 1
 
 abbrev pub μ-sub-arr : Measures 2 sub-arr-kinds.ps ℕ
-μ-sub-arr κs a = 3 * a .1 .1 .0 .left + 1
+μ-sub-arr κs a = 3 * a .1 .1 .1 .0 .left + 1
 
 abbrev pub μ-sub-rule : Measures 2 sub-rule-kinds.ps ℕ
-μ-sub-rule κs a = 3 * a .1 .1 .0 .left + 2
+μ-sub-rule κs a = 3 * a .1 .1 .1 .0 .left + 2
 
 abbrev pub μ-subtype : Measures 2 subtype-kinds.ps ℕ
-μ-subtype κs a = 3 * a .1 .1 .0 .left
+μ-subtype κs a = 3 * a .1 .1 .1 .0 .left
 
 abbrev pub sub-all-at : ℕ → In 2 sub-all-kinds.ps
 sub-all-at t = and 2 sub-all-kinds.ps (is 2 sub-all-kinds.ps μ-sub-all t) sub-all.Pre
@@ -74,8 +74,8 @@ sub-all-claims t = (
   subtype.Post,
   pushed-reads.Asked,
   pushed-reads.Learnt,
-  right-alone-reads.Asked,
-  right-alone-reads.Learnt,
+  keep-out-reads.Asked,
+  keep-out-reads.Learnt,
 )
 
 abbrev pub sub-arr-claims : ℕ → sub-arr-lts.Claims
@@ -88,8 +88,8 @@ sub-arr-claims t = (
   subtype.Post,
   apply-both-reads.Asked,
   apply-both-reads.Learnt,
-  through-reads.Asked,
-  through-reads.Learnt,
+  plain-out-reads.Asked,
+  plain-out-reads.Learnt,
 )
 
 abbrev pub sub-rule-claims : ℕ → sub-rule-lts.Claims

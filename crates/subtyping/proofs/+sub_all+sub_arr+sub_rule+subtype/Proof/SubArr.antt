@@ -2,7 +2,6 @@
 use borrow.Author.Needs.{needs}
 use Prim.Native.Nat.{ℕ}
 use Rattle.judging.proofs.Chain.{as-long}
-use Rattle.steps.proofs.Going.{either}
 use Rattle.subtyping.proofs.Arrow.{Halved, Lefts, Between, arr-left, arr-right, arr-first, arr-else₁, arr-two, arr-end, arr-second, arr-else₂, arr-done}
 use Rattle.subtyping.proofs.sub_arr.Reads as sub-arr
 use Rattle.subtyping.proofs.+sub_all+sub_arr+sub_rule+subtype.Lts-sub_arr as sub-arr-lts
@@ -14,6 +13,7 @@ module _ (t : ℕ) where
   halved c =
       let at-left-of2 = c .before .before in let at-right-of = at-left-of2 .before .before in let at-left-of = at-right-of .before .before in
       let at-start = at-left-of .before .before .before .before in record {
+        m = at-start .args .h;
         q = _;
         w = _;
         s = _;
@@ -40,7 +40,7 @@ module _ (t : ℕ) where
       record { on = lefts (search); w = _; v = _; s = _; a = _; b = _; call = b .apply-both .ensures; done = c .mid .given .1 }
 
 sub-arr-returns-3 : (t : ℕ) → sub-arr-lts.Need-returns-3 (sub-arr-claims t) (sub-arr-at t) sub-arr.Post
-sub-arr-returns-3 t c = arr-done (between t (search)) (search) (c .before .before .y .given .1) (c .through .ensures)
+sub-arr-returns-3 t c = arr-done (between t (search)) (search) (c .before .before .y .given .1) (c .plain-out .ensures)
 
 pub sub-arr-closed : {M : Type 1} (t : ℕ) → sub-arr-lts.Closed (sub-arr-claims t) (sub-arr-at t) sub-arr.Post M
 sub-arr-closed t =
@@ -48,6 +48,6 @@ sub-arr-closed t =
     (λ c κs. search arr-right) (λ c κs. arr-first (halved t (search))) (λ c. search needs) (λ c. search needs)
     (λ c. arr-else₁ (halved t (search)) (search) (c .match .keys2)) (λ c κs. arr-two (lefts t (search))) (λ c. search needs)
     (λ c κs. arr-second (between t (search))) (λ c. search needs) (λ c. search needs) (λ c. arr-else₂ (between t (search)) (search) (c .match3 .keys2))
-    (λ c κs. search needs) (λ c. search needs) (λ c. as-long (between t (search) .on .on .pre .pre) (sub-arr-returns-3 t c .in-mode either))
+    (λ c κs. search needs) (λ c. search needs) (λ c. as-long (between t (search) .on .on .pre .pre) (sub-arr-returns-3 t c))
     (sub-arr-returns-3 t) (λ c. search needs)
     (λ c. arr-end (lefts t (search)) (c .before .before .before .before .before .apply-both .ensures) (c .before .mid2 .given .1))

@@ -3,8 +3,7 @@ use mathlib.Core.Path.{_∙_}
 use native.Mathlib.Omega.{arith}
 use borrow.Author.Needs.{needs}
 use Rattle.judging.proofs.Judgements.{may-enter}
-use Rattle.judging.proofs.Whole.{whole-rule, whole-less}
-use Rattle.steps.proofs.Whole.{whole-spent, whole-else, whole-leave, whole-done}
+use Rattle.judging.proofs.Whole.{whole-spent, whole-rule, whole-less, whole-leave, whole-left}
 use Prim.Native.Nat.{ℕ}
 use Rattle.subtyping.proofs.subtype.Reads as subtype
 use Rattle.subtyping.proofs.+sub_all+sub_arr+sub_rule+subtype.Lts-subtype as subtype-lts
@@ -17,16 +16,7 @@ subtype-sub-rule-requires t c κs =
       whole-rule (at-start .pre .1) (at-enter .enter .ensures) (at-inner .inner .given .1),
     )
 
-subtype-returns-3 : (t : ℕ) → subtype-lts.Need-returns-3 (subtype-claims t) (subtype-at t) subtype.Post
-subtype-returns-3 t c =
-    let at-leave = c .before .before in let at-z = at-leave .before .before .before in let at-sub-rule = at-z .before .before .before .before in
-    let at-inner = at-sub-rule .before .before .before in let at-enter = at-inner .before .before in
-    let at-start = at-enter .before .before .before in
-    whole-done (at-start .pre .1) (at-enter .enter .ensures) (at-inner .inner .given .1) (at-sub-rule .sub-rule .ensures) (at-z .z .given .1)
-    (at-leave .leave .ensures)
-
 pub subtype-closed : {M : Type 1} (t : ℕ) → subtype-lts.Closed (subtype-claims t) (subtype-at t) subtype.Post M
 subtype-closed t =
     subtype-lts.spec (subtype-claims t) (subtype-at t) subtype.Post (λ c κs. search may-enter) (λ c. search needs) (λ c. search needs)
-    (λ c. search whole-spent) (subtype-sub-rule-requires t) (λ c. search needs) (λ c. search needs) (λ c. search whole-else)
-    (λ c κs. search whole-leave) (λ c. search needs) (subtype-returns-3 t)
+    (λ c. search whole-spent) (subtype-sub-rule-requires t) (λ c κs. search whole-leave) (λ c. search needs) (λ c. search whole-left)

@@ -1,2 +1,0 @@
--- Words as bytes.
-pub mod Bytes
