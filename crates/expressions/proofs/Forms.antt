@@ -6,20 +6,10 @@ use native.Mathlib.Omega.{arith}
 use lib.ListN.{length, getD}
 use Rattle.definition.specs.Syntax.{Ty, Expr, evar, abs, tapp, tabs, ann, litInt, litBool, letIn, binOp}
 use Rattle.layout.specs.Places.{exprSize, size, CodeAt, TyAt, ExprAt, evar-at, app-at, abs-at, tapp-at, tabs-at, ann-at, litInt-at, litBool-at, letIn-at, ifThenElse-at, binOp-at}
-use Rattle.layout.specs.Names.{tm}
 use Rattle.layout.specs.Denotes.{Base}
-use Rattle.layout.specs.declared.TmVar.{TmVar}
-use Rattle.layout.specs.declared.TyVar.{TyVar}
 use Rattle.layout.proofs.Places.{expr-code, ty-code}
 use Rattle.layout.proofs.Numbered.{nth}
 use Rattle.expressions.specs.Forms.{Shaped, IsApp, IsAbs, IsTyped, IsTAbs, IsLet, IsIf, IsBinOp, VarOf, AppOf, AbsOf, TypedOf, TAbsOf, LetOf, IfOf, BinOpOf}
-use Rattle.expressions.specs.declared.App.{App}
-use Rattle.expressions.specs.declared.Abs.{Abs}
-use Rattle.expressions.specs.declared.Typed.{Typed}
-use Rattle.expressions.specs.declared.TAbs.{TAbs}
-use Rattle.expressions.specs.declared.Let.{Let}
-use Rattle.expressions.specs.declared.If.{If}
-use Rattle.expressions.specs.declared.BinOp.{BinOp}
 
 -- ## Forms that no function takes apart
 
@@ -39,7 +29,7 @@ module _ (q w : List ℕ) (p : ℕ) where
   abbrev past : ℕ → ℕ
   past i = getD w (16 + i) 0
 
-  -- the name of the form that stands at p
+  -- the name, or the operator, behind the code
   abbrev name : ℕ
   name = getD q (p + 1) 0
 
@@ -109,7 +99,7 @@ name-within s = second-word (s .at)
 in-table : {q w : List ℕ} {p k i : ℕ} {f : Expr} → Shaped q w p k → ExprAt q i f → 16 + i < length w
 in-table s x = omega (arith, expr-code x .inside, s .base .floor)
 
--- ## What they give
+-- ## What they need and give
 
 module _ {q w : List ℕ} {p : ℕ} where
   -- what an expression is that has the code
@@ -119,54 +109,54 @@ module _ {q w : List ℕ} {p : ℕ} where
   pub var-of : Shaped q w p 16 → VarOf q p (record { 0 = getD q (p + 1) 0 })
   var-of s = record { is = λ x. told s x }
 
-  module _ {m : ℕ} (h : m ≡ getD w (16 + (p + 1)) 0) where
-    pub app-of : Shaped q w p 17 → AppOf q p (record { func = p + 1; arg = m })
-    app-of s = record { is = λ x. rw h (told s x) }
-
-    pub tapp-of : Shaped q w p 19 → TypedOf tapp q p (record { e = p + 1; ty = m })
-    tapp-of s = record { is = λ x. rw h (told s x) }
-
-    pub ann-of : Shaped q w p 21 → TypedOf ann q p (record { e = p + 1; ty = m })
-    ann-of s = record { is = λ x. rw h (told s x) }
-
-    pub if-of : {n : ℕ} → n ≡ getD w (16 + m) 0 → Shaped q w p 25 → IfOf q p (record { cond = p + 1; yes = m; no = n })
-    if-of i s = record { is = λ x. rw (i, h) (told s x) }
-
-  pub tabs-of : Shaped q w p 20 → TAbsOf q p (record { a = record { 0 = getD q (p + 1) 0 }; body = p + 2 })
-  tabs-of s = record { is = λ x. told s x }
-
-  module _ {m : ℕ} (h : m ≡ getD w (16 + (p + 2)) 0) where
-    pub abs-of : Shaped q w p 18 → AbsOf q p (record { x = record { 0 = getD q (p + 1) 0 }; ty = p + 2; body = m })
-    abs-of s = record { is = λ x. rw h (told s x) }
-
-    pub let-of : Shaped q w p 24 → LetOf q p (record { x = record { 0 = getD q (p + 1) 0 }; first = p + 2; body = m })
-    let-of s = record { is = λ x. rw h (told s x) }
-
-    pub binop-of : {o : ℕ} → o ≡ getD q (p + 1) 0 → Shaped q w p 26 → BinOpOf q p (record { op = o; left = p + 2; right = m })
-    binop-of i s = record { is = λ x. rw (i, h) (told s x) }
-
-  -- ## And where the table is asked for it
-
   pub app-table : Shaped q w p 17 → 16 + (p + 1) < length w
   app-table s = in-table s (told s (s .at) .func)
 
-  pub tapp-table : Shaped q w p 19 → 16 + (p + 1) < length w
-  tapp-table s = in-table s (told s (s .at) .part)
-
-  pub ann-table : Shaped q w p 21 → 16 + (p + 1) < length w
-  ann-table s = in-table s (told s (s .at) .part)
-
-  pub if-table : Shaped q w p 25 → 16 + (p + 1) < length w
-  if-table s = in-table s (told s (s .at) .cond)
-
-  pub if-table₂ : {m : ℕ} → m ≡ getD w (16 + (p + 1)) 0 → Shaped q w p 25 → 16 + m < length w
-  if-table₂ h s = rw h (in-table s (told s (s .at) .yes))
+  pub app-of : {m : ℕ} → Shaped q w p 17 → m ≡ getD w (16 + (p + 1)) 0 → AppOf q p (record { func = p + 1; arg = m })
+  app-of s h = record { is = λ x. rw h (told s x) }
 
   pub abs-table : Shaped q w p 18 → 16 + (p + 2) < length w
   abs-table s = omega (arith, ty-code (told s (s .at) .type) .inside, s .base .floor)
 
+  pub abs-of : {m : ℕ} → Shaped q w p 18 → m ≡ getD w (16 + (p + 2)) 0
+      → AbsOf q p (record { x = record { 0 = getD q (p + 1) 0 }; ty = p + 2; body = m })
+  abs-of s h = record { is = λ x. rw h (told s x) }
+
+  pub ann-table : Shaped q w p 21 → 16 + (p + 1) < length w
+  ann-table s = in-table s (told s (s .at) .part)
+
+  pub ann-of : {m : ℕ} → Shaped q w p 21 → m ≡ getD w (16 + (p + 1)) 0 → TypedOf ann q p (record { e = p + 1; ty = m })
+  ann-of s h = record { is = λ x. rw h (told s x) }
+
+  pub tapp-table : Shaped q w p 19 → 16 + (p + 1) < length w
+  tapp-table s = in-table s (told s (s .at) .part)
+
+  pub tapp-of : {m : ℕ} → Shaped q w p 19 → m ≡ getD w (16 + (p + 1)) 0 → TypedOf tapp q p (record { e = p + 1; ty = m })
+  tapp-of s h = record { is = λ x. rw h (told s x) }
+
+  pub tabs-of : Shaped q w p 20 → TAbsOf q p (record { a = record { 0 = getD q (p + 1) 0 }; body = p + 2 })
+  tabs-of s = record { is = λ x. told s x }
+
   pub let-table : Shaped q w p 24 → 16 + (p + 2) < length w
   let-table s = in-table s (told s (s .at) .first)
 
+  pub let-of : {m : ℕ} → Shaped q w p 24 → m ≡ getD w (16 + (p + 2)) 0
+      → LetOf q p (record { x = record { 0 = getD q (p + 1) 0 }; first = p + 2; body = m })
+  let-of s h = record { is = λ x. rw h (told s x) }
+
+  pub if-table : Shaped q w p 25 → 16 + (p + 1) < length w
+  if-table s = in-table s (told s (s .at) .cond)
+
+  module _ {m : ℕ} (s : Shaped q w p 25) (h : m ≡ getD w (16 + (p + 1)) 0) where
+    pub if-table₂ : 16 + m < length w
+    if-table₂ = rw h (in-table s (told s (s .at) .yes))
+
+    pub if-of : {n : ℕ} → n ≡ getD w (16 + m) 0 → IfOf q p (record { cond = p + 1; yes = m; no = n })
+    if-of i = record { is = λ x. rw (i, h) (told s x) }
+
   pub binop-table : Shaped q w p 26 → 16 + (p + 2) < length w
   binop-table s = in-table s (told s (s .at) .left)
+
+  pub binop-of : {o m : ℕ} → Shaped q w p 26 → o ≡ getD q (p + 1) 0 → m ≡ getD w (16 + (p + 2)) 0
+      → BinOpOf q p (record { op = o; left = p + 2; right = m })
+  binop-of s i h = record { is = λ x. rw (i, h) (told s x) }

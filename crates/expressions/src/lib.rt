@@ -9,6 +9,7 @@ ghost use lib.ListN.{length, getD};
 ghost use Rattle.definition.specs.Syntax.{ann, tapp};
 ghost use Rattle.expressions.specs.Forms.{Shaped, VarOf, AppOf, AbsOf, TypedOf, TAbsOf, LetOf, IfOf, BinOpOf};
 
+// The parts of each form: names, the operator's number, else places of the question.
 pub struct App {
     pub func: usize,
     pub arg: usize,
@@ -43,7 +44,6 @@ pub struct If {
     pub no: usize,
 }
 
-// The operator by its number.
 pub struct BinOp {
     pub op: usize,
     pub left: usize,
@@ -68,6 +68,7 @@ pub fn var_of(q: &[u32], work: &[u32], ex: usize) -> TmVar
     TmVar(name)
 }
 
+// The parts of an App.
 pub fn app_of(q: &[u32], work: &[u32], ex: usize) -> App
     requires { ⌜ Shaped (now q) (now work) ex 17 ⌝ }
     ensures { λ o. ⌜ AppOf (now (q .entry)) ex o ⌝ }
@@ -80,6 +81,7 @@ pub fn app_of(q: &[u32], work: &[u32], ex: usize) -> App
     }
 }
 
+// The parts of an Abs: its body stands behind its type.
 pub fn abs_of(q: &[u32], work: &[u32], ex: usize) -> Abs
     requires { ⌜ Shaped (now q) (now work) ex 18 ⌝ }
     ensures { λ o. ⌜ AbsOf (now (q .entry)) ex o ⌝ }
@@ -115,6 +117,7 @@ pub fn tapp_of(q: &[u32], work: &[u32], ex: usize) -> Typed
     Typed { e: e, ty: ty }
 }
 
+// The parts of a TAbs.
 pub fn tabs_of(q: &[u32], work: &[u32], ex: usize) -> TAbs
     requires { ⌜ Shaped (now q) (now work) ex 20 ⌝ }
     ensures { λ o. ⌜ TAbsOf (now (q .entry)) ex o ⌝ }
@@ -128,6 +131,7 @@ pub fn tabs_of(q: &[u32], work: &[u32], ex: usize) -> TAbs
     }
 }
 
+// The parts of a Let.
 pub fn let_of(q: &[u32], work: &[u32], ex: usize) -> Let
     requires { ⌜ Shaped (now q) (now work) ex 24 ⌝ }
     ensures { λ o. ⌜ LetOf (now (q .entry)) ex o ⌝ }
@@ -143,6 +147,7 @@ pub fn let_of(q: &[u32], work: &[u32], ex: usize) -> Let
     }
 }
 
+// The parts of an If: the second branch stands behind the first.
 pub fn if_of(q: &[u32], work: &[u32], ex: usize) -> If
     requires { ⌜ Shaped (now q) (now work) ex 25 ⌝ }
     ensures { λ o. ⌜ IfOf (now (q .entry)) ex o ⌝ }
@@ -157,6 +162,7 @@ pub fn if_of(q: &[u32], work: &[u32], ex: usize) -> If
     }
 }
 
+// The parts of a BinOp.
 pub fn binop_of(q: &[u32], work: &[u32], ex: usize) -> BinOp
     requires { ⌜ Shaped (now q) (now work) ex 26 ⌝ }
     ensures { λ o. ⌜ BinOpOf (now (q .entry)) ex o ⌝ }
