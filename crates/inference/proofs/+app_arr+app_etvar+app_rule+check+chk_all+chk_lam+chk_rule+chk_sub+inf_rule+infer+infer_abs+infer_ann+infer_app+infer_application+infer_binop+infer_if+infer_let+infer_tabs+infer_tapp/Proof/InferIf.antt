@@ -36,6 +36,9 @@ module _ (t : ℕ) where
   abbrev both : infer-if-lts.After-x (infer-if-claims t) (infer-if-at t) infer-if.Post → Both t
   both c = record { on = inferred (search); w = _; z = _; r = _; call = c .before .before .before .before .infer2 .ensures; done = c .x .given .1 }
 
+infer-if-returns-3 : (t : ℕ) → infer-if-lts.Need-returns-3 (infer-if-claims t) (infer-if-at t) infer-if.Post
+infer-if-returns-3 t c = unless (if-asks₃ (inferred t (search))) (search) (c .match3 .keys2)
+
 infer-if-returns-4 : (t : ℕ) → infer-if-lts.Need-returns-4 (infer-if-claims t) (infer-if-at t) infer-if.Post
 infer-if-returns-4 t c = if-else₄ (both t (search)) (search) (c .match4 .keys2)
 
@@ -49,7 +52,7 @@ infer-if-closed t =
     (λ c. search needs) (λ c. unless (if-asks (on t (search))) (search) (c .match .keys2))
     (λ c κs. let i = checked t (search) in may-ask (if-asks₂ i) (i .on .falls)) (λ c. search needs) (λ c. search needs)
     (λ c. unless (if-asks₂ (checked t (search))) (search) (c .match2 .keys2))
-    (λ c κs. let i = inferred t (search) in may-ask (if-asks₃ i) (i .on .on .falls)) (λ c. search needs) (λ c. search needs)
-    (λ c. unless (if-asks₃ (inferred t (search))) (search) (c .match3 .keys2)) (λ c κs. if-two (both t (search))) (λ c. search needs)
+    (λ c κs. let i = inferred t (search) in may-ask (if-asks₃ i) (i .on .on .falls)) (λ c. search needs)
+    (λ c. as-long (inferred t (search) .on .on .pre .rule) (infer-if-returns-3 t c)) (infer-if-returns-3 t) (λ c κs. if-two (both t (search))) (λ c. search needs)
     (λ c. as-long (asked (both t (search)) .pre .rule) (infer-if-returns-4 t c)) (infer-if-returns-4 t) (λ c κs. tt)
     (λ c. as-long (asked (both t (search)) .pre .rule) (infer-if-returns-5 t c)) (infer-if-returns-5 t)
