@@ -4,7 +4,6 @@ use mathlib.Core.Bool.{true, false}
 use mathlib.Core.List.{List}
 use Prim.Native.Nat.{ℕ, _+_, _*_, _<_, _^_}
 use native.Mathlib.Omega.{arith}
-use lib.ListN.{length, getD}
 use Rattle.definition.specs.Syntax
 use Rattle.definition.specs.Syntax.{TyVar, Ty, int, arrow, Expr, Ctx, onR, Judgement, infer, check, subtype, ruleNumber, leaf, _&_, children, varBnd, tvarBnd}
 use Rattle.definition.specs.Run.{Out, done, M, _>>=_, give}
@@ -18,9 +17,10 @@ use Rattle.layout.specs.declared.Span.{Span}
 use Rattle.layout.specs.declared.State.{State}
 use Rattle.layout.specs.declared.Entry.{Entry}
 use Rattle.layout.specs.declared.Key.the-variants.{Var}
-use Rattle.layout.specs.declared.TmVar as tmvar
-use Rattle.layout.proofs.Places.{ty-code, expr-code}
+use Rattle.layout.proofs.Places.{expr-code}
 use Rattle.layout.proofs.Denotes.{run-frame, int-den}
+use Rattle.expressions.specs.declared.Abs.{Abs}
+use Rattle.expressions.specs.Forms.{Shaped, IsAbs, AbsOf}
 use Rattle.types.specs.Reading.{HeldAs, LeftOf, RightOf}
 use Rattle.types.proofs.Held.{room-held, held-as}
 use Rattle.contexts.specs.Build.{Space, Pushed}
@@ -39,16 +39,15 @@ use Rattle.rules.specs.declared.Instance.the-variants.{Of}
 use Rattle.rules.specs.Built.{Built}
 use Rattle.rules.specs.Opening.{ForallPre, Opens, Instances, opened, OpensOn}
 use Rattle.rules.proofs.TypeForms.{IsArrow, is-arrow, IsForall, is-forall}
-use Rattle.rules.proofs.Standing.{room-space, ref-small}
+use Rattle.rules.proofs.Standing.{room-space, ref-small, check-shaped}
 use Rattle.rules.specs.declared.Mid.{Mid}
 use Rattle.rules.specs.declared.Mid.the-variants.{On, End}
 use Rattle.rules.specs.Taking.{Choice, lit-int, lit-bool, lam, all, sub, CheckPre}
 use Rattle.rules.specs.Going.{TwoIn, Passes, Nothing, Compared, PlainOut, kept, KeepOut}
-use Rattle.rules.proofs.Forms.{Abs, form}
 use Rattle.rules.proofs.Choices.{chk-lam, chk-all, chk-sub}
 use Rattle.rules.proofs.Ways.{Way, den-on, otherwise, back, went, grown, Onward, onward, there, turn, finish}
 use Rattle.inference.specs.Rules.{relate, Related}
-use Rattle.inference.proofs.Starting.{outcome, begin-check, type-next, in-table}
+use Rattle.inference.proofs.Starting.{outcome, begin-check}
 use Rattle.inference.proofs.Premise.{At, Premise, ask-infer, ask-check, Returns, returns}
 use Rattle.inference.proofs.Related.{regroup}
 
@@ -81,8 +80,8 @@ chosen-sub μ judge Γ e B i h (sub r a b c d) =
 -- ## ChkLam
 
 module _ (m : Here) {q w : List ℕ} {s : State} {g : Span} {ex r : ℕ} (pre : CheckPre q w s g ex r 19) where
-  pub lam-parts : {j : Judgement} (k : At (pre .rule) j) → Abs q ex (check-asked ex r k .e)
-  lam-parts k = form 18 (pre .code ∙ chosen-lam (pre .choice) .0) (check-asked ex r k .at)
+  pub lam-shaped : Shaped q w ex 18
+  lam-shaped = check-shaped pre (chosen-lam (pre .choice) .0)
 
   pub lam-arrow : {j : Judgement} (k : At (pre .rule) j) → IsArrow (check-asked ex r k .T)
   lam-arrow k = let v = check-asked ex r k in is-arrow (v .T) (sym (pre .tag .is (v .T) (v .den)) ∙ chosen-lam (pre .choice) .1)
@@ -90,33 +89,30 @@ module _ (m : Here) {q w : List ℕ} {s : State} {g : Span} {ex r : ℕ} (pre : 
   lam-den : {j : Judgement} (k : At (pre .rule) j) → Den q w (s .top) r (arrow (lam-arrow k .A) (lam-arrow k .B))
   lam-den k = rw (lam-arrow k .is) at (check-asked ex r k .den)
 
-  pub lam-name : ex + 1 < length q
-  lam-name = lam-parts (pre .rule .asks) .name .within
-
-  pub lam-table : 16 + (ex + 2) < length w
-  lam-table = in-table (pre .rule .room) (ty-code (lam-parts (pre .rule .asks) .type) .inside)
-
   pub lam-held : HeldAs q w (s .top) r 5
   lam-held = held-as (room-held (pre .rule .room) (check-asked ex r (pre .rule .asks) .den)) (pre .tag) 5 (chosen-lam (pre .choice) .1)
 
-  module _ {p c : ℕ} (lf : LeftOf q w (s .top) r p) (rt : RightOf q w (s .top) r c) where
+  module _ {l : Abs} (parts : AbsOf q ex l) {p c : ℕ} (lf : LeftOf q w (s .top) r p) (rt : RightOf q w (s .top) r c) where
+    pub lam-parts : {j : Judgement} (k : At (pre .rule) j) → IsAbs q ex l (check-asked ex r k .e)
+    lam-parts k = parts .is (check-asked ex r k .at)
+
     lam-left : {j : Judgement} (k : At (pre .rule) j) → Den q w (s .top) p (lam-arrow k .A)
     lam-left k = lf .is _ _ (lam-den k) .den
 
-    pub lam-two : TwoIn q w s g (ex + 2) p
+    pub lam-two : TwoIn q w s g (l .ty) p
     lam-two = let k = pre .rule .asks in
         record { two = record { spare = _; room = pre .rule .room; A = _; B = _; left = written (lam-parts k .type); right = lam-left k }; Γ = _; run = check-asked ex r k .run }
 
     lam-way : {j : Judgement} (k : At (pre .rule) j)
         → Way q w w s s leaf (20 + 28 * g .n) (outcome m s j)
         (parameter (m .manner .«compares_parameter») (check-asked ex r k .Γ) (lam-parts k .A) (lam-arrow k .A)
-        >>= λ u. judge (here m) (check (check-asked ex r k .Γ ▹ varBnd (lam-parts k .x) (lam-arrow k .A) from here m) (lam-parts k .d) (lam-arrow k .B))
-        >>= λ r. give (Syntax.ChkLam, int, rightOf (kVar (lam-parts k .x)) (r .1), r .2 & leaf))
+        >>= λ u. judge (here m) (check (check-asked ex r k .Γ ▹ varBnd (tm (l .x)) (lam-arrow k .A) from here m) (lam-parts k .d) (lam-arrow k .B))
+        >>= λ r. give (Syntax.ChkLam, int, rightOf (kVar (tm (l .x))) (r .1), r .2 & leaf))
     unfolding chkLam
     lam-way k = begin-check m (pre .rule) (check-asked ex r k .is) (lam-parts k .is) (lam-arrow k .is)
-        (chk-lam (here m) (judge (here m)) (check-asked ex r k .Γ) ex (lam-parts k .x) (lam-parts k .A) (lam-arrow k .A) (lam-arrow k .B) (lam-parts k .d))
+        (chk-lam (here m) (judge (here m)) (check-asked ex r k .Γ) ex (tm (l .x)) (lam-parts k .A) (lam-arrow k .A) (lam-arrow k .B) (lam-parts k .d))
 
-    module _ {w₁ : List ℕ} {y : Mid} (o : Compared m q w w₁ s g (ex + 2) p y) where
+    module _ {w₁ : List ℕ} {y : Mid} (o : Compared m q w w₁ s g (l .ty) p y) where
       lam-passes : {j : Judgement} (k : At (pre .rule) j)
           → Passes q w w₁ s Nothing y (parameter (m .manner .«compares_parameter») (check-asked ex r k .Γ) (lam-parts k .A) (lam-arrow k .A) (s .left) (s .fresh))
       lam-passes k = o .passes _ _ _ (check-asked ex r k .run) (written (lam-parts k .type)) (lam-left k)
@@ -128,40 +124,35 @@ module _ (m : Here) {q w : List ℕ} {s : State} {g : Span} {ex r : ℕ} (pre : 
         lam-onward : {j : Judgement} (k : At (pre .rule) j) → Onward Nothing _ _ (lam-way k) w₁ s₁ a b
         lam-onward k = onward Nothing _ _ (lam-way k) (lam-passes k) e
 
-        pub lam-space : {x : tmvar.TmVar} {n : Entry} → EntryFrom m (Var x) p n → Space w₁ s₁ g 1 × SmallEntry n
+        pub lam-space : {n : Entry} → EntryFrom m (Var (l .x)) p n → Space w₁ s₁ g 1 × SmallEntry n
         lam-space en = let k = pre .rule .asks in let u = lam-onward k in
             (room-space (u .way .room) g 1 (run-frame (u .keep) (u .up) (check-asked ex r k .run)) (omega arith), entry-small en (ref-small (u .way .room) (den-on (u .way) (lam-left k))))
 
-        module _ {x : tmvar.TmVar} {body : ℕ} (n : x .0 ≡ getD q (ex + 1) 0) (h : body ≡ getD w (16 + (ex + 2)) 0) {bound : Entry}
-            (en : EntryFrom m (Var x) p bound) {w₂ : List ℕ} {v : Opened} (i : Pushed w₁ w₂ s₁ g bound v) where
-          lam-var : {j : Judgement} (k : At (pre .rule) j) → tm x ≡ lam-parts k .x
-          lam-var k = rw (n ∙ lam-parts k .name .is) refl
-
+        module _ {bound : Entry} (en : EntryFrom m (Var (l .x)) p bound) {w₂ : List ℕ} {v : Opened} (i : Pushed w₁ w₂ s₁ g bound v) where
           pub lam-way₂ : {j : Judgement} (k : At (pre .rule) j)
               → Way q w w₂ s (v .st) leaf 0 (outcome m s j)
-              (judge (here m) (check (check-asked ex r k .Γ ▹ varBnd (lam-parts k .x) (lam-arrow k .A) from here m) (lam-parts k .d) (lam-arrow k .B))
-              >>= λ r. give (Syntax.ChkLam, int, rightOf (kVar (lam-parts k .x)) (r .1), r .2 & leaf))
+              (judge (here m) (check (check-asked ex r k .Γ ▹ varBnd (tm (l .x)) (lam-arrow k .A) from here m) (lam-parts k .d) (lam-arrow k .B))
+              >>= λ r. give (Syntax.ChkLam, int, rightOf (kVar (tm (l .x))) (r .1), r .2 & leaf))
           lam-way₂ k = grown (lam-onward k .way) 0 (i .grown) (omega arith)
 
-          pub lam-asks : Premise m (pre .rule) _ _ (λ j k. lam-way₂ k) (v .g) (checkAsk body c)
+          pub lam-asks : Premise m (pre .rule) _ _ (λ j k. lam-way₂ k) (v .g) (checkAsk (l .body) c)
           lam-asks = record {
             at = λ j k.
                 let u = lam-onward k in
                 let run₁ : Run q w₁ (s₁ .top) (g .at) (g .n) (check-asked ex r k .Γ) = run-frame (u .keep) (u .up) (check-asked ex r k .run) in
-                ask-check (rw (lam-var k) at (i .run run₁ (as-var en (den-on (u .way) (lam-left k)))))
-                (type-next (pre .rule .room .base) h (lam-parts k .type) (lam-parts k .body)) (den-on (lam-way₂ k) (rt .is _ _ (lam-den k) .den));
+                ask-check (i .run run₁ (as-var en (den-on (u .way) (lam-left k)))) (lam-parts k .body) (den-on (lam-way₂ k) (rt .is _ _ (lam-den k) .den));
           }
 
-          module _ {w₃ : List ℕ} {z : Step} (call : Judged m q w₂ w₃ (v .st) (v .g) (checkAsk body c) z) {t : Answer} (d : z ≡ Done t) where
+          module _ {w₃ : List ℕ} {z : Step} (call : Judged m q w₂ w₃ (v .st) (v .g) (checkAsk (l .body) c) z) {t : Answer} (d : z ≡ Done t) where
             pub lam-back : {j : Judgement} (k : At (pre .rule) j) → Returns lam-asks call k t
             lam-back k = returns lam-asks call d k
 
-            pub lam-done : {w₄ : List ℕ} {y : Step} → KeepOut false w₃ w₄ t (kVar (tm x)) 2048 19 1 y → Fires m q w w₄ s g (checkAsk ex r) y
+            pub lam-done : {w₄ : List ℕ} {y : Step} → KeepOut false w₃ w₄ t (kVar (tm (l .x))) 2048 19 1 y → Fires m q w w₄ s g (checkAsk ex r) y
             unfolding ruleNumber children kept
             lam-done f = record {
               run = λ j k.
                   let b = lam-back k in
-                  finish Syntax.ChkLam (rw (lam-var k) at (f .finished q)) (b .run) (int-den (b .way .room .base)) (b .way) (omega arith) refl refl (omega arith);
+                  finish Syntax.ChkLam (f .finished q) (b .run) (int-den (b .way .room .base)) (b .way) (omega arith) refl refl (omega arith);
             }
 
 -- ## ChkAll

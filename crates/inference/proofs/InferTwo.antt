@@ -1,11 +1,10 @@
 -- The rules of infer that ask two judgements: InfApp, InfLet, and the operators.
-use mathlib.Core.Path.{_≡_, refl, _∙_}
+use mathlib.Core.Path.{_≡_, refl}
 use mathlib.Core.Bool.{Bool, true, false}
 use mathlib.Core.Logic.{_⊎_, ⊎-elim}
 use mathlib.Core.List.{List}
-use Prim.Native.Nat.{ℕ, _+_, _*_, _<_, _^_}
+use Prim.Native.Nat.{ℕ}
 use native.Mathlib.Omega.{arith}
-use lib.ListN.{length, getD}
 use Rattle.definition.specs.Syntax
 use Rattle.definition.specs.Syntax.{pick, Ty, Expr, Ctx, Judgement, infer, check, inferApp, ruleNumber, Trees, leaf, _&_, children, varBnd}
 use Rattle.definition.specs.Run.{Out, M, _>>=_, give}
@@ -19,9 +18,11 @@ use Rattle.layout.specs.declared.Span.{Span}
 use Rattle.layout.specs.declared.State.{State}
 use Rattle.layout.specs.declared.Entry.{Entry}
 use Rattle.layout.specs.declared.Key.the-variants.{Var}
-use Rattle.layout.specs.declared.TmVar as tmvar
 use Rattle.layout.specs.declared.Made.{Made}
 use Rattle.layout.specs.declared.Made.the-variants as made
+use Rattle.expressions.specs.declared.App.{App}
+use Rattle.expressions.specs.declared.Let.{Let}
+use Rattle.expressions.specs.Forms.{IsApp, IsLet, IsBinOp, AppOf, LetOf, BinOpOf}
 use Rattle.contexts.specs.Build.{Space, Pushed}
 use Rattle.contexts.specs.declared.Opened.{Opened}
 use Rattle.judging.proofs.Entries.{entry-small, as-var}
@@ -35,112 +36,89 @@ use Rattle.judging.specs.Asking.{here, EntryFrom, inferAsk, checkAsk, appAsk}
 use Rattle.judging.specs.Ending.{Judged, Fires}
 use Rattle.judging.proofs.Asking.{infer-asked}
 use Rattle.rules.proofs.Standing.{room-space, ref-small}
-use Rattle.rules.specs.Taking.{InferPre}
 use Rattle.rules.specs.Going.{PlainOut, kept, KeepOut}
-use Rattle.rules.proofs.Forms.{App, Let, BinOp}
 use Rattle.rules.proofs.Ways.{Way, grown, apply-pre, AppliedTo, apply-spent, apply-done, finish}
 use Rattle.inference.specs.declared.Sides.{Sides}
 use Rattle.inference.specs.Rules.{infSides, Operates}
-use Rattle.inference.proofs.Starting.{outcome, begin-infer, shape, expr-next}
-use Rattle.inference.proofs.Premise.{At, Asked, Premise, ask-infer, ask-check, ask-app, Returns, returns}
+use Rattle.inference.proofs.Starting.{outcome, begin-infer}
+use Rattle.inference.proofs.Premise.{At, Begun, Starts, Ends, Asked, Premise, ask-infer, ask-check, ask-app, Returns, returns}
 
 -- ## As far as such a rule has come
 
--- it is asked, at an expression of kind k; t is the cycle's measure
-pub record Begun (k t : ℕ) : Type 0 where
-  pub m : Here
-  pub q : List ℕ
-  pub w : List ℕ
-  pub s : State
-  pub g : Span
-  pub ex : ℕ
-  pub pre : InferPre q w s g ex k
-  pub falls : 3 * s .left + 1 ≡ t
-
--- its first part stands i words on, and the table has told where the second does
-pub record Placed (k i t : ℕ) : Type 0 where
-  pub on : Begun k t
-  pub p : ℕ
-  pub second : p ≡ getD (on .w) (16 + (on .ex + i)) 0
-
--- the first part was inferred
-pub record First (k i t : ℕ) : Type 0 where
-  pub on : Placed k i t
+-- the first part, which stands at e, was inferred
+pub record First {O : Type 0} (Of : List ℕ → ℕ → O → Type 0) (e : O → ℕ) (t : ℕ) : Type 0 where
+  pub on : Begun Of t
   pub w : List ℕ
   pub z : Step
   pub r : Answer
-  pub call : Judged (on .on .m) (on .on .q) (on .on .w) w (on .on .s) (on .on .g) (inferAsk (on .on .ex + i)) z
+  pub call : Judged (on .m) (on .q) (on .w) w (on .s) (on .g) (inferAsk (e (on .p))) z
   pub done : z ≡ Done r
 
--- InfApp: the context was applied to the function's type
+-- InfApp: the function was; the context was applied to its type
+abbrev pub Function : ℕ → Type 0
+Function t = First AppOf (λ (p : App). p .func) t
+
 pub record Headed (t : ℕ) : Type 0 where
-  pub on : First 17 1 t
+  pub on : Function t
   pub w : List ℕ
   pub v : Made
   pub st : State
   pub ty : ℕ
-  pub call : Applied (on .on .on .q) (on .w) w (on .r .st) (on .r .g) (on .r .ty) v
+  pub call : Applied (on .on .q) (on .w) w (on .r .st) (on .r .g) (on .r .ty) v
   pub done : v ≡ made.Done st ty
 
--- InfLet: the name entered the context
+-- InfLet: what the name stands for was; the name entered the context
+abbrev pub Value : ℕ → Type 0
+Value t = First LetOf (λ (p : Let). p .first) t
+
 pub record Bound (t : ℕ) : Type 0 where
-  pub on : First 24 2 t
+  pub on : Value t
   pub w : List ℕ
-  pub x : tmvar.TmVar
   pub e : Entry
   pub o : Opened
-  pub made : EntryFrom (on .on .on .m) (Var x) (on .r .ty) e
-  pub name : x .0 ≡ getD (on .on .on .q) (on .on .on .ex + 1) 0
+  pub made : EntryFrom (on .on .m) (Var (on .on .p .x)) (on .r .ty) e
   pub call : Pushed (on .w) w (on .r .st) (on .r .g) e o
-
--- how the rule begins, and how it ends
-module _ {k t : ℕ} (i : Begun k t) where
-  abbrev Starts : Judgement → M Fired → Type 0
-  Starts j f = Way (i .q) (i .w) (i .w) (i .s) (i .s) leaf (20 + 28 * i .g .n) (outcome (i .m) (i .s) j) f
-
-  abbrev Ends : List ℕ → Step → Type 0
-  Ends w′ z = Fires (i .m) (i .q) (i .w) w′ (i .s) (i .g) (inferAsk (i .ex)) z
 
 -- ## InfApp
 
-module _ {t : ℕ} (i : Begun 17 t) where
-  pub app : {j : Judgement} (k : At (i .pre .rule) j) → App (i .q) (i .ex) (infer-asked (i .ex) k .e)
-  app k = shape (i .pre) k
+module _ {t : ℕ} (i : Begun AppOf t) where
+  pub app : {j : Judgement} (k : At (i .rule) j) → IsApp (i .q) (i .ex) (i .p) (infer-asked (i .ex) k .e)
+  app k = i .parts .is (infer-asked (i .ex) k .at)
 
-  pub app-way : {j : Judgement} (k : At (i .pre .rule) j)
+  pub app-way : {j : Judgement} (k : At (i .rule) j)
       → Starts i j (judge (here (i .m)) (infer (infer-asked (i .ex) k .Γ) (app k .f)) >>= λ r. apply (r .1) (r .0)
       >>= λ A. judge (here (i .m)) (inferApp (r .1) (app k .d) A) >>= λ u. give (Syntax.InfApp, u .0, u .1, r .2 & u .2 & leaf))
   unfolding inferRule infApp
-  app-way k = begin-infer (i .m) (i .pre .rule) (infer-asked (i .ex) k .is) (app k .is) refl
+  app-way k = begin-infer (i .m) (i .rule) (infer-asked (i .ex) k .is) (app k .is) refl
 
-  pub app-asks : Premise (i .m) (i .pre .rule) _ _ (λ j k. app-way k) (i .g) (inferAsk (i .ex + 1))
-  app-asks = record { at = λ j k. ask-infer (infer-asked (i .ex) k .run) (app k .first) }
+  pub app-asks : Premise (i .m) (i .rule) _ _ (λ j k. app-way k) (i .g) (inferAsk (i .p .func))
+  app-asks = record { at = λ j k. ask-infer (infer-asked (i .ex) k .run) (app k .func) }
 
-module _ {t : ℕ} (c : First 17 1 t) where
-  pub app-back : {j : Judgement} (k : At (c .on .on .pre .rule) j) → Returns (app-asks (c .on .on)) (c .call) k (c .r)
-  app-back k = returns (app-asks (c .on .on)) (c .call) (c .done) k
+module _ {t : ℕ} (c : Function t) where
+  pub app-back : {j : Judgement} (k : At (c .on .rule) j) → Returns (app-asks (c .on)) (c .call) k (c .r)
+  app-back k = returns (app-asks (c .on)) (c .call) (c .done) k
 
-  pub app-apply : ApplyPre (c .on .on .q) (c .w) (c .r .st) (c .r .g) (c .r .ty)
-  app-apply = let b = app-back (c .on .on .pre .rule .asks) in apply-pre (b .way .room) (b .run) (b .den)
+  pub app-apply : ApplyPre (c .on .q) (c .w) (c .r .st) (c .r .g) (c .r .ty)
+  app-apply = let b = app-back (c .on .rule .asks) in apply-pre (b .way .room) (b .run) (b .den)
 
-  pub app-spent : {w₂ : List ℕ} {v : Made} → Applied (c .on .on .q) (c .w) w₂ (c .r .st) (c .r .g) (c .r .ty) v → v ≡ made.Spent
-      → Ends (c .on .on) w₂ Spent
+  pub app-spent : {w₂ : List ℕ} {v : Made} → Applied (c .on .q) (c .w) w₂ (c .r .st) (c .r .g) (c .r .ty) v → v ≡ made.Spent
+      → Ends (c .on) w₂ Spent
   app-spent ap h = record { run = λ j k. let b = app-back k in apply-spent _ (b .way) ap (b .run) (b .den) h }
 
 module _ {t : ℕ} (h : Headed t) where
-  pub app-applied : {j : Judgement} (k : At (h .on .on .on .pre .rule) j)
+  pub app-applied : {j : Judgement} (k : At (h .on .on .rule) j)
       → let b = app-back (h .on) k in AppliedTo _ (b .way) (h .call) (b .run) (b .den) (h .st) (h .ty)
   app-applied k = let b = app-back (h .on) k in apply-done _ (b .way) (h .call) (b .run) (b .den) (h .done)
 
-  pub app-asks₂ : let i = h .on .on .on in Premise (i .m) (i .pre .rule) _ _ (λ j k. app-applied k .way) (h .on .r .g) (appAsk (h .ty) (h .on .on .p))
+  pub app-asks₂ : let i = h .on .on in Premise (i .m) (i .rule) _ _ (λ j k. app-applied k .way) (h .on .r .g) (appAsk (h .ty) (h .on .on .p .arg))
   app-asks₂ = record {
     at = λ j k.
-        let i = h .on .on .on in let u = app-applied k in
-        ask-app (u .run) (expr-next (i .pre .rule .room .base) (h .on .on .second) (app i k .first) (app i k .second)) (u .den);
+        let i = h .on .on in let u = app-applied k in
+        ask-app (u .run) (app i k .arg) (u .den);
   }
 
   pub app-done : {w₃ : List ℕ} {y o : Step} {u : Answer}
-      → let i = h .on .on .on in Judged (i .m) (i .q) (h .w) w₃ (h .st) (h .on .r .g) (appAsk (h .ty) (h .on .on .p)) y
+      → let i = h .on .on in Judged (i .m) (i .q) (h .w) w₃ (h .st) (h .on .r .g) (appAsk (h .ty) (h .on .on .p .arg)) y
       → y ≡ Done u → PlainOut (u .st) (u .g) (u .ty) 5 2 o → Ends i w₃ o
   unfolding ruleNumber children
   app-done call d fin = record {
@@ -151,58 +129,51 @@ module _ {t : ℕ} (h : Headed t) where
 
 -- ## InfLet
 
-module _ {t : ℕ} (i : Begun 24 t) where
-  pub lets : {j : Judgement} (k : At (i .pre .rule) j) → Let (i .q) (i .ex) (infer-asked (i .ex) k .e)
-  lets k = shape (i .pre) k
+module _ {t : ℕ} (i : Begun LetOf t) where
+  pub lets : {j : Judgement} (k : At (i .rule) j) → IsLet (i .q) (i .ex) (i .p) (infer-asked (i .ex) k .e)
+  lets k = i .parts .is (infer-asked (i .ex) k .at)
 
-  pub let-name : i .ex + 1 < length (i .q)
-  let-name = lets (i .pre .rule .asks) .name .within
-
-  pub let-way : {j : Judgement} (k : At (i .pre .rule) j)
+  pub let-way : {j : Judgement} (k : At (i .rule) j)
       → Starts i j (judge (here (i .m)) (infer (infer-asked (i .ex) k .Γ) (lets k .f))
-      >>= λ r. judge (here (i .m)) (infer (r .1 ▹ varBnd (lets k .x) (r .0) from here (i .m)) (lets k .d))
-      >>= λ u. give (Syntax.InfLet, u .0, solvedAndRight (kVar (lets k .x)) (u .1), r .2 & u .2 & leaf))
+      >>= λ r. judge (here (i .m)) (infer (r .1 ▹ varBnd (tm (i .p .x)) (r .0) from here (i .m)) (lets k .d))
+      >>= λ u. give (Syntax.InfLet, u .0, solvedAndRight (kVar (tm (i .p .x))) (u .1), r .2 & u .2 & leaf))
   unfolding inferRule infLet
-  let-way k = begin-infer (i .m) (i .pre .rule) (infer-asked (i .ex) k .is) (lets k .is) refl
+  let-way k = begin-infer (i .m) (i .rule) (infer-asked (i .ex) k .is) (lets k .is) refl
 
-  pub let-asks : Premise (i .m) (i .pre .rule) _ _ (λ j k. let-way k) (i .g) (inferAsk (i .ex + 2))
+  pub let-asks : Premise (i .m) (i .rule) _ _ (λ j k. let-way k) (i .g) (inferAsk (i .p .first))
   let-asks = record { at = λ j k. ask-infer (infer-asked (i .ex) k .run) (lets k .first) }
 
-module _ {t : ℕ} (c : First 24 2 t) where
-  pub let-back : {j : Judgement} (k : At (c .on .on .pre .rule) j) → Returns (let-asks (c .on .on)) (c .call) k (c .r)
-  let-back k = returns (let-asks (c .on .on)) (c .call) (c .done) k
+module _ {t : ℕ} (c : Value t) where
+  pub let-back : {j : Judgement} (k : At (c .on .rule) j) → Returns (let-asks (c .on)) (c .call) k (c .r)
+  let-back k = returns (let-asks (c .on)) (c .call) (c .done) k
 
-  pub let-space : {x : tmvar.TmVar} {n : Entry} → EntryFrom (c .on .on .m) (Var x) (c .r .ty) n → Space (c .w) (c .r .st) (c .r .g) 1 × SmallEntry n
-  let-space en = let b = let-back (c .on .on .pre .rule .asks) in
+  pub let-space : {n : Entry} → EntryFrom (c .on .m) (Var (c .on .p .x)) (c .r .ty) n → Space (c .w) (c .r .st) (c .r .g) 1 × SmallEntry n
+  let-space en = let b = let-back (c .on .rule .asks) in
       (room-space (b .way .room) (c .r .g) 1 (b .run) (omega arith), entry-small en (ref-small (b .way .room) (b .den)))
 
 module _ {t : ℕ} (n : Bound t) where
-  let-var : {j : Judgement} (k : At (n .on .on .on .pre .rule) j) → tm (n .x) ≡ lets (n .on .on .on) k .x
-  let-var k = rw (n .name ∙ lets (n .on .on .on) k .name .is) refl
-
-  pub let-way₂ : {j : Judgement} (k : At (n .on .on .on .pre .rule) j)
-      → let i = n .on .on .on in let b = let-back (n .on) k in let v = lets i k in
+  pub let-way₂ : {j : Judgement} (k : At (n .on .on .rule) j)
+      → let i = n .on .on in let b = let-back (n .on) k in
       Way (i .q) (i .w) (n .w) (i .s) (n .o .st) (b .t & leaf) 0 (outcome (i .m) (i .s) j)
-      (judge (here (i .m)) (infer (b .Δ ▹ varBnd (v .x) (b .C) from here (i .m)) (v .d))
-      >>= λ u. give (Syntax.InfLet, u .0, solvedAndRight (kVar (v .x)) (u .1), b .t & u .2 & leaf))
+      (judge (here (i .m)) (infer (b .Δ ▹ varBnd (tm (i .p .x)) (b .C) from here (i .m)) (lets i k .d))
+      >>= λ u. give (Syntax.InfLet, u .0, solvedAndRight (kVar (tm (i .p .x))) (u .1), b .t & u .2 & leaf))
   let-way₂ k = grown (let-back (n .on) k .way) 0 (n .call .grown) (omega arith)
 
-  pub let-asks₂ : let i = n .on .on .on in Premise (i .m) (i .pre .rule) _ _ (λ j k. let-way₂ k) (n .o .g) (inferAsk (n .on .on .p))
+  pub let-asks₂ : let i = n .on .on in Premise (i .m) (i .rule) _ _ (λ j k. let-way₂ k) (n .o .g) (inferAsk (n .on .on .p .body))
   let-asks₂ = record {
     at = λ j k.
-        let i = n .on .on .on in let b = let-back (n .on) k in
-        ask-infer (rw (let-var k) at (n .call .run (b .run) (as-var (n .made) (b .den))))
-        (expr-next (i .pre .rule .room .base) (n .on .on .second) (lets i k .first) (lets i k .second));
+        let i = n .on .on in let b = let-back (n .on) k in
+        ask-infer (n .call .run (b .run) (as-var (n .made) (b .den))) (lets i k .body);
   }
 
   pub let-done : {w₃ w₄ : List ℕ} {y o : Step} {u : Answer}
-      → let i = n .on .on .on in Judged (i .m) (i .q) (n .w) w₃ (n .o .st) (n .o .g) (inferAsk (n .on .on .p)) y
-      → y ≡ Done u → KeepOut true w₃ w₄ u (kVar (tm (n .x))) (u .ty) 6 2 o → Ends i w₄ o
+      → let i = n .on .on in Judged (i .m) (i .q) (n .w) w₃ (n .o .st) (n .o .g) (inferAsk (n .on .on .p .body)) y
+      → y ≡ Done u → KeepOut true w₃ w₄ u (kVar (tm (i .p .x))) (u .ty) 6 2 o → Ends i w₄ o
   unfolding ruleNumber children kept
   let-done call d fin = record {
     run = λ j k.
         let b = returns let-asks₂ call d k in
-        finish Syntax.InfLet (rw (let-var k) at (fin .finished (n .on .on .on .q))) (b .run) (b .den) (b .way) (omega arith) refl refl (omega arith);
+        finish Syntax.InfLet (fin .finished (n .on .on .q)) (b .run) (b .den) (b .way) (omega arith) refl refl (omega arith);
   }
 
 -- ## Operators
@@ -228,15 +199,13 @@ right-den h d e = ⊎-elim (λ i. rw (i .0, i .1) d) (λ i. rw (i .0, i .1) e) h
 
 -- its rule is known
 pub record Operator (t : ℕ) : Type 0 where
-  pub on : Placed 26 2 t
-  pub n : ℕ
+  pub on : Begun BinOpOf t
   pub o : Sides
-  pub name : n ≡ getD (on .on .q) (on .on .ex + 1) 0
-  pub by : Operates n o
+  pub by : Operates (on .p .op) o
 
 -- how its left side is asked, with what comes of it
 abbrev pub Sided : {t : ℕ} → Operator t → List ℕ → Step → Type 0
-Sided c w z = let i = c .on .on in Judged (i .m) (i .q) (i .w) w (i .s) (i .g) (leftAsk (c .o .0) (i .ex + 2) (c .o .1)) z
+Sided c w z = let i = c .on in Judged (i .m) (i .q) (i .w) w (i .s) (i .g) (leftAsk (c .o .0) (i .p .left) (c .o .1)) z
 
 -- its left side came back
 pub record Left (t : ℕ) : Type 0 where
@@ -253,45 +222,40 @@ pub record Aimed (t : ℕ) : Type 0 where
   pub ty : ℕ
   pub picks : Picks (on .on .o .0) (on .r .ty) (on .on .o .1) ty
 
-module _ {t : ℕ} (i : Begun 26 t) where
-  pub op : {j : Judgement} (k : At (i .pre .rule) j) → BinOp (i .q) (i .ex) (infer-asked (i .ex) k .e)
-  op k = shape (i .pre) k
-
-  pub op-word : i .ex + 1 < length (i .q)
-  op-word = op (i .pre .rule .asks) .op .within
+module _ {t : ℕ} (i : Begun BinOpOf t) where
+  pub op : {j : Judgement} (k : At (i .rule) j) → IsBinOp (i .q) (i .ex) (i .p) (infer-asked (i .ex) k .e)
+  op k = i .parts .is (infer-asked (i .ex) k .at)
 
 module _ {t : ℕ} (c : Operator t) where
-  op-side : Den (c .on .on .q) (c .on .on .w) (c .on .on .s .top) (c .o .1) (c .by .A)
-  op-side = c .by .side (c .on .on .pre .rule .room .base)
+  op-side : Den (c .on .q) (c .on .w) (c .on .s .top) (c .o .1) (c .by .A)
+  op-side = c .by .side (c .on .rule .room .base)
 
-  pub op-way : {j : Judgement} (k : At (c .on .on .pre .rule) j)
-      → let i = c .on .on in
+  pub op-way : {j : Judgement} (k : At (c .on .rule) j)
+      → let i = c .on in
       Starts i j (infSides (judge (here (i .m))) (c .o .0) (c .by .r) (c .by .A) (c .by .C) (infer-asked (i .ex) k .Γ) (op i k .f) (op i k .d))
   unfolding inferRule
   op-way k =
-      let i = c .on .on in let v = op i k in let a = infer-asked (i .ex) k in
-      let e : c .n ≡ v .o = c .name ∙ v .op .is in
-      begin-infer (i .m) (i .pre .rule) (a .is) (v .is) (rw (← e) (c .by .is (omega (arith, v .some)) (here (i .m)) (judge (here (i .m))) (a .Γ) (v .f) (v .d)))
+      let i = c .on in let v = op i k in let a = infer-asked (i .ex) k in
+      begin-infer (i .m) (i .rule) (a .is) (v .is) (c .by .is (v .some) (here (i .m)) (judge (here (i .m))) (a .Γ) (v .f) (v .d))
 
-  pub op-asks : let i = c .on .on in Premise (i .m) (i .pre .rule) _ _ (λ j k. op-way k) (i .g) (leftAsk (c .o .0) (i .ex + 2) (c .o .1))
-  op-asks = record { at = λ j k. left-asks (c .o .0) (infer-asked (c .on .on .ex) k .run) (op (c .on .on) k .first) op-side }
+  pub op-asks : let i = c .on in Premise (i .m) (i .rule) _ _ (λ j k. op-way k) (i .g) (leftAsk (c .o .0) (i .p .left) (c .o .1))
+  op-asks = record { at = λ j k. left-asks (c .o .0) (infer-asked (c .on .ex) k .run) (op (c .on) k .left) op-side }
 
 module _ {t : ℕ} (l : Left t) where
-  pub op-back : {j : Judgement} (k : At (l .on .on .on .pre .rule) j) → Returns (op-asks (l .on)) (l .call) k (l .r)
+  pub op-back : {j : Judgement} (k : At (l .on .on .rule) j) → Returns (op-asks (l .on)) (l .call) k (l .r)
   op-back k = returns (op-asks (l .on)) (l .call) (l .done) k
 
 module _ {t : ℕ} (a : Aimed t) where
-  pub op-asks₂ : let l = a .on in let i = l .on .on .on in
-      Premise (i .m) (i .pre .rule) _ _ (λ j k. op-back l k .way) (l .r .g) (checkAsk (l .on .on .p) (a .ty))
+  pub op-asks₂ : let l = a .on in let i = l .on .on in
+      Premise (i .m) (i .rule) _ _ (λ j k. op-back l k .way) (l .r .g) (checkAsk (l .on .on .p .right) (a .ty))
   op-asks₂ = record {
     at = λ j k.
-        let c = a .on .on in let b = op-back (a .on) k in let v = op (c .on .on) k in
-        ask-check (b .run) (expr-next (c .on .on .pre .rule .room .base) (c .on .second) (v .first) (v .second))
-        (right-den (a .picks) (b .den) (b .stays (op-side c)));
+        let c = a .on .on in let b = op-back (a .on) k in
+        ask-check (b .run) (op (c .on) k .right) (right-den (a .picks) (b .den) (b .stays (op-side c)));
   }
 
   pub op-done : {w₂ : List ℕ} {y x : Step} {v : Answer}
-      → let l = a .on in let i = l .on .on .on in Judged (i .m) (i .q) (l .w) w₂ (l .r .st) (l .r .g) (checkAsk (l .on .on .p) (a .ty)) y
+      → let l = a .on in let i = l .on .on in Judged (i .m) (i .q) (l .w) w₂ (l .r .st) (l .r .g) (checkAsk (l .on .on .p .right) (a .ty)) y
       → y ≡ Done v → PlainOut (v .st) (v .g) (l .on .o .2) (l .on .o .3) 2 x → Ends i w₂ x
   unfolding children
   op-done call d fin = record {

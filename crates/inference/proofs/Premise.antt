@@ -3,7 +3,7 @@ use mathlib.Core.Path.{_≡_, refl}
 use mathlib.Core.List.{List}
 use Prim.Native.Nat.{ℕ, _+_, _*_, _<_}
 use native.Mathlib.Omega.{arith}
-use Rattle.definition.specs.Syntax.{Ty, Expr, Ctx, Judgement, infer, check, inferApp, Trees}
+use Rattle.definition.specs.Syntax.{Ty, Expr, Ctx, Judgement, infer, check, inferApp, Trees, leaf}
 use Rattle.definition.specs.Run.{Out, M, _>>=_}
 use Rattle.definition.specs.Rules.{Fired, Result, judge}
 use Rattle.layout.specs.Places.{ExprAt}
@@ -26,6 +26,27 @@ use Rattle.inference.proofs.Starting.{outcome}
 -- how a rule may be asked
 abbrev pub At : {q w : List ℕ} {s : State} {g : Span} {a : Ask} → RulePre q w s g a → Judgement → Type 0
 At {q} {w} {s} {g} {a} pre j = Asks q w (s .top) g a j
+
+-- a rule of infer is asked, and the parts p of its expression are known; t is the cycle's measure
+pub record Begun {O : Type 0} (Of : List ℕ → ℕ → O → Type 0) (t : ℕ) : Type 0 where
+  pub m : Here
+  pub q : List ℕ
+  pub w : List ℕ
+  pub s : State
+  pub g : Span
+  pub ex : ℕ
+  pub rule : RulePre q w s g (inferAsk ex)
+  pub falls : 3 * s .left + 1 ≡ t
+  pub p : O
+  pub parts : Of q ex p
+
+-- how it begins, and how it ends
+module _ {O : Type 0} {Of : List ℕ → ℕ → O → Type 0} {t : ℕ} (i : Begun Of t) where
+  abbrev pub Starts : Judgement → M Fired → Type 0
+  Starts j f = Way (i .q) (i .w) (i .w) (i .s) (i .s) leaf (20 + 28 * i .g .n) (outcome (i .m) (i .s) j) f
+
+  abbrev pub Ends : List ℕ → Step → Type 0
+  Ends w′ z = Fires (i .m) (i .q) (i .w) w′ (i .s) (i .g) (inferAsk (i .ex)) z
 
 -- on the way y the judgement i is asked, by the code as b
 pub record Asked (m : Here) {q w w₁ : List ℕ} {s s₁ : State} {ts : Trees} {n : ℕ} {R : Out Fired} (i : Judgement) (f : Result → M Fired)

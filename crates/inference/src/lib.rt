@@ -4,14 +4,11 @@ use judging::Entered;
 use judging::Here;
 use judging::Step;
 use layout::BOOL;
-use layout::ENDS;
 use layout::INT;
 use layout::Key;
 use layout::Made;
 use layout::Span;
 use layout::State;
-use layout::TmVar;
-use layout::TyVar;
 use layout::word;
 use rules::Mid;
 ghost use Rattle.judging.specs.Asking.{inferAsk, checkAsk, appAsk, JudgePre, RulePre};
@@ -66,15 +63,14 @@ fn infer_ann(q: &[u32], work: &mut [u32], h: Here, st: State, g: Span, ex: usize
     requires { ⌜ InferPre (now q) (now work) st g ex 21 ⌝ }
     ensures { λ z. ⌜ Fires h (now (q .entry)) (now (work .entry)) (now (work .exit)) st g (inferAsk ex) z ⌝ }
 {
-    let e = ex + 1;
-    let a = word(work, ENDS + e);
-    let z = check(q, work, h, st, g, e, a);
+    let p = expressions::ann_of(q, work, ex);
+    let z = check(q, work, h, st, g, p.e, p.ty);
     let Step::Done(r) = z else {
         return z;
     };
     let st1 = r.st;
     let g1 = r.g;
-    rules::plain_out(st1, g1, a, 12, 1)
+    rules::plain_out(st1, g1, p.ty, 12, 1)
 }
 
 // InfLam: the body is checked against a fresh unknown; solved entries of left, then right.
@@ -82,21 +78,16 @@ fn infer_abs(q: &[u32], work: &mut [u32], h: Here, st: State, g: Span, ex: usize
     requires { ⌜ InferPre (now q) (now work) st g ex 18 ⌝ }
     ensures { λ z. ⌜ Fires h (now (q .entry)) (now (work .entry)) (now (work .exit)) st g (inferAsk ex) z ⌝ }
 {
-    let at = ex + 1;
-    let a = ex + 2;
-    let name = q[at];
-    let x = TmVar(name);
-    let body = word(work, ENDS + a);
-    let o = rules::lam_in(q, work, h, st, g, x, a);
+    let p = expressions::abs_of(q, work, ex);
+    let x = p.x;
+    let o = rules::lam_in(q, work, h, st, g, x, p.ty);
     let st1 = o.st;
     let g1 = o.g;
-    let b = o.b;
-    let ty = o.ty;
-    let z = check(q, work, h, st1, g1, body, b);
+    let z = check(q, work, h, st1, g1, p.body, o.b);
     let Step::Done(r) = z else {
         return z;
     };
-    rules::keep_out(work, true, r, Key::Var(x), ty, 4, 1)
+    rules::keep_out(work, true, r, Key::Var(x), o.ty, 4, 1)
 }
 
 // InfApp: the function's type, with the context applied, takes the argument.
@@ -104,9 +95,8 @@ fn infer_application(q: &[u32], work: &mut [u32], h: Here, st: State, g: Span, e
     requires { ⌜ InferPre (now q) (now work) st g ex 17 ⌝ }
     ensures { λ z. ⌜ Fires h (now (q .entry)) (now (work .entry)) (now (work .exit)) st g (inferAsk ex) z ⌝ }
 {
-    let e = ex + 1;
-    let d = word(work, ENDS + e);
-    let z = infer(q, work, h, st, g, e);
+    let p = expressions::app_of(q, work, ex);
+    let z = infer(q, work, h, st, g, p.func);
     let Step::Done(r) = z else {
         return z;
     };
@@ -116,7 +106,7 @@ fn infer_application(q: &[u32], work: &mut [u32], h: Here, st: State, g: Span, e
     let Made::Done(st2, a2) = substitution::apply_ctx_type(q, work, st1, g1, a) else {
         return Step::Spent;
     };
-    let y = infer_app(q, work, h, st2, g1, a2, d);
+    let y = infer_app(q, work, h, st2, g1, a2, p.arg);
     let Step::Done(u) = y else {
         return y;
     };
@@ -131,15 +121,13 @@ fn infer_tabs(q: &[u32], work: &mut [u32], h: Here, st: State, g: Span, ex: usiz
     requires { ⌜ InferPre (now q) (now work) st g ex 20 ⌝ }
     ensures { λ z. ⌜ Fires h (now (q .entry)) (now (work .entry)) (now (work .exit)) st g (inferAsk ex) z ⌝ }
 {
-    let at = ex + 1;
-    let body = ex + 2;
-    let name = q[at];
-    let a = TyVar(name);
+    let p = expressions::tabs_of(q, work, ex);
+    let a = p.a;
     let e = judging::entry(h, Key::TVar(a), INT);
     let o = contexts::push(work, st, g, e);
     let st1 = o.st;
     let g1 = o.g;
-    let z = infer(q, work, h, st1, g1, body);
+    let z = infer(q, work, h, st1, g1, p.body);
     let Step::Done(r) = z else {
         return z;
     };
@@ -157,16 +145,15 @@ fn infer_tapp(q: &[u32], work: &mut [u32], h: Here, st: State, g: Span, ex: usiz
     requires { ⌜ InferPre (now q) (now work) st g ex 19 ⌝ }
     ensures { λ z. ⌜ Fires h (now (q .entry)) (now (work .entry)) (now (work .exit)) st g (inferAsk ex) z ⌝ }
 {
-    let e = ex + 1;
-    let b = word(work, ENDS + e);
-    let z = infer(q, work, h, st, g, e);
+    let p = expressions::tapp_of(q, work, ex);
+    let z = infer(q, work, h, st, g, p.e);
     let Step::Done(r) = z else {
         return z;
     };
     let st1 = r.st;
     let g1 = r.g;
     let a = r.ty;
-    let mid = rules::instantiate(q, work, st1, a, b);
+    let mid = rules::instantiate(q, work, st1, a, p.ty);
     match mid {
         Mid::On(st2, t, _) => rules::plain_out(st2, g1, t, 14, 1),
         Mid::End(y) => y,
@@ -178,12 +165,9 @@ fn infer_let(q: &[u32], work: &mut [u32], h: Here, st: State, g: Span, ex: usize
     requires { ⌜ InferPre (now q) (now work) st g ex 24 ⌝ }
     ensures { λ z. ⌜ Fires h (now (q .entry)) (now (work .entry)) (now (work .exit)) st g (inferAsk ex) z ⌝ }
 {
-    let at = ex + 1;
-    let e = ex + 2;
-    let name = q[at];
-    let x = TmVar(name);
-    let d = word(work, ENDS + e);
-    let z = infer(q, work, h, st, g, e);
+    let p = expressions::let_of(q, work, ex);
+    let x = p.x;
+    let z = infer(q, work, h, st, g, p.first);
     let Step::Done(r) = z else {
         return z;
     };
@@ -194,7 +178,7 @@ fn infer_let(q: &[u32], work: &mut [u32], h: Here, st: State, g: Span, ex: usize
     let o = contexts::push(work, st1, g1, n);
     let st2 = o.st;
     let g2 = o.g;
-    let y = infer(q, work, h, st2, g2, d);
+    let y = infer(q, work, h, st2, g2, p.body);
     let Step::Done(u) = y else {
         return y;
     };
@@ -207,23 +191,21 @@ fn infer_if(q: &[u32], work: &mut [u32], h: Here, st: State, g: Span, ex: usize)
     requires { ⌜ InferPre (now q) (now work) st g ex 25 ⌝ }
     ensures { λ z. ⌜ Fires h (now (q .entry)) (now (work .entry)) (now (work .exit)) st g (inferAsk ex) z ⌝ }
 {
-    let e = ex + 1;
-    let d = word(work, ENDS + e);
-    let f = word(work, ENDS + d);
-    let z = check(q, work, h, st, g, e, BOOL);
+    let p = expressions::if_of(q, work, ex);
+    let z = check(q, work, h, st, g, p.cond, BOOL);
     let Step::Done(r) = z else {
         return z;
     };
     let st1 = r.st;
     let g1 = r.g;
-    let y = infer(q, work, h, st1, g1, d);
+    let y = infer(q, work, h, st1, g1, p.yes);
     let Step::Done(u) = y else {
         return y;
     };
     let st2 = u.st;
     let g2 = u.g;
     let a = u.ty;
-    let x = infer(q, work, h, st2, g2, f);
+    let x = infer(q, work, h, st2, g2, p.no);
     let Step::Done(v) = x else {
         return x;
     };
@@ -260,15 +242,12 @@ fn infer_binop(q: &[u32], work: &mut [u32], h: Here, st: State, g: Span, ex: usi
     requires { ⌜ InferPre (now q) (now work) st g ex 26 ⌝ }
     ensures { λ z. ⌜ Fires h (now (q .entry)) (now (work .entry)) (now (work .exit)) st g (inferAsk ex) z ⌝ }
 {
-    let at = ex + 1;
-    let e = ex + 2;
-    let k = word(q, at);
-    let d = word(work, ENDS + e);
-    let Sides(infers, a, c, rule) = operator(k);
+    let p = expressions::binop_of(q, work, ex);
+    let Sides(infers, a, c, rule) = operator(p.op);
     let z = if infers {
-        infer(q, work, h, st, g, e)
+        infer(q, work, h, st, g, p.left)
     } else {
-        check(q, work, h, st, g, e, a)
+        check(q, work, h, st, g, p.left, a)
     };
     let Step::Done(r) = z else {
         return z;
@@ -276,7 +255,7 @@ fn infer_binop(q: &[u32], work: &mut [u32], h: Here, st: State, g: Span, ex: usi
     let st1 = r.st;
     let g1 = r.g;
     let b = if infers { r.ty } else { a };
-    let y = check(q, work, h, st1, g1, d, b);
+    let y = check(q, work, h, st1, g1, p.right, b);
     let Step::Done(u) = y else {
         return y;
     };
@@ -328,21 +307,18 @@ fn chk_lam(q: &[u32], work: &mut [u32], h: Here, st: State, g: Span, ex: usize, 
     ensures { λ z. ⌜ Fires h (now (q .entry)) (now (work .entry)) (now (work .exit)) st g (checkAsk ex ty) z ⌝ }
 {
     let top = st.top;
-    let at = ex + 1;
-    let a = ex + 2;
-    let name = q[at];
-    let x = TmVar(name);
-    let body = word(work, ENDS + a);
+    let l = expressions::abs_of(q, work, ex);
+    let x = l.x;
     let p = types::left_of(q, work, top, ty);
     let c = types::right_of(q, work, top, ty);
-    let mid = rules::parameter(q, work, h, st, g, a, p);
+    let mid = rules::parameter(q, work, h, st, g, l.ty, p);
     match mid {
         Mid::On(st1, _, _) => {
             let e = judging::entry(h, Key::Var(x), p);
             let o = contexts::push(work, st1, g, e);
             let st2 = o.st;
             let g2 = o.g;
-            let z = check(q, work, h, st2, g2, body, c);
+            let z = check(q, work, h, st2, g2, l.body, c);
             let Step::Done(r) = z else {
                 return z;
             };

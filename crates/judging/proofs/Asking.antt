@@ -1,12 +1,13 @@
 -- What is asked, taken apart: a judgement that is asked as an inference is one, and so for the others.
 use mathlib.Core.Path.{_≡_, refl}
 use mathlib.Core.List.{List, [], _∷_}
-use Prim.Native.Nat.{ℕ, zero, suc, _-_, _<_, _^_}
+use Prim.Native.Nat.{ℕ, _-_, _<_, _^_}
 use native.Mathlib.Omega.{arith}
 use Rattle.definition.specs.Syntax.{TyVar, Ty, etvar, Expr, Ctx, Side, onL, onR, Judgement, infer, check, inferApp, subtype, inst}
 use Rattle.layout.specs.Places.{ExprAt}
 use Rattle.layout.specs.Denotes.{Den, Run}
 use Rattle.layout.specs.declared.Span.{Span}
+use Rattle.layout.proofs.Numbered.{nth}
 use Rattle.judging.specs.declared.Ask.{Ask}
 use Rattle.judging.specs.Asking.{Asks, as-infer, as-check, as-app, as-sub, as-inst-l, as-inst-r, inferAsk, checkAsk, appAsk, subAsk, instAsk, Small}
 
@@ -64,12 +65,6 @@ pub record InstAsked (q w : List ℕ) (t : ℕ) (g : Span) (s : Side) (a b : ℕ
   pub run : Run q w t (g .at) (g .n) Γ
   pub unknown : Den q w t a (etvar x)
   pub den : Den q w t b T
-
--- one type of several, by its number
-abbrev pub nth : List {1} (Type 0) → ℕ → Type 0
-nth [] n = ⊥
-nth (T ∷ Ts) zero = T
-nth (T ∷ Ts) (suc n) = nth Ts n
 
 -- what a judgement of kind k is
 abbrev Asked : List ℕ → List ℕ → ℕ → Span → Ask → Judgement → ℕ → Type 0

@@ -3,3 +3,4 @@ pub mod Words
 pub mod Places
 pub mod Denotes
 pub mod States
+pub mod Numbered

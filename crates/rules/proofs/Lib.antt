@@ -1,5 +1,4 @@
 -- Laws of what rules do before, between and after their judgements.
-pub mod Forms
 pub mod TypeForms
 pub mod Standing
 pub mod Choices

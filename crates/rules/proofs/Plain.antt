@@ -10,12 +10,16 @@ use Rattle.definition.specs.Run.{done, fail, give, refuse}
 use Rattle.definition.specs.Contexts.{kVar}
 use Rattle.definition.specs.Rules.{closes, infVar, inferRule, checkRule, tyCode, rule, judge}
 use Rattle.definition.specs.Reply.{errorCode, errorAt}
+use Rattle.layout.specs.Names.{tm}
 use Rattle.layout.specs.Denotes.{Den, Run}
 use Rattle.layout.specs.Room.{Room}
 use Rattle.layout.specs.declared.Span.{Span}
 use Rattle.layout.specs.declared.State.{State}
+use Rattle.layout.specs.declared.TmVar.{TmVar}
 use Rattle.layout.proofs.Denotes.{int-den, bool-den}
 use Rattle.types.proofs.Codes.{base-case}
+use Rattle.expressions.specs.Forms.{VarOf}
+use Rattle.expressions.proofs.Forms.{IsLitInt, IsLitBool, told}
 use Rattle.contexts.specs.Search.{Split}
 use Rattle.judging.specs.declared.Ask.{Ask}
 use Rattle.judging.specs.declared.Bad.{Bad}
@@ -28,8 +32,7 @@ use Rattle.judging.proofs.Asking.{infer-asked, check-asked, app-asked}
 use Rattle.judging.proofs.Nodes.{asks-run}
 use Rattle.judging.proofs.Chain.{room-within, begin, refuses, fires}
 use Rattle.rules.specs.Taking.{InferPre, Choice, lit-int, lit-bool, lam, all, sub, CheckPre, RefusePre}
-use Rattle.rules.proofs.Standing.{room-less}
-use Rattle.rules.proofs.Forms.{Var, LitInt, LitBool, form}
+use Rattle.rules.proofs.Standing.{room-less, infer-shaped, check-shaped}
 use Rattle.rules.proofs.Choices.{infers, checks, applies, chk-int, chk-bool, no-app}
 
 -- ## An answer, or an error, that leaves all as it is
@@ -82,7 +85,7 @@ module _ {m : Here} {q w : List ℕ} {s : State} {g : Span} {ex : ℕ} where
       answers (pre .rule) 2048 Syntax.InfLitInt refl
       (λ j k.
       let v = infer-asked ex k in
-      let f : LitInt ex (v .e) = form 22 (pre .code) (v .at) in
+      let f : IsLitInt ex (v .e) = told (infer-shaped pre) (v .at) in
       record { C = int; Γ = v .Γ; run = v .run; den = int-den (pre .rule .room .base); is = infers (here m) _ _ (v .is) (f .is) refl })
 
   pub lit-bool-done : InferPre q w s g ex 23 → Fires m q w w s g (inferAsk ex) (Done (record { st = s; g = g; ty = 2049; rule = 3; kids = 0; charge = 0 }))
@@ -91,7 +94,7 @@ module _ {m : Here} {q w : List ℕ} {s : State} {g : Span} {ex : ℕ} where
       answers (pre .rule) 2049 Syntax.InfLitBool refl
       (λ j k.
       let v = infer-asked ex k in
-      let f : LitBool ex (v .e) = form 23 (pre .code) (v .at) in
+      let f : IsLitBool ex (v .e) = told (infer-shaped pre) (v .at) in
       record { C = bool; Γ = v .Γ; run = v .run; den = bool-den (pre .rule .room .base); is = infers (here m) _ _ (v .is) (f .is) refl })
 
   pub check-lit-done : {ty r : ℕ} → CheckPre q w s g ex ty r → r < 19
@@ -104,7 +107,7 @@ module _ {m : Here} {q w : List ℕ} {s : State} {g : Span} {ex : ℕ} where
           answers (pre .rule) 2048 Syntax.ChkLitInt i
           (λ j k.
           let v = check-asked ex ty k in
-          let f : LitInt ex (v .e) = form 22 (pre .code ∙ e) (v .at) in
+          let f : IsLitInt ex (v .e) = told (check-shaped pre e) (v .at) in
           let b : v .T ≡ int = is-int (v .T) (sym (pre .tag .is (v .T) (v .den)) ∙ t) in
           let c : checkRule (here m) (judge (here m)) (v .Γ) (litInt ex (f .l) (f .h)) int ≡ closes Syntax.ChkLitInt (v .Γ) = chk-int _ _ _ ex (f .l) (f .h) in
           record { C = int; Γ = v .Γ; run = v .run; den = int-den (pre .rule .room .base); is = checks (here m) _ _ (v .is) (f .is) b (rw c refl) })
@@ -112,7 +115,7 @@ module _ {m : Here} {q w : List ℕ} {s : State} {g : Span} {ex : ℕ} where
           answers (pre .rule) 2048 Syntax.ChkLitBool i
           (λ j k.
           let v = check-asked ex ty k in
-          let f : LitBool ex (v .e) = form 23 (pre .code ∙ e) (v .at) in
+          let f : IsLitBool ex (v .e) = told (check-shaped pre e) (v .at) in
           let b : v .T ≡ bool = is-bool (v .T) (sym (pre .tag .is (v .T) (v .den)) ∙ t) in
           let c : checkRule (here m) (judge (here m)) (v .Γ) (litBool ex (f .b)) bool ≡ closes Syntax.ChkLitBool (v .Γ) = chk-bool _ _ _ ex (f .b) in
           record { C = int; Γ = v .Γ; run = v .run; den = int-den (pre .rule .room .base); is = checks (here m) _ _ (v .is) (f .is) b (rw c refl) })
@@ -138,35 +141,25 @@ module _ {m : Here} {q w : List ℕ} {s : State} {g : Span} {ex : ℕ} where
 
 -- ## A variable
 
-module _ {q w : List ℕ} {s : State} {g : Span} {ex : ℕ} (pre : InferPre q w s g ex 16) where
-  named : {j : Judgement} (k : Asks q w (s .top) g (inferAsk ex) j) → Var q ex (infer-asked ex k .e)
-  named k = form 16 (pre .code) (infer-asked ex k .at)
+module _ {m : Here} {q w : List ℕ} {s : State} {g : Span} {ex : ℕ} (pre : InferPre q w s g ex 16) {x : TmVar} (named : VarOf q ex x) {i : ℕ} (f : Split w g (kVar (tm x)) i) where
+  pub var-refused : i ≡ g .n → Fires m q w w s g (inferAsk ex) (Fail (record { st = s; code = 11; name = x .0; shown = NoType; charge = 0 }))
+  unfolding errorCode errorAt inferRule infVar refuse
+  var-refused n =
+      errors (pre .rule)
+      (λ j k.
+      let v = infer-asked ex k in
+      record {
+        e = unboundVariable (tm x);
+        failed = record { base = pre .rule .room .base; within = room-within (pre .rule .room); code = refl; name = refl; shown = no-type; left = refl };
+        is = infers (here m) _ _ (v .is) (named .is (v .at)) (rw (f .missing n (v .run) .find-is) refl);
+      })
 
-  pub var-within : ex + 1 < length q
-  var-within = named (pre .rule .asks) .name .within
-
-  called : {x : ℕ} → x ≡ getD q (ex + 1) 0 → {j : Judgement} (k : Asks q w (s .top) g (inferAsk ex) j) → named k .x ≡ record { number = x }
-  called e k = rw (e ∙ named k .name .is) refl
-
-  module _ {m : Here} {x i : ℕ} (e : x ≡ getD q (ex + 1) 0) (f : Split w g (kVar (record { number = x })) i) where
-    pub var-refused : i ≡ g .n → Fires m q w w s g (inferAsk ex) (Fail (record { st = s; code = 11; name = x; shown = NoType; charge = 0 }))
-    unfolding errorCode errorAt inferRule infVar refuse
-    var-refused n =
-        errors (pre .rule)
-        (λ j k.
-        let v = infer-asked ex k in
-        record {
-          e = unboundVariable (record { number = x });
-          failed = record { base = pre .rule .room .base; within = room-within (pre .rule .room); code = refl; name = refl; shown = no-type; left = refl };
-          is = infers (here m) _ _ (v .is) (named k .is) (rw (called e k, f .missing n (v .run) .find-is) refl);
-        })
-
-    pub var-done : {ty : ℕ} → i < g .n → ty ≡ getD w (g .at + 4 * i + 2) 0
-        → Fires m q w w s g (inferAsk ex) (Done (record { st = s; g = g; ty = ty; rule = 1; kids = 0; charge = 0 }))
-    unfolding ruleNumber inferRule infVar give
-    var-done {ty} n t =
-        answers (pre .rule) ty Syntax.InfVar refl
-        (λ j k.
-        let v = infer-asked ex k in
-        let o = f .found n (v .run) in
-        record { C = o .ty; Γ = v .Γ; run = v .run; den = rw t (o .den); is = infers (here m) _ _ (v .is) (named k .is) (rw (called e k, o .find-is) refl) })
+  pub var-done : {ty : ℕ} → i < g .n → ty ≡ getD w (g .at + 4 * i + 2) 0
+      → Fires m q w w s g (inferAsk ex) (Done (record { st = s; g = g; ty = ty; rule = 1; kids = 0; charge = 0 }))
+  unfolding ruleNumber inferRule infVar give
+  var-done {ty} n t =
+      answers (pre .rule) ty Syntax.InfVar refl
+      (λ j k.
+      let v = infer-asked ex k in
+      let o = f .found n (v .run) in
+      record { C = o .ty; Γ = v .Γ; run = v .run; den = rw t (o .den); is = infers (here m) _ _ (v .is) (named .is (v .at)) (rw (o .find-is) refl) })

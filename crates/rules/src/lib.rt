@@ -75,15 +75,14 @@ pub fn infer_var(q: &[u32], work: &[u32], h: Here, st: State, g: Span, ex: usize
     requires { ⌜ InferPre (now q) (now work) st g ex 16 ⌝ }
     ensures { λ z. ⌜ Fires h (now (q .entry)) (now (work .entry)) (now (work .entry)) st g (inferAsk ex) z ⌝ }
 {
-    let at = ex + 1;
-    let x = q[at];
+    let x = expressions::var_of(q, work, ex);
     let n = g.n;
-    let i = contexts::find(work, g, Key::Var(TmVar(x)));
+    let i = contexts::find(work, g, Key::Var(x));
     if i == n {
         return Step::Fail(Bad {
             st: st,
             code: 11,
-            name: x,
+            name: x.0,
             shown: Shown::NoType,
             charge: 0,
         });

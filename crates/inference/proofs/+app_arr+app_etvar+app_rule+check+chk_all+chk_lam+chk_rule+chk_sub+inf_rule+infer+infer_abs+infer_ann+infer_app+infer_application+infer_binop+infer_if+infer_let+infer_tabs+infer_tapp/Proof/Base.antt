@@ -61,6 +61,14 @@ use Rattle.inference.proofs.infer_tapp.Reads as infer-tapp
 use Rattle.inference.proofs.infer_tapp.Kinds as infer-tapp-kinds
 use Rattle.inference.proofs.+app_arr+app_etvar+app_rule+check+chk_all+chk_lam+chk_rule+chk_sub+inf_rule+infer+infer_abs+infer_ann+infer_app+infer_application+infer_binop+infer_if+infer_let+infer_tabs+infer_tapp.Lts-infer_tapp as infer-tapp-lts
 use Rattle.contexts.proofs.push.Reads as push-reads
+use Rattle.expressions.proofs.abs_of.Reads as abs-of-reads
+use Rattle.expressions.proofs.ann_of.Reads as ann-of-reads
+use Rattle.expressions.proofs.app_of.Reads as app-of-reads
+use Rattle.expressions.proofs.binop_of.Reads as binop-of-reads
+use Rattle.expressions.proofs.if_of.Reads as if-of-reads
+use Rattle.expressions.proofs.let_of.Reads as let-of-reads
+use Rattle.expressions.proofs.tabs_of.Reads as tabs-of-reads
+use Rattle.expressions.proofs.tapp_of.Reads as tapp-of-reads
 use Rattle.inference.proofs.operator.Reads as operator-reads
 use Rattle.inference.proofs.subtype_applied.Reads as subtype-applied-reads
 use Rattle.judging.proofs.enter.Reads as enter-reads
@@ -346,8 +354,8 @@ chk-all-claims t = (
 
 abbrev pub chk-lam-claims : ℕ → chk-lam-lts.Claims
 chk-lam-claims t = (
-  word-reads.Asked,
-  word-reads.Learnt,
+  abs-of-reads.Asked,
+  abs-of-reads.Learnt,
   left-of-reads.Asked,
   left-of-reads.Learnt,
   right-of-reads.Asked,
@@ -404,8 +412,8 @@ infer-claims t = (
 
 abbrev pub infer-abs-claims : ℕ → infer-abs-lts.Claims
 infer-abs-claims t = (
-  word-reads.Asked,
-  word-reads.Learnt,
+  abs-of-reads.Asked,
+  abs-of-reads.Learnt,
   lam-in-reads.Asked,
   lam-in-reads.Learnt,
   check-below t,
@@ -416,8 +424,8 @@ infer-abs-claims t = (
 
 abbrev pub infer-ann-claims : ℕ → infer-ann-lts.Claims
 infer-ann-claims t = (
-  word-reads.Asked,
-  word-reads.Learnt,
+  ann-of-reads.Asked,
+  ann-of-reads.Learnt,
   check-below t,
   check.Post,
   plain-out-reads.Asked,
@@ -436,8 +444,8 @@ infer-app-claims t = (
 
 abbrev pub infer-application-claims : ℕ → infer-application-lts.Claims
 infer-application-claims t = (
-  word-reads.Asked,
-  word-reads.Learnt,
+  app-of-reads.Asked,
+  app-of-reads.Learnt,
   infer-below t,
   infer.Post,
   apply-ctx-type-reads.Asked,
@@ -450,8 +458,8 @@ infer-application-claims t = (
 
 abbrev pub infer-binop-claims : ℕ → infer-binop-lts.Claims
 infer-binop-claims t = (
-  word-reads.Asked,
-  word-reads.Learnt,
+  binop-of-reads.Asked,
+  binop-of-reads.Learnt,
   operator-reads.Asked,
   operator-reads.Learnt,
   infer-below t,
@@ -464,8 +472,8 @@ infer-binop-claims t = (
 
 abbrev pub infer-if-claims : ℕ → infer-if-lts.Claims
 infer-if-claims t = (
-  word-reads.Asked,
-  word-reads.Learnt,
+  if-of-reads.Asked,
+  if-of-reads.Learnt,
   check-below t,
   check.Post,
   infer-below t,
@@ -478,8 +486,8 @@ infer-if-claims t = (
 
 abbrev pub infer-let-claims : ℕ → infer-let-lts.Claims
 infer-let-claims t = (
-  word-reads.Asked,
-  word-reads.Learnt,
+  let-of-reads.Asked,
+  let-of-reads.Learnt,
   infer-below t,
   infer.Post,
   entry-reads.Asked,
@@ -520,6 +528,8 @@ inf-rule-claims t = (
 
 abbrev pub infer-tabs-claims : ℕ → infer-tabs-lts.Claims
 infer-tabs-claims t = (
+  tabs-of-reads.Asked,
+  tabs-of-reads.Learnt,
   entry-reads.Asked,
   entry-reads.Learnt,
   push-reads.Asked,
@@ -534,8 +544,8 @@ infer-tabs-claims t = (
 
 abbrev pub infer-tapp-claims : ℕ → infer-tapp-lts.Claims
 infer-tapp-claims t = (
-  word-reads.Asked,
-  word-reads.Learnt,
+  tapp-of-reads.Asked,
+  tapp-of-reads.Learnt,
   infer-below t,
   infer.Post,
   instantiate-reads.Asked,

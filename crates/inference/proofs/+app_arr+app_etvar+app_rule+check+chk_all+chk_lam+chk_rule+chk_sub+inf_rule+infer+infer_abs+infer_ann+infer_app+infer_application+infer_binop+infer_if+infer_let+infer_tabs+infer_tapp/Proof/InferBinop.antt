@@ -3,24 +3,23 @@ use borrow.Author.Needs.{needs}
 use Prim.Native.Nat.{ℕ}
 use mathlib.Core.Logic.{⊎-elim, inl, inr}
 use Rattle.definition.specs.Syntax.{pick}
-use Rattle.inference.proofs.InferTwo.{Begun, Placed, Operator, Sided, Left, Aimed, op-word, op-done, op-asks, op-asks₂}
+use Rattle.expressions.specs.Forms.{BinOpOf}
+use Rattle.rules.proofs.Standing.{infer-shaped}
+use Rattle.inference.proofs.InferTwo.{Operator, Sided, Left, Aimed, op-done, op-asks, op-asks₂}
 use Rattle.judging.proofs.Chain.{as-long}
-use Rattle.inference.proofs.Premise.{unless, may-ask}
-use Rattle.inference.proofs.Starting.{table}
+use Rattle.inference.proofs.Premise.{Begun, unless, may-ask}
 use Rattle.inference.proofs.infer_binop.Reads as infer-binop
 use Rattle.inference.proofs.+app_arr+app_etvar+app_rule+check+chk_all+chk_lam+chk_rule+chk_sub+inf_rule+infer+infer_abs+infer_ann+infer_app+infer_application+infer_binop+infer_if+infer_let+infer_tabs+infer_tapp.Lts-infer_binop as infer-binop-lts
 use Rattle.inference.proofs.+app_arr+app_etvar+app_rule+check+chk_all+chk_lam+chk_rule+chk_sub+inf_rule+infer+infer_abs+infer_ann+infer_app+infer_application+infer_binop+infer_if+infer_let+infer_tabs+infer_tapp.Proof.Base.{infer-binop-at, infer-binop-claims}
 
 module _ (t : ℕ) where
-  -- what is known as it starts, with the right side's place, and where the left side is asked
-  abbrev on : infer-binop-lts.Start (infer-binop-claims t) (infer-binop-at t) infer-binop.Post → Begun 26 t
-  on c = record { m = c .args .h; q = _; w = _; s = _; g = _; ex = _; pre = c .pre .1; falls = c .pre .0 }
-
-  abbrev placed : infer-binop-lts.After-word2 (infer-binop-claims t) (infer-binop-at t) infer-binop.Post → Placed 26 2 t
-  placed c = record { on = on (search); p = _; second = c .word2 .ensures .0 }
+  -- what is known of its parts, and where the left side is asked
+  abbrev begun : infer-binop-lts.After-binop-of (infer-binop-claims t) (infer-binop-at t) infer-binop.Post → Begun BinOpOf t
+  begun c = let at-start = c .before .before .before .before in
+      record { m = at-start .args .h; q = _; w = _; s = _; g = _; ex = _; rule = at-start .pre .1 .rule; falls = at-start .pre .0; p = _; parts = c .binop-of .ensures }
 
   abbrev operator : infer-binop-lts.After-operator (infer-binop-claims t) (infer-binop-at t) infer-binop.Post → Operator t
-  operator c = record { on = placed (search); n = _; o = _; name = c .before .before .before .word .ensures .0; by = c .operator .ensures }
+  operator c = record { on = begun (search); o = _; by = c .operator .ensures }
 
   -- what the left side came to, inferred or checked
   sided : (c : infer-binop-lts.Joined1 (infer-binop-claims t) (infer-binop-at t) infer-binop.Post)
@@ -47,11 +46,10 @@ infer-binop-returns-3 t c = op-done (aimed t (search)) (search) (c .before .befo
 pub infer-binop-closed : {M : Type 1} (t : ℕ) → infer-binop-lts.Closed (infer-binop-claims t) (infer-binop-at t) infer-binop.Post M
 unfolding pick
 infer-binop-closed t =
-    infer-binop-lts.spec (infer-binop-claims t) (infer-binop-at t) infer-binop.Post (λ c. search needs) (λ c. search needs)
-    (λ c κs. op-word (on t (search))) (λ c. search needs) (λ c κs. search (table, needs)) (λ c κs. tt)
-    (λ c κs. let i = operator t (search) in rw (c .before .if1 .taken) at (may-ask (op-asks i) (i .on .on .falls)))
-    (λ c κs. let i = operator t (search) in rw (c .before .if1 .left) at (may-ask (op-asks i) (i .on .on .falls))) (λ c. search needs)
-    (λ c. as-long (on t (search) .pre .rule) (infer-binop-returns t c)) (infer-binop-returns t)
+    infer-binop-lts.spec (infer-binop-claims t) (infer-binop-at t) infer-binop.Post (λ c κs. search infer-shaped) (λ c κs. tt)
+    (λ c κs. let i = operator t (search) in rw (c .before .if1 .taken) at (may-ask (op-asks i) (i .on .falls)))
+    (λ c κs. let i = operator t (search) in rw (c .before .if1 .left) at (may-ask (op-asks i) (i .on .falls))) (λ c. search needs)
+    (λ c. as-long (begun t (search) .rule) (infer-binop-returns t c)) (infer-binop-returns t)
     (λ c κs. may-ask (op-asks₂ (aimed t (search))) (search)) (λ c. search needs)
-    (λ c. as-long (on t (search) .pre .rule) (infer-binop-returns-2 t c)) (infer-binop-returns-2 t) (λ c κs. tt)
-    (λ c. as-long (aimed t (search) .on .on .on .on .pre .rule) (infer-binop-returns-3 t c)) (infer-binop-returns-3 t)
+    (λ c. as-long (begun t (search) .rule) (infer-binop-returns-2 t c)) (infer-binop-returns-2 t) (λ c κs. tt)
+    (λ c. as-long (aimed t (search) .on .on .on .rule) (infer-binop-returns-3 t c)) (infer-binop-returns-3 t)

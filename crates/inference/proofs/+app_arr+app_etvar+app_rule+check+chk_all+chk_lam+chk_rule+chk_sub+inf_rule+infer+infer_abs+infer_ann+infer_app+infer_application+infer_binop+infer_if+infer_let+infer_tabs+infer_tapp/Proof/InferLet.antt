@@ -1,29 +1,27 @@
 -- `infer_let`: InfLet.
 use borrow.Author.Needs.{needs}
 use Prim.Native.Nat.{ℕ}
-use mathlib.Core.Path.{refl}
-use Rattle.inference.proofs.InferTwo.{Begun, Placed, First, Bound, let-name, let-space, let-done, let-asks, let-asks₂}
+use Rattle.expressions.specs.Forms.{LetOf}
+use Rattle.rules.proofs.Standing.{infer-shaped}
+use Rattle.inference.proofs.InferTwo.{Value, Bound, let-space, let-done, let-asks, let-asks₂}
 use Rattle.judging.proofs.Chain.{as-long}
-use Rattle.inference.proofs.Premise.{may-ask, unless, space-back}
-use Rattle.inference.proofs.Starting.{table}
+use Rattle.inference.proofs.Premise.{Begun, may-ask, unless, space-back}
 use Rattle.inference.proofs.infer_let.Reads as infer-let
 use Rattle.inference.proofs.+app_arr+app_etvar+app_rule+check+chk_all+chk_lam+chk_rule+chk_sub+inf_rule+infer+infer_abs+infer_ann+infer_app+infer_application+infer_binop+infer_if+infer_let+infer_tabs+infer_tapp.Lts-infer_let as infer-let-lts
 use Rattle.inference.proofs.+app_arr+app_etvar+app_rule+check+chk_all+chk_lam+chk_rule+chk_sub+inf_rule+infer+infer_abs+infer_ann+infer_app+infer_application+infer_binop+infer_if+infer_let+infer_tabs+infer_tapp.Proof.Base.{infer-let-at, infer-let-claims}
 
 module _ (t : ℕ) where
-  -- what is known as it starts, with the body's place, past the value, and where the body is asked
-  abbrev on : infer-let-lts.Start (infer-let-claims t) (infer-let-at t) infer-let.Post → Begun 24 t
-  on c = record { m = c .args .h; q = _; w = _; s = _; g = _; ex = _; pre = c .pre .1; falls = c .pre .0 }
+  -- what is known as the value is asked, past it, and where the body is asked
+  abbrev begun : infer-let-lts.After-let-of (infer-let-claims t) (infer-let-at t) infer-let.Post → Begun LetOf t
+  begun c = let at-start = c .before .before .before .before in
+      record { m = at-start .args .h; q = _; w = _; s = _; g = _; ex = _; rule = at-start .pre .1 .rule; falls = at-start .pre .0; p = _; parts = c .let-of .ensures }
 
-  abbrev placed : infer-let-lts.After-word (infer-let-claims t) (infer-let-at t) infer-let.Post → Placed 24 2 t
-  placed c = record { on = on (search); p = _; second = c .word .ensures .0 }
-
-  abbrev first : infer-let-lts.After-z (infer-let-claims t) (infer-let-at t) infer-let.Post → First 24 2 t
-  first c = record { on = placed (search); w = _; z = _; r = _; call = c .before .before .before .before .infer .ensures; done = c .z .given .1 }
+  abbrev value : infer-let-lts.After-z (infer-let-claims t) (infer-let-at t) infer-let.Post → Value t
+  value c = record { on = begun (search); w = _; z = _; r = _; call = c .before .before .before .before .infer .ensures; done = c .z .given .1 }
 
   abbrev bound : infer-let-lts.After-g2 (infer-let-claims t) (infer-let-at t) infer-let.Post → Bound t
   bound c = let a = c .before .before .before .before in
-      record { on = first (search); w = _; x = _; e = _; o = _; made = a .before .before .entry .ensures; name = refl; call = a .push .ensures }
+      record { on = value (search); w = _; e = _; o = _; made = a .before .before .entry .ensures; call = a .push .ensures }
 
 infer-let-returns-3 : (t : ℕ) → infer-let-lts.Need-returns-3 (infer-let-claims t) (infer-let-at t) infer-let.Post
 infer-let-returns-3 t c =
@@ -31,10 +29,10 @@ infer-let-returns-3 t c =
 
 pub infer-let-closed : {M : Type 1} (t : ℕ) → infer-let-lts.Closed (infer-let-claims t) (infer-let-at t) infer-let.Post M
 infer-let-closed t =
-    infer-let-lts.spec (infer-let-claims t) (infer-let-at t) infer-let.Post (λ c. search needs) (λ c. search needs) (λ c. search needs)
-    (λ c. let-name (on t (search))) (λ c. search needs) (λ c κs. search (table, needs)) (λ c κs. may-ask (let-asks (on t (search))) (search))
-    (λ c. search needs) (λ c. search needs) (λ c. unless (let-asks (on t (search))) (search) (c .match .keys2)) (λ c κs. search needs) (λ c κs. let-space (first t (search)) (c .before .entry .ensures))
-    (λ c κs. let i = bound t (search) in may-ask (let-asks₂ i) (i .on .on .on .falls)) (λ c. search needs) (λ c. search needs)
+    infer-let-lts.spec (infer-let-claims t) (infer-let-at t) infer-let.Post (λ c κs. search infer-shaped)
+    (λ c κs. let i = begun t (search) in may-ask (let-asks i) (i .falls))
+    (λ c. search needs) (λ c. search needs) (λ c. unless (let-asks (begun t (search))) (search) (c .match .keys2)) (λ c κs. search needs) (λ c κs. let-space (value t (search)) (c .before .entry .ensures))
+    (λ c κs. let i = bound t (search) in may-ask (let-asks₂ i) (i .on .on .falls)) (λ c. search needs) (λ c. search needs)
     (λ c. unless (let-asks₂ (bound t (search))) (search) (c .match2 .keys2))
     (λ c κs. space-back (let-asks₂ (bound t (search))) (search) (c .before .before .y .given .1))
-    (λ c. as-long (bound t (search) .on .on .on .pre .rule) (infer-let-returns-3 t c)) (infer-let-returns-3 t)
+    (λ c. as-long (bound t (search) .on .on .rule) (infer-let-returns-3 t c)) (infer-let-returns-3 t)

@@ -1,0 +1,2 @@
+-- Laws of an expression's parts.
+pub mod Forms
