@@ -6,20 +6,10 @@ use native.Mathlib.Omega.{arith}
 use lib.ListN.{length, getD}
 use Rattle.definition.specs.Syntax.{Ty, Expr, evar, abs, tapp, tabs, ann, litInt, litBool, letIn, binOp}
 use Rattle.layout.specs.Places.{exprSize, size, CodeAt, TyAt, ExprAt, evar-at, app-at, abs-at, tapp-at, tabs-at, ann-at, litInt-at, litBool-at, letIn-at, ifThenElse-at, binOp-at}
-use Rattle.layout.specs.Names.{tm}
 use Rattle.layout.specs.Denotes.{Base}
-use Rattle.layout.specs.declared.TmVar.{TmVar}
-use Rattle.layout.specs.declared.TyVar.{TyVar}
 use Rattle.layout.proofs.Places.{expr-code, ty-code}
 use Rattle.layout.proofs.Numbered.{nth}
 use Rattle.expressions.specs.Forms.{Shaped, IsApp, IsAbs, IsTyped, IsTAbs, IsLet, IsIf, IsBinOp, VarOf, AppOf, AbsOf, TypedOf, TAbsOf, LetOf, IfOf, BinOpOf}
-use Rattle.expressions.specs.declared.App.{App}
-use Rattle.expressions.specs.declared.Abs.{Abs}
-use Rattle.expressions.specs.declared.Typed.{Typed}
-use Rattle.expressions.specs.declared.TAbs.{TAbs}
-use Rattle.expressions.specs.declared.Let.{Let}
-use Rattle.expressions.specs.declared.If.{If}
-use Rattle.expressions.specs.declared.BinOp.{BinOp}
 
 -- ## Forms that no function takes apart
 

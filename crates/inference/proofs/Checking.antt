@@ -2,7 +2,7 @@
 use mathlib.Core.Path.{_≡_, refl, sym, _∙_}
 use mathlib.Core.Bool.{true, false}
 use mathlib.Core.List.{List}
-use Prim.Native.Nat.{ℕ, _+_, _*_, _<_, _^_}
+use Prim.Native.Nat.{ℕ, _+_, _*_}
 use native.Mathlib.Omega.{arith}
 use Rattle.definition.specs.Syntax
 use Rattle.definition.specs.Syntax.{TyVar, Ty, int, arrow, Expr, Ctx, onR, Judgement, infer, check, subtype, ruleNumber, leaf, _&_, children, varBnd, tvarBnd}

@@ -33,7 +33,7 @@ use Rattle.judging.specs.declared.Here.{Here}
 use Rattle.judging.specs.declared.Step.{Step}
 use Rattle.judging.specs.declared.Step.the-variants.{Done, Spent}
 use Rattle.judging.specs.Asking.{here, EntryFrom, inferAsk, checkAsk, appAsk}
-use Rattle.judging.specs.Ending.{Judged, Fires}
+use Rattle.judging.specs.Ending.{Judged}
 use Rattle.judging.proofs.Asking.{infer-asked}
 use Rattle.rules.proofs.Standing.{room-space, ref-small}
 use Rattle.rules.specs.Going.{PlainOut, kept, KeepOut}

@@ -1,5 +1,4 @@
 -- `copy_words` meets its contract.
-use borrow.Author.Needs.{needs}
 use Prim.Native.Nat.{_-_}
 use native.Mathlib.Omega.{arith}
 use Rattle.writing.proofs.Copying.{PutFirst, first-none, first-length, first-more, first-all}
