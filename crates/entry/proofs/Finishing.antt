@@ -63,7 +63,7 @@ told-small (told.no-room h e w) = omega arith
 module _ {q w : List ℕ} {s : State} {z : Step} {a : Answer} (pre : FinishPre q w s z) (d : z ≡ Done a) (kind : ℕ) where
   answer-charge : a .charge ≡ s .left - a .st .left
   unfolding charged
-  answer-charge = Option·some-injective (rw (d, came (pre .ends) d .is) at (pre .charge))
+  answer-charge = Option·some-injective _ _ (rw (d, came (pre .ends) d .is) at (pre .charge))
 
   pub answer-units : a .charge < 2 ^ 32
   answer-units = omega (arith, answer-charge, pre .budget)
@@ -88,7 +88,7 @@ module _ {q w : List ℕ} {s : State} {z : Step} {a : Answer} (pre : FinishPre q
 module _ {q w : List ℕ} {s : State} {z : Step} {b : Bad} (pre : FinishPre q w s z) (d : z ≡ Fail b) where
   error-charge : b .charge ≡ s .left - b .st .left
   unfolding charged
-  error-charge = Option·some-injective (rw (d, failed-by (pre .ends) d .is) at (pre .charge))
+  error-charge = Option·some-injective _ _ (rw (d, failed-by (pre .ends) d .is) at (pre .charge))
 
   pub error-units : b .charge < 2 ^ 32
   error-units = omega (arith, error-charge, pre .budget)

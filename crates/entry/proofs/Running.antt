@@ -4,17 +4,14 @@ use mathlib.Core.Bool.{Bool, true, false}
 use mathlib.Core.List.{List}
 use Prim.Native.Nat.{ℕ, _≤_}
 use native.Mathlib.Omega.{arith}
-use native.Mathlib.Nat.{le-trans}
 use lib.ListN.{length}
 use lib.Dec.{eqb}
-use Rattle.definition.specs.Syntax.{pick, Ty}
-use Rattle.definition.specs.Question as question
-use Rattle.definition.specs.Run.{Out, done, fail, stop, andThen, _>>=_, give}
+use Rattle.definition.specs.Syntax.{pick}
+use Rattle.definition.specs.Run.{stop, andThen, _>>=_, give}
 use Rattle.definition.specs.Types.{apply}
-use Rattle.definition.specs.Rules.{Result, outside, judge}
+use Rattle.definition.specs.Rules.{outside, judge}
 use Rattle.definition.specs.Reply.{refusal, answer, outReply, workWords}
 use Rattle.definition.specs.Memory.{reportAfter}
-use Rattle.laws.proofs.Depth.{Left, apply-left, judge-left}
 use Rattle.judging.specs.declared.Step.{Step}
 use Rattle.judging.proofs.Steps.{step-none}
 use Rattle.contexts.specs.declared.Opened.{Opened}

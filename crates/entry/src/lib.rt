@@ -178,7 +178,14 @@ fn told(code: usize, at: u32, units: usize, z: Report) -> Reply
 }
 
 // The reply to what a run came to, whose charge is the units; from is the state in which it began.
-fn finish(q: &[u32], work: &[u32], kind: usize, from: State, z: Step, report: &mut [u32]) -> Reply
+fn finish<'a>(
+    q: &'a [u32],
+    work: &'a [u32],
+    kind: usize,
+    from: State,
+    z: Step,
+    report: &mut [u32],
+) -> Reply
     requires { ⌜ FinishPre (now q) (now work) from z ⌝ }
     ensures { λ r. ⌜ Finishes (now (q .entry)) (now (work .entry)) kind from z (now (report .entry)) (now (report .exit)) r ⌝ }
 {

@@ -1,5 +1,5 @@
 -- The five entries that rules push and solve; the bare ones hold Int's reference.
-use mathlib.Core.Path.{_≡_, refl}
+use mathlib.Core.Path.{refl}
 use mathlib.Core.List.{List}
 use Prim.Native.Nat.{ℕ, _<_, _^_}
 use Rattle.definition.specs.Syntax.{Ty, varBnd, tvarBnd, etvarBnd, setvarBnd, mark}

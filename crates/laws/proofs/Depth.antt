@@ -158,9 +158,6 @@ judge-eq = judgeBy-eq rule-congruent
 
 -- ## No run leaves more than there was
 
-pub apply-left : (Γ : Ctx) (A : Ty) (l n : ℕ) → Left l (apply Γ A l n)
-apply-left Γ A l n = apply-self l Γ A l n (le-refl l) .1
-
 pub judge-left : (h : Here) (j : Judgement) (l n : ℕ) → Left l (judge h j l n)
 judge-left = judgeBy-left rule-congruent
 

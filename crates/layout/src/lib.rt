@@ -1,6 +1,6 @@
 // How types, contexts and a run's state lie in the question and in work (docs/LAYOUT.md), and the words they are made of.
 ghost use mathlib.Core.Path.{_≡_};
-ghost use Prim.Native.Nat.{_+_, _-_, _*_, _≤_, _<_, _^_};
+ghost use Prim.Native.Nat.{_+_, _-_, _≤_, _<_, _^_};
 ghost use lib.ListN.{length, getD, set};
 ghost use Rattle.definition.specs.Contexts.{kindOf, nameOf};
 ghost use Rattle.layout.specs.Names.{key};

@@ -131,9 +131,6 @@ pub then-off : {A : Type 0} {q : List ℕ} {c p e : ℕ} {S : ℕ → A → ℕ 
 then-off h = rw h off
 
 -- the next place is inside too
-pub inside-next : {q : List ℕ} {p e : ℕ} → Inside q p e → p < e → Inside q (p + 1) e
-inside-next i h = record { low = omega arith; high = i .high; small = i .small }
-
 -- an item ends past its place
 pub word-on : {q : List ℕ} (n p m : ℕ) → WordTo q p n m → p ≤ m
 word-on n p m s = omega arith

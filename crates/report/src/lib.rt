@@ -161,9 +161,9 @@ struct Wrote {
 }
 
 // Writes the node at m, after another context: rule, number of children, place, five sections.
-fn write_node(
-    q: &[u32],
-    work: &[u32],
+fn write_node<'a>(
+    q: &'a [u32],
+    work: &'a [u32],
     top: usize,
     m: usize,
     report: &mut [u32],
@@ -212,9 +212,9 @@ fn tree_length(
 }
 
 // Writes the tree's section after another context: its nodes, parent first, and before them the count of their words.
-fn write_tree(
-    q: &[u32],
-    work: &[u32],
+fn write_tree<'a>(
+    q: &'a [u32],
+    work: &'a [u32],
     top: usize,
     low: usize,
     high: usize,
@@ -271,9 +271,9 @@ fn result_length(q: &[u32], work: &[u32], gives: bool, a: Answer, high: usize) -
 }
 
 // Writes a result.
-fn write_result(
-    q: &[u32],
-    work: &[u32],
+fn write_result<'a>(
+    q: &'a [u32],
+    work: &'a [u32],
     gives: bool,
     a: Answer,
     high: usize,
@@ -325,7 +325,7 @@ fn error_length(q: &[u32], work: &[u32], top: usize, s: Slots) -> usize
 }
 
 // Writes a type error's report.
-fn write_error(q: &[u32], work: &[u32], top: usize, s: Slots, report: &mut [u32]) -> usize
+fn write_error<'a>(q: &'a [u32], work: &'a [u32], top: usize, s: Slots, report: &mut [u32]) -> usize
     requires { ⌜ Writable (now q) (now work) top (ErrorParts (now q) (now work) top s) (now report) 0 ⌝ }
     ensures { λ z. ⌜ Writes (ErrorParts (now (q .entry)) (now (work .entry)) top s) (now (report .entry)) (now (report .exit)) 0 z ⌝ }
 {
@@ -349,9 +349,9 @@ fn outcome(n: usize, room: usize) -> Report
 }
 
 // Reports an answer whose nodes stand from high down: three sections, or that there is no room for them.
-pub fn report_result(
-    q: &[u32],
-    work: &[u32],
+pub fn report_result<'a>(
+    q: &'a [u32],
+    work: &'a [u32],
     kind: usize,
     a: Answer,
     high: usize,
@@ -371,7 +371,7 @@ pub fn report_result(
 }
 
 // Reports a type error: two sections, or that there is no room for them.
-pub fn report_error(q: &[u32], work: &[u32], b: Bad, report: &mut [u32]) -> Report
+pub fn report_error<'a>(q: &'a [u32], work: &'a [u32], b: Bad, report: &mut [u32]) -> Report
     requires { ⌜ Spelled (now q) (now work) (b .st .top) (OfError (now q) (now work) b) ⌝ }
     ensures { λ z. ⌜ Reports (OfError (now (q .entry)) (now (work .entry)) b) (now (report .entry)) (now (report .exit)) z ⌝ }
 {

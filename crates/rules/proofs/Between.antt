@@ -41,12 +41,6 @@ says e p = rw e p
 -- ## The context applied to one of the two
 
 module _ {q w : List ℕ} {s : State} {g : Span} {a b : ℕ} (pre : TwoIn q w s g a b) where
-  pub apply-first : ApplyPre q w s g a
-  apply-first = record { spare = _; room = pre .two .room; ctx = pre .Γ; run = pre .run; type = _; den = pre .two .left }
-
-  pub apply-second : ApplyPre q w s g b
-  apply-second = record { spare = _; room = pre .two .room; ctx = pre .Γ; run = pre .run; type = _; den = pre .two .right }
-
   module _ {w₁ : List ℕ} {z : Made} {s₁ : State} {r : ℕ} where
     -- the second, after the first
     pub apply-then : Applied q w w₁ s g a z → z ≡ made.Done s₁ r → ApplyPre q w₁ s₁ g b

@@ -12,7 +12,6 @@ use Rattle.definition.specs.Rules.{closes, infVar, inferRule, checkRule, tyCode
 use Rattle.definition.specs.Reply.{errorCode, errorAt}
 use Rattle.layout.specs.Names.{tm}
 use Rattle.layout.specs.Denotes.{Den, Run}
-use Rattle.layout.specs.Room.{Room}
 use Rattle.layout.specs.declared.Span.{Span}
 use Rattle.layout.specs.declared.State.{State}
 use Rattle.layout.specs.declared.TmVar.{TmVar}

@@ -1,8 +1,8 @@
 -- The judgements that a rule without a result type asks: how one is asked, how it ends the rule, and how the last one does.
-use mathlib.Core.Path.{_≡_, refl, sym, _∙_}
+use mathlib.Core.Path.{_≡_, _∙_}
 use mathlib.Core.Bool.{false}
 use mathlib.Core.List.{List}
-use Prim.Native.Nat.{ℕ, _+_, _*_, _≤_, _<_}
+use Prim.Native.Nat.{ℕ, _+_, _*_, _<_}
 use native.Mathlib.Omega.{arith}
 use Rattle.definition.specs.Syntax.{TyVar, Ty, int, etvar, Ctx, Side, Judgement, Rule, ruleNumber, Tree, Trees, leaf, _&_, children}
 use Rattle.definition.specs.Run.{Out, done, stop, M, andThen, give}

@@ -6,7 +6,7 @@ use Prim.Native.Nat.{ℕ, _+_, _*_, _≤_, _<_}
 use native.Mathlib.Nat.{lt-of-not-le}
 use native.Mathlib.Omega.{arith}
 use borrow.Author.Tests.{eq-eqb, ne-eqb}
-use lib.ListN.{length, getD}
+use lib.ListN.{getD}
 use Rattle.definition.specs.Syntax as syntax
 use Rattle.definition.specs.Syntax.{pick, Ty, var, etvar, arrow, forall, Ctx}
 use Rattle.definition.specs.Contexts.{kSETVar}
@@ -113,10 +113,6 @@ module _ {q w : List ℕ} {s : State} {g : Span} {r : ℕ} where
 
     pub applied : Does (In q g) apply q w w′ s r z → Applied q w w′ s g r z
     applied h = record { makes = h .makes }
-
-  -- the entries of the context lie in work
-  pub span-within : ApplyPre q w s g r → g .at + 4 * g .n ≤ length w
-  span-within h = omega (arith, h .run .below, h .room .fits, h .room .low)
 
 pub apply-way : (q : List ℕ) (g : Span) → Way (In q g) apply
 apply-way q g = record {

@@ -1,7 +1,7 @@
 -- What a run that makes a type goes through: the state it comes to, what it has built, and the type it ends in.
 use mathlib.Core.Path.{_≡_}
 use mathlib.Core.List.{List}
-use Prim.Native.Nat.{ℕ, _+_, _-_, _*_, _≤_}
+use Prim.Native.Nat.{ℕ, _+_, _*_, _≤_}
 use Rattle.definition.specs.Syntax.{pick, Ty}
 use Rattle.definition.specs.Run.{Out, done, stop}
 use Rattle.definition.specs.Types.{sameName}

@@ -6,7 +6,7 @@ use mathlib.Core.Logic.{⊎-elim}
 use denote.Enum.Declared
 use types.Run.{OneOf}
 use mathlib.Core.Option.{Option, none, some}
-use Prim.Native.Nat.{ℕ, _+_, _*_, _≤_, _<_}
+use Prim.Native.Nat.{ℕ, _+_, _≤_, _<_}
 use native.Mathlib.Omega.{arith}
 use borrow.Author.Tests.{eq-eqb, ne-eqb}
 use Rattle.definition.specs.Syntax
@@ -18,13 +18,13 @@ use Rattle.layout.specs.Names.{ty}
 use Rattle.layout.specs.Denotes.{Den}
 use Rattle.layout.specs.declared.TyVar.{TyVar}
 use Rattle.types.specs.Reading.{Named, Tagged}
-use Rattle.types.proofs.Codes.{base-case, name-case, sizes}
+use Rattle.types.proofs.Codes.{base-case, name-case}
 use Rattle.walks.specs.Walks.{Occurs}
 use Rattle.walks.proofs.Names.{names}
 use Rattle.rules.proofs.Choices.{no-arrow, no-forall}
 use Rattle.rules.specs.declared.Side.the-variants as side
 use Rattle.rules.proofs.TypeForms.{IsETVar, is-etvar, is-arrow, is-forall}
-use Rattle.subtyping.specs.Arms.{BothHeld, Comes, NotAlike, AlikeBy, by-rule, by-none, Alike, Absent, Formed, both-arrows, right-forall, left-forall, no-form, ByUnknown, left-unknown, right-unknown, no-unknown, Fits, fits-refl, fits-arr, fits-all, fits-inst, fits-none, Chosen}
+use Rattle.subtyping.specs.Arms.{Comes, NotAlike, AlikeBy, by-rule, by-none, Alike, Absent, Formed, both-arrows, right-forall, left-forall, no-form, ByUnknown, left-unknown, right-unknown, no-unknown, Fits, fits-refl, fits-arr, fits-all, fits-inst, fits-none, Chosen}
 use Rattle.subtyping.specs.declared.Arm.{Arm}
 use Rattle.subtyping.specs.declared.Arm.the-variants as arm
 use Rattle.subtyping.proofs.Arm as ArmT

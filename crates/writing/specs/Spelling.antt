@@ -3,7 +3,7 @@ use mathlib.Core.Path.{_≡_}
 use mathlib.Core.Bool.{Bool, true, false}
 use mathlib.Core.List.{List, [], _++_}
 use Prim.Native.Nat.{ℕ, _+_, _≤_, min}
-use lib.ListN.{length, take, drop}
+use lib.ListN.{length}
 use lib.Seq.{sets}
 use Rattle.definition.specs.Syntax.{section}
 use Rattle.layout.specs.Denotes.{Base}
@@ -69,10 +69,6 @@ pub record Room (s : List ℕ) (p : ℕ) (ws : List ℕ) : Type 0 where
 pub record Past (s s′ : List ℕ) (p : ℕ) (ws : List ℕ) (z : ℕ) : Type 0 where
   pub is : s′ ≡ sets s p ws
   pub next : z ≡ p + length ws
-
--- the n words of q at from were put at p, and nothing else changed
-pub record Copied (q : List ℕ) (from n : ℕ) (s s′ : List ℕ) (p : ℕ) : Type 0 where
-  pub is : s′ ≡ sets s p (take n (drop from q))
 
 pub record Writable (q w : List ℕ) (t : ℕ) (S : List ℕ → Type 0) (s : List ℕ) (p : ℕ) : Type 0 where
   pub spelled : Spelled q w t S

@@ -10,12 +10,13 @@ use types::name_of;
 use types::right_of;
 use types::tag;
 use types::type_length;
+use types::type_words;
 ghost use mathlib.Core.Path.{_≡_};
 ghost use mathlib.Core.Bool.{_&&_};
 ghost use Prim.Native.Nat.{_+_, _≤_, _^_, min};
 ghost use lib.Dec.{eqb};
 ghost use lib.ListN.{length};
-ghost use Rattle.writing.specs.Spelling.{Section, Long, Spelled, Copied, Writable, Writes};
+ghost use Rattle.writing.specs.Spelling.{Section, Long, Spelled, Past, Writable, Writes};
 ghost use Rattle.writing.specs.Types.{OfType, OfPart, Waiting, Steps};
 ghost use Rattle.writing.specs.Contexts.{holdsType, OfEntry, OfContext};
 ghost use Rattle.writing.specs.After.{Measures, Stands, WritesAfter};
@@ -89,23 +90,26 @@ fn walk_type(q: &[u32], work: &[u32], top: usize, r: usize, report: &mut [u32], 
     end
 }
 
-// Copies n words of the question, from a place on, to a place of the report.
-fn copy_words(q: &[u32], from: usize, n: usize, report: &mut [u32], at: usize)
-    requires { ⌜ (from + n ≤ length (now q)) × (at + n ≤ length (now report)) ⌝ }
-    ensures { λ _. ⌜ Copied (now (q .entry)) from n (now (report .entry)) (now (report .exit)) at ⌝ }
+// Writes the words of a slice as they are.
+fn copy_words(src: &[u32], report: &mut [u32], at: usize) -> usize
+    requires { ⌜ at + length (now src) ≤ length (now report) ⌝ }
+    ensures { λ z. ⌜ Past (now (report .entry)) (now (report .exit)) at (now (src .entry)) z ⌝ }
 {
+    let n = src.len();
     let mut i = 0;
     while i < n {
-        let x = q[from + i];
+        let x = src[i];
         report[at + i] = x;
         i += 1;
     }
+    at + n
 }
 
 // Writes a type. Int and Bool are their code; one that stands in the question has its words there, in the same order, and is copied.
-pub fn write_type(
-    q: &[u32],
-    work: &[u32],
+// Question and work have one lifetime here and in what calls this: type_words lends of either.
+pub fn write_type<'a>(
+    q: &'a [u32],
+    work: &'a [u32],
     top: usize,
     r: usize,
     report: &mut [u32],
@@ -120,10 +124,8 @@ pub fn write_type(
         return at + 1;
     }
     if r < BASE {
-        let n = type_length(q, work, top, r);
-        let end = at + n;
-        copy_words(q, r, n, report, at);
-        return end;
+        let words = type_words(q, work, top, r);
+        return copy_words(words, report, at);
     }
     walk_type(q, work, top, r, report, at)
 }
@@ -154,9 +156,9 @@ fn part_length(q: &[u32], work: &[u32], top: usize, filled: bool, r: usize) -> u
 }
 
 // Writes a type, or an unused part: nothing.
-fn write_part(
-    q: &[u32],
-    work: &[u32],
+fn write_part<'a>(
+    q: &'a [u32],
+    work: &'a [u32],
     top: usize,
     filled: bool,
     r: usize,
@@ -182,9 +184,9 @@ pub fn section_length(q: &[u32], work: &[u32], top: usize, filled: bool, r: usiz
 }
 
 // Writes a type's section: its words, and before them their count.
-pub fn write_section(
-    q: &[u32],
-    work: &[u32],
+pub fn write_section<'a>(
+    q: &'a [u32],
+    work: &'a [u32],
     top: usize,
     filled: bool,
     r: usize,
@@ -225,9 +227,9 @@ fn entry_length(q: &[u32], work: &[u32], top: usize, i: usize) -> usize
 }
 
 // Writes the entry at i: its kind, its name, and its type if it holds one.
-fn write_entry(
-    q: &[u32],
-    work: &[u32],
+fn write_entry<'a>(
+    q: &'a [u32],
+    work: &'a [u32],
     top: usize,
     i: usize,
     report: &mut [u32],
@@ -265,9 +267,9 @@ pub fn context_length(q: &[u32], work: &[u32], top: usize, g: Span) -> usize
 }
 
 // Writes a context's section: its entries, oldest first, and before them the count of their words.
-pub fn write_context(
-    q: &[u32],
-    work: &[u32],
+pub fn write_context<'a>(
+    q: &'a [u32],
+    work: &'a [u32],
     top: usize,
     g: Span,
     report: &mut [u32],
@@ -327,9 +329,9 @@ pub fn length_after(q: &[u32], work: &[u32], top: usize, g: Span, last: Known) -
 }
 
 // Writes a context's section after another; where it is the same context, its words are copied.
-pub fn write_after(
-    q: &[u32],
-    work: &[u32],
+pub fn write_after<'a>(
+    q: &'a [u32],
+    work: &'a [u32],
     top: usize,
     g: Span,
     report: &mut [u32],

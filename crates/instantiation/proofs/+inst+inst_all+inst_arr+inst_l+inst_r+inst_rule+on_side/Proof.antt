@@ -1,18 +1,5 @@
 -- The cycle of inst_l and inst_r meets its contracts.
 use Rattle.instantiation.proofs.inst.Reads as inst
-use Rattle.instantiation.proofs.+inst+inst_all+inst_arr+inst_l+inst_r+inst_rule+on_side.Lts-inst as inst-lts
-use Rattle.instantiation.proofs.inst_all.Reads as inst-all
-use Rattle.instantiation.proofs.+inst+inst_all+inst_arr+inst_l+inst_r+inst_rule+on_side.Lts-inst_all as inst-all-lts
-use Rattle.instantiation.proofs.inst_arr.Reads as inst-arr
-use Rattle.instantiation.proofs.+inst+inst_all+inst_arr+inst_l+inst_r+inst_rule+on_side.Lts-inst_arr as inst-arr-lts
-use Rattle.instantiation.proofs.inst_l.Reads as inst-l
-use Rattle.instantiation.proofs.+inst+inst_all+inst_arr+inst_l+inst_r+inst_rule+on_side.Lts-inst_l as inst-l-lts
-use Rattle.instantiation.proofs.inst_r.Reads as inst-r
-use Rattle.instantiation.proofs.+inst+inst_all+inst_arr+inst_l+inst_r+inst_rule+on_side.Lts-inst_r as inst-r-lts
-use Rattle.instantiation.proofs.inst_rule.Reads as inst-rule
-use Rattle.instantiation.proofs.+inst+inst_all+inst_arr+inst_l+inst_r+inst_rule+on_side.Lts-inst_rule as inst-rule-lts
-use Rattle.instantiation.proofs.on_side.Reads as on-side
-use Rattle.instantiation.proofs.+inst+inst_all+inst_arr+inst_l+inst_r+inst_rule+on_side.Lts-on_side as on-side-lts
 use Rattle.instantiation.proofs.+inst+inst_all+inst_arr+inst_l+inst_r+inst_rule+on_side.{statement}
 use Rattle.instantiation.proofs.+inst+inst_all+inst_arr+inst_l+inst_r+inst_rule+on_side.Tie.{close}
 mod Base

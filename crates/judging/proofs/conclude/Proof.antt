@@ -7,8 +7,12 @@ use Rattle.judging.proofs.conclude.Tie as tie
 
 returns-2 : tie.Need-returns-2
 returns-2 c =
-    conclude-done (c .before .before .before .before .before .before .before .before .before .before .before .before .before .before .before .before .before .charge .ensures) (c .before .before .before .before .before .before .before .before .before .before .before .before .before .before .before .paid .given .1) (c .before .before .before .before .before .before .before .before .before .before .before .before .before .before .before .before .before .before .before .before .before .pre) (c .charged-since .ensures)
-    (node-keep (c .before .before .before .before .before .before .before .before .before .before .before .put4 .ensures) (c .before .before .before .before .before .before .before .put42 .ensures) (c .before .before .before .put43 .ensures)) (node-words (c .before .before .before .before .before .before .before .before .before .before .before .put4 .ensures) (c .before .before .before .before .before .before .before .put42 .ensures) (c .before .before .before .put43 .ensures))
+    let at-put43 = c .before .before .before in let at-put42 = at-put43 .before .before .before .before in
+    let at-put4 = at-put42 .before .before .before .before in let at-paid = at-put4 .before .before .before .before in
+    let at-charge = at-paid .before .before in let at-start = at-charge .before .before .before .before in
+    conclude-done (at-charge .charge .ensures) (at-paid .paid .given .1) (at-start .pre) (c .charged-since .ensures)
+    (node-keep (at-put4 .put4 .ensures) (at-put42 .put42 .ensures) (at-put43 .put43 .ensures))
+    (node-words (at-put4 .put4 .ensures) (at-put42 .put42 .ensures) (at-put43 .put43 .ensures))
 
 pub conclude-spec : {M : Type 1} → statement M
 conclude-spec =

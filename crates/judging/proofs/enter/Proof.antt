@@ -1,7 +1,6 @@
 -- `enter` meets its contract.
 use Rattle.judging.proofs.Paying.{enter-spent, enter-lower, enter-in}
 use borrow.Author.Needs.{needs}
-use native.Mathlib.Omega.{arith}
 use Rattle.judging.proofs.enter.Statement.{statement}
 use Rattle.judging.proofs.enter.Tie as tie
 

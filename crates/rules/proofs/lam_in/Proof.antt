@@ -1,7 +1,6 @@
 -- `lam_in` meets its contract.
 use borrow.Author.Needs.{needs}
 use mathlib.Core.Path.{refl, sym}
-use native.Mathlib.Omega.{arith}
 use Rattle.rules.proofs.Before.{lam-arrow, lam-raise, lam-space, lam-opened}
 use Rattle.rules.proofs.lam_in.Statement.{statement}
 use Rattle.rules.proofs.lam_in.Tie as tie

@@ -1,12 +1,5 @@
 -- The cycle of subtype meets its contracts.
-use Rattle.subtyping.proofs.sub_all.Reads as sub-all
-use Rattle.subtyping.proofs.+sub_all+sub_arr+sub_rule+subtype.Lts-sub_all as sub-all-lts
-use Rattle.subtyping.proofs.sub_arr.Reads as sub-arr
-use Rattle.subtyping.proofs.+sub_all+sub_arr+sub_rule+subtype.Lts-sub_arr as sub-arr-lts
-use Rattle.subtyping.proofs.sub_rule.Reads as sub-rule
-use Rattle.subtyping.proofs.+sub_all+sub_arr+sub_rule+subtype.Lts-sub_rule as sub-rule-lts
 use Rattle.subtyping.proofs.subtype.Reads as subtype
-use Rattle.subtyping.proofs.+sub_all+sub_arr+sub_rule+subtype.Lts-subtype as subtype-lts
 use Rattle.subtyping.proofs.+sub_all+sub_arr+sub_rule+subtype.{statement}
 use Rattle.subtyping.proofs.+sub_all+sub_arr+sub_rule+subtype.Tie.{close}
 mod Base

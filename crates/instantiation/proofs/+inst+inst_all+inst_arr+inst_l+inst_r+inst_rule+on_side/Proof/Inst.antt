@@ -1,5 +1,4 @@
 -- What `inst` needs.
-use mathlib.Core.Path.{_∙_}
 use native.Mathlib.Omega.{arith}
 use borrow.Author.Needs.{needs}
 use Rattle.judging.proofs.Judgements.{may-enter}
@@ -18,11 +17,18 @@ inst-inst-rule-requires t c κs =
 
 inst-leave-requires : (t : ℕ) → inst-lts.Need-leave-requires (inst-claims t) (inst-at t) inst.Post
 inst-leave-requires t c κs =
-    rw (c .before .asked .ensures) (whole-leave (c .before .before .before .before .before .before .before .before .before .before .before .before .pre .1) (c .before .before .before .before .before .before .before .before .before .enter .ensures) (c .before .before .before .before .before .before .before .inner .given .1) (c .before .before .before .before .inst-rule .ensures))
+    let at-asked = c .before in let at-inst-rule = at-asked .before .before .before in let at-inner = at-inst-rule .before .before .before in
+    let at-enter = at-inner .before .before in let at-start = at-enter .before .before .before in
+    rw (at-asked .asked .ensures) (whole-leave (at-start .pre .1) (at-enter .enter .ensures) (at-inner .inner .given .1)
+    (at-inst-rule .inst-rule .ensures))
 
 inst-returns-2 : (t : ℕ) → inst-lts.Need-returns-2 (inst-claims t) (inst-at t) inst.Post
 inst-returns-2 t c =
-    whole-left (c .before .before .before .before .before .before .before .before .before .before .before .before .before .before .before .pre .1) (c .before .before .before .before .before .before .before .before .before .before .before .before .enter .ensures) (c .before .before .before .before .before .before .before .before .before .before .inner .given .1) (c .before .before .before .before .before .before .before .inst-rule .ensures) (rw (c .before .before .before .before .asked .ensures) at (c .before .before .leave .ensures))
+    let at-leave = c .before .before in let at-asked = at-leave .before .before in let at-inst-rule = at-asked .before .before .before in
+    let at-inner = at-inst-rule .before .before .before in let at-enter = at-inner .before .before in
+    let at-start = at-enter .before .before .before in
+    whole-left (at-start .pre .1) (at-enter .enter .ensures) (at-inner .inner .given .1) (at-inst-rule .inst-rule .ensures)
+    (rw (at-asked .asked .ensures) at (at-leave .leave .ensures))
 
 pub inst-closed : {M : Type 1} (t : ℕ) → inst-lts.Closed (inst-claims t) (inst-at t) inst.Post M
 inst-closed t =

@@ -1,5 +1,4 @@
 -- What `inst_all` needs.
-use mathlib.Core.Path.{_∙_}
 use native.Mathlib.Omega.{arith}
 use borrow.Author.Needs.{needs}
 use Rattle.judging.proofs.Chain.{as-long}

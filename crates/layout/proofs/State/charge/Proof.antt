@@ -1,5 +1,4 @@
 -- `charge` meets its contract.
-use borrow.Author.Needs.{needs}
 use Rattle.layout.specs.States.{on, spent}
 use Rattle.layout.proofs.State.charge.Statement.{statement}
 use Rattle.layout.proofs.State.charge.Tie as tie

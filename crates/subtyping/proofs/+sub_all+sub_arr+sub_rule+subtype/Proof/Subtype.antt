@@ -1,5 +1,4 @@
 -- What `subtype` needs.
-use mathlib.Core.Path.{_∙_}
 use native.Mathlib.Omega.{arith}
 use borrow.Author.Needs.{needs}
 use Rattle.judging.proofs.Judgements.{may-enter}
