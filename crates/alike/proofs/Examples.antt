@@ -7,7 +7,7 @@ use mathlib.Core.Bool.{Bool, true, false}
 use mathlib.Core.List.{List, [], _∷_, map}
 use Rattle.definition.specs.Reply.{reply, reply-computes}
 use Rattle.laws.proofs.Cases.{Says, wholly, begins, asked, seen}
-use Rattle.alike.specs.Alike.{Pairing, typeName, IsExpr, IsQuestion, Named, written, fresh, InReplies, halves, none, more}
+use Rattle.alike.specs.Alike.{Pairing, typeName, IsExpr, IsQuestion, Named, written, fresh, InReplies, InQuestions.same, halves, none, more}
 use Rattle.alike.proofs.Demand3.{no-literal}
 use Rattle.alike.proofs.Deciding.{areAlike, Decided, decided, deciding-computes}
 
