@@ -1,3 +1,4 @@
--- Laws of sections.
+-- Laws of sections and nodes.
 pub mod Sections
 pub mod Reports
+pub mod Nodes

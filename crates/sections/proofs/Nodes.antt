@@ -1,0 +1,228 @@
+-- Where nodes stand in a tree's words, and that a walk through them meets the definition's nodes.
+use mathlib.Core.Path.{_≡_, refl, sym, ap, _∙_}
+use mathlib.Core.Bool.{Bool, true, false}
+use mathlib.Core.List.{List, [], _∷_, _++_, map, append-assoc, append-nil}
+use Prim.Native.Nat.{ℕ, zero, suc, _+_, _-_, _≤_, _<_}
+use native.Mathlib.Omega.{arith}
+use lib.ListN.{length, getD, take, drop, length-append, length-drop}
+use lib.Seq.{take-at, take-length, drop-at, drop-drop, getD-drop}
+use lib.Dec.{leb}
+use borrow.Author.Tests.{le-ltb, lt-ltb, le-leb}
+use Rattle.definition.specs.Syntax.{pick, section, sections, noSection, tySection, ctxSection, Judgement, infer, check, inferApp, subtype, inst, onL, onR, Ty, Ctx, Rule, judgementWords, ruleNumber, Tree, node, Trees, leaf, _&_, children, treeWords, treesWords}
+use Rattle.sections.specs.declared.Bounds.{Bounds}
+use Rattle.sections.specs.declared.Node.{Node}
+use Rattle.sections.specs.declared.Walked.{Walked}
+use Rattle.sections.specs.declared.Walked.the-variants.{Met, Broken}
+use Rattle.sections.specs.Sections.{boundsAt, PartAt}
+use Rattle.sections.specs.Nodes.{wholeAt, nodeIn, bounds, onward, nodesFrom, nodesIn, Stated, stated, statedIn, stateWords, statesWords, ofNode, ofTree, ofTrees}
+
+-- ## Where a node stands
+
+module _ (ws : List ℕ) (at : ℕ) where
+  pub not-whole : length ws ≤ at → false ≡ wholeAt ws at
+  unfolding wholeAt
+  not-whole h = rw (le-ltb at (length ws) h)
+
+  pub is-whole : at < length ws → leb (getD ws at 0) (length ws - (at + 1)) ≡ wholeAt ws at
+  unfolding wholeAt
+  is-whole h = rw (lt-ltb at (length ws) h)
+
+  past-end : length ws ≤ at → boundsAt ws at ≡ (length ws, length ws)
+  unfolding boundsAt pick
+  past-end h = rw (le-ltb at (length ws) h)
+
+-- in all the words of the slice
+exact : {ws : List ℕ} {at : ℕ} {b : Bounds} → PartAt ws (length ws) at b → boundsAt ws at ≡ (b .from, b .to)
+exact {ws} {at} p = ap (λ (vs : List ℕ). boundsAt vs at) (sym (take-length ws)) ∙ p .is
+
+module _ (ws : List ℕ) (at : ℕ) where
+  pub no-node : length ws ≤ at + 3 → Broken ≡ nodeIn ws at
+  unfolding nodeIn pick
+  no-node h =
+      let e : boundsAt ws (length ws) ≡ (length ws, length ws) = past-end ws (length ws) (omega arith) in
+      rw (past-end ws (at + 3) h, e, e, e, ← not-whole ws (length ws) (omega arith))
+
+  module _ {i l r o : Bounds} (input : PartAt ws (length ws) (at + 3) i) (left : PartAt ws (length ws) (i .to) l)
+    (right : PartAt ws (length ws) (l .to) r) (output : PartAt ws (length ws) (r .to) o)
+    {t : Bool} (last : t ≡ wholeAt ws (o .to)) where
+    pub broken-off : t ≡ false → Broken ≡ nodeIn ws at
+    unfolding nodeIn pick
+    broken-off h = rw (exact input, exact left, exact right, exact output, ← last, h)
+
+    pub met : {e : Bounds} → t ≡ true → PartAt ws (length ws) (o .to) e
+        → Met (record { rule = getD ws at 0; children = getD ws (at + 1) 0; place = getD ws (at + 2) 0; input = i; left = l; right = r; output = o; result = e; end = e .to })
+        ≡ nodeIn ws at
+    unfolding nodeIn pick
+    met h result = rw (exact input, exact left, exact right, exact output, ← last, h, exact result)
+
+-- ## A section that stands at a place, before other words
+
+module _ (ws vs qs : List ℕ) (p : ℕ) (h : drop p ws ≡ section vs ++ qs) where
+  long : length ws ≡ p + 1 + length vs + length qs
+  unfolding section
+  long = omega (arith, ap length h, length-drop p ws, length-append vs qs)
+
+  count-there : getD ws p 0 ≡ length vs
+  unfolding section
+  count-there = let e : p ≡ p + 0 = omega arith in ap (λ (k : ℕ). getD ws k 0) e ∙ (sym (getD-drop p ws 0 0) ∙ ap (λ (l : List ℕ). getD l 0 0) h)
+
+  whole-there : wholeAt ws p ≡ true
+  unfolding wholeAt
+  whole-there = rw (lt-ltb p (length ws) (omega (arith, long)), count-there, le-leb (length vs) (length ws - (p + 1)) (omega (arith, long)))
+
+  bounds-there : boundsAt ws p ≡ (p + 1, p + 1 + length vs)
+  unfolding boundsAt pick
+  bounds-there = rw (lt-ltb p (length ws) (omega (arith, long)), count-there, le-leb (length vs) (length ws - (p + 1)) (omega (arith, long)))
+
+  past-count : drop (p + 1) ws ≡ vs ++ qs
+  unfolding section
+  past-count = sym (drop-drop 1 p ws) ∙ ap (drop 1) h
+
+  words-there : take (p + 1 + length vs - (p + 1)) (drop (p + 1) ws) ≡ vs
+  words-there = let e : p + 1 + length vs - (p + 1) ≡ length vs = omega arith in rw (e, past-count) (take-at vs qs (length vs) refl)
+
+  next-there : drop (p + 1 + length vs) ws ≡ qs
+  next-there = sym (drop-drop (length vs) (p + 1) ws) ∙ ap (drop (length vs)) past-count ∙ drop-at vs qs (length vs) refl
+
+-- ## A node that stands at a place, before other words
+
+-- the words of its sections, and then others
+abbrev fiveThen : Stated → List ℕ → List ℕ
+fiveThen S qs =
+    section (S .input) ++ (section (S .left) ++ (section (S .right) ++ (section (S .output) ++ (section (S .result) ++ qs))))
+
+module _ (ws : List ℕ) (S : Stated) (qs : List ℕ) (at : ℕ) (h : drop at ws ≡ stateWords S ++ qs) where
+  five-then : drop at ws ≡ S .rule ∷ S .children ∷ S .place ∷ fiveThen S qs
+  unfolding stateWords sections
+  five-then = h ∙ simp append-assoc
+
+  rule-there : getD ws at 0 ≡ S .rule
+  rule-there = let e : at ≡ at + 0 = omega arith in ap (λ (k : ℕ). getD ws k 0) e ∙ (sym (getD-drop at ws 0 0) ∙ ap (λ (l : List ℕ). getD l 0 0) five-then)
+
+  children-there : getD ws (at + 1) 0 ≡ S .children
+  children-there = sym (getD-drop at ws 1 0) ∙ ap (λ (l : List ℕ). getD l 1 0) five-then
+
+  place-there : getD ws (at + 2) 0 ≡ S .place
+  place-there = sym (getD-drop at ws 2 0) ∙ ap (λ (l : List ℕ). getD l 2 0) five-then
+
+  five-there : drop (at + 3) ws ≡ fiveThen S qs
+  five-there = sym (drop-drop 3 at ws) ∙ ap (drop 3) five-then
+
+  -- where the counts of the other four stand, and where the node ends
+  abbrev p₁ : ℕ
+  p₁ = at + 3 + 1 + length (S .input)
+
+  abbrev p₂ : ℕ
+  p₂ = p₁ + 1 + length (S .left)
+
+  abbrev p₃ : ℕ
+  p₃ = p₂ + 1 + length (S .right)
+
+  abbrev p₄ : ℕ
+  p₄ = p₃ + 1 + length (S .output)
+
+  abbrev p₅ : ℕ
+  p₅ = p₄ + 1 + length (S .result)
+
+  left-there : drop p₁ ws ≡ section (S .left) ++ (section (S .right) ++ (section (S .output) ++ (section (S .result) ++ qs)))
+  left-there = next-there ws (S .input) _ (at + 3) five-there
+
+  right-there : drop p₂ ws ≡ section (S .right) ++ (section (S .output) ++ (section (S .result) ++ qs))
+  right-there = next-there ws (S .left) _ p₁ left-there
+
+  output-there : drop p₃ ws ≡ section (S .output) ++ (section (S .result) ++ qs)
+  output-there = next-there ws (S .right) _ p₂ right-there
+
+  result-there : drop p₄ ws ≡ section (S .result) ++ qs
+  result-there = next-there ws (S .output) _ p₃ output-there
+
+  abbrev placed : Node
+  placed = record {
+    rule = S .rule;
+    children = S .children;
+    place = S .place;
+    input = bounds (at + 3 + 1, p₁);
+    left = bounds (p₁ + 1, p₂);
+    right = bounds (p₂ + 1, p₃);
+    output = bounds (p₃ + 1, p₄);
+    result = bounds (p₄ + 1, p₅);
+    end = p₅;
+  }
+
+  node-there : nodeIn ws at ≡ Met placed
+  unfolding nodeIn pick
+  node-there =
+      rw (
+        bounds-there ws (S .input) _ (at + 3) five-there,
+        bounds-there ws (S .left) _ p₁ left-there,
+        bounds-there ws (S .right) _ p₂ right-there,
+        bounds-there ws (S .output) _ p₃ output-there,
+        bounds-there ws (S .result) _ p₄ result-there,
+        whole-there ws (S .result) _ p₄ result-there,
+        rule-there,
+        children-there,
+        place-there,
+      )
+
+  stated-there : stated ws placed ≡ S
+  stated-there =
+      rw (
+        words-there ws (S .input) _ (at + 3) five-there,
+        words-there ws (S .left) _ p₁ left-there,
+        words-there ws (S .right) _ p₂ right-there,
+        words-there ws (S .output) _ p₃ output-there,
+        words-there ws (S .result) _ p₄ result-there,
+      )
+
+  after-node : drop p₅ ws ≡ qs
+  after-node = next-there ws (S .result) _ p₄ result-there
+
+-- ## A walk
+
+-- so many turns are enough
+walk : (ws : List ℕ) (Ss : List Stated) (d at : ℕ) → length Ss ≤ d → drop at ws ≡ statesWords Ss → map (stated ws) (nodesFrom d ws at) ≡ Ss
+unfolding nodesFrom onward statesWords
+walk ws [] zero at k h = refl
+walk ws [] (suc d) at k h = rw (← no-node ws at (omega (arith, ap length h, length-drop at ws)))
+walk ws (S ∷ Ss) (suc d) at k h =
+    rw (node-there ws S (statesWords Ss) at h, stated-there ws S (statesWords Ss) at h,
+    walk ws Ss d (p₅ ws S (statesWords Ss) at h) (omega arith) (after-node ws S (statesWords Ss) at h))
+
+more-words : (Ss : List Stated) → length Ss ≤ length (statesWords Ss)
+unfolding statesWords stateWords
+more-words [] = omega arith
+more-words (S ∷ Ss) = omega (arith, more-words Ss, length-append (stateWords S) (statesWords Ss))
+
+pub states-met : (Ss : List Stated) → statedIn (statesWords Ss) ≡ Ss
+unfolding statedIn nodesIn
+states-met Ss = walk (statesWords Ss) Ss (length (statesWords Ss)) 0 (more-words Ss) refl
+
+-- ## The definition's trees
+
+states-append : (Ss Rs : List Stated) → statesWords (Ss ++ Rs) ≡ statesWords Ss ++ statesWords Rs
+unfolding statesWords
+states-append [] Rs = refl
+states-append (S ∷ Ss) Rs = rw (states-append Ss Rs) (sym (append-assoc (stateWords S) (statesWords Ss) (statesWords Rs)))
+
+node-words : (r : Rule) (n : ℕ) (j : Judgement) (C : Ty) (Δ : Ctx) → stateWords (ofNode r n j C Δ) ≡ ruleNumber r ∷ n ∷ judgementWords j C Δ
+unfolding stateWords ofNode judgementWords tySection ctxSection noSection section
+node-words r n (infer Γ e) C Δ = refl
+node-words r n (check Γ e B) C Δ = refl
+node-words r n (inferApp Γ e A) C Δ = refl
+node-words r n (subtype Γ A B) C Δ = refl
+node-words r n (inst onL Γ a T) C Δ = refl
+node-words r n (inst onR Γ a T) C Δ = refl
+
+mutual
+  unfolding treeWords ofTree statesWords
+
+  tree-words : (t : Tree) → statesWords (ofTree t) ≡ treeWords t
+  tree-words (node r j C Δ ts) = rw (node-words r (children ts) j C Δ, trees-words ts)
+
+  trees-words : (ts : Trees) → statesWords (ofTrees ts) ≡ treesWords ts
+  trees-words leaf = refl
+  trees-words (t & ts) = rw (states-append (ofTree t) (ofTrees ts), tree-words t, trees-words ts)
+
+-- a walk through a tree's words meets its nodes, parent first, and each states what the definition writes of it
+pub tree-met : (t : Tree) → statedIn (treeWords t) ≡ ofTree t
+tree-met t = rw (← tree-words t) (states-met (ofTree t))
