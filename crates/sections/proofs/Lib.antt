@@ -2,3 +2,4 @@
 pub mod Sections
 pub mod Reports
 pub mod Nodes
+pub mod Trees
