@@ -1,20 +1,20 @@
 -- Where nodes stand in a tree's words, and that a walk through them meets the definition's nodes.
 use mathlib.Core.Path.{_≡_, refl, sym, ap, _∙_}
-use mathlib.Core.Bool.{Bool, true, false}
+use mathlib.Core.Bool.{Bool, true, false, false≢true, _&&_}
 use mathlib.Core.List.{List, [], _∷_, _++_, map, append-assoc, append-nil}
 use Prim.Native.Nat.{ℕ, zero, suc, _+_, _-_, _≤_, _<_}
 use native.Mathlib.Omega.{arith}
-use lib.ListN.{length, getD, take, drop, length-append, length-drop}
-use lib.Seq.{take-at, take-length, drop-at, drop-drop, getD-drop}
-use lib.Dec.{leb}
-use borrow.Author.Tests.{le-ltb, lt-ltb, le-leb}
+use lib.ListN.{length, getD, take, drop, length-append, length-drop, take-append-drop}
+use lib.Seq.{take-at, take-length, length-take-le, drop-at, drop-drop, drop-cons, getD-drop}
+use lib.Dec.{leb, ltb}
+use borrow.Author.Tests.{le-ltb, lt-ltb, le-leb, ltb-true, leb-true}
 use Rattle.definition.specs.Syntax.{pick, section, sections, noSection, tySection, ctxSection, Judgement, infer, check, inferApp, subtype, inst, onL, onR, Ty, Ctx, Rule, judgementWords, ruleNumber, Tree, node, Trees, leaf, _&_, children, treeWords, treesWords}
 use Rattle.sections.specs.declared.Bounds.{Bounds}
 use Rattle.sections.specs.declared.Node.{Node}
 use Rattle.sections.specs.declared.Walked.{Walked}
 use Rattle.sections.specs.declared.Walked.the-variants.{Met, Broken}
 use Rattle.sections.specs.Sections.{boundsAt, PartAt}
-use Rattle.sections.specs.Nodes.{wholeAt, nodeIn, bounds, onward, nodesFrom, nodesIn, Stated, stated, statedIn, stateWords, statesWords, ofNode, ofTree, ofTrees}
+use Rattle.sections.specs.Nodes.{wholeAt, nodeIn, bounds, wordsIn, Finds, onward, nodesFrom, nodesIn, Stated, stated, statedIn, stateWords, statesWords, ofNode, ofTree, ofTrees}
 
 -- ## Where a node stands
 
@@ -26,6 +26,14 @@ module _ (ws : List ℕ) (at : ℕ) where
   pub is-whole : at < length ws → leb (getD ws at 0) (length ws - (at + 1)) ≡ wholeAt ws at
   unfolding wholeAt
   is-whole h = rw (lt-ltb at (length ws) h)
+
+  inside : wholeAt ws at ≡ true → (at < length ws) × (getD ws at 0 ≤ length ws - (at + 1))
+  unfolding wholeAt
+  inside = go (ltb at (length ws)) (ltb-true at (length ws)) (leb (getD ws at 0) (length ws - (at + 1))) (leb-true _ _)
+    where
+      go : {A B : Type 0} (a : Bool) → (a ≡ true → A) → (b : Bool) → (b ≡ true → B) → (a && b) ≡ true → A × B
+      go true f b g h = (f refl, g h)
+      go false f b g h = absurd (false≢true h)
 
   past-end : length ws ≤ at → boundsAt ws at ≡ (length ws, length ws)
   unfolding boundsAt pick
@@ -164,6 +172,15 @@ module _ (ws : List ℕ) (S : Stated) (qs : List ℕ) (at : ℕ) (h : drop at ws
         place-there,
       )
 
+  last-there : wholeAt ws (boundsAt ws (boundsAt ws (boundsAt ws (boundsAt ws (at + 3) .1) .1) .1) .1) ≡ true
+  last-there =
+      rw (
+        bounds-there ws (S .input) _ (at + 3) five-there,
+        bounds-there ws (S .left) _ p₁ left-there,
+        bounds-there ws (S .right) _ p₂ right-there,
+        bounds-there ws (S .output) _ p₃ output-there,
+      ) (whole-there ws (S .result) _ p₄ result-there)
+
   stated-there : stated ws placed ≡ S
   stated-there =
       rw (
@@ -176,6 +193,102 @@ module _ (ws : List ℕ) (S : Stated) (qs : List ℕ) (at : ℕ) (h : drop at ws
 
   after-node : drop p₅ ws ≡ qs
   after-node = next-there ws (S .result) _ p₄ result-there
+
+-- ## Whatever the words are
+
+both : {A : Type 0} (a b : Bool) (x y : A) → pick a (pick b x y) y ≡ pick (a && b) x y
+unfolding pick
+both true b x y = refl
+both false b x y = refl
+
+-- the word at a place, and those past it
+first-of : (ws : List ℕ) (p k : ℕ) → p < length ws → k ≡ p + 1 → drop p ws ≡ getD ws p 0 ∷ drop k ws
+first-of ws p k h e = let i : suc p ≡ k = omega arith in drop-cons ws p 0 h ∙ ap (λ (m : ℕ). getD ws p 0 ∷ drop m ws) i
+
+module _ (ws : List ℕ) (p : ℕ) where
+  abbrev n : ℕ
+  n = getD ws p 0
+
+  abbrev fills : ℕ × ℕ
+  fills = (p + 1, p + 1 + n)
+
+  abbrev nothing : ℕ × ℕ
+  nothing = (length ws, length ws)
+
+  bounds-are : boundsAt ws p ≡ pick (wholeAt ws p) fills nothing
+  unfolding boundsAt wholeAt
+  bounds-are = both (ltb p (length ws)) (leb n (length ws - (p + 1))) fills nothing
+
+  -- a section that is not whole ends where no other begins
+  whole-before : wholeAt ws (boundsAt ws p .1) ≡ true → wholeAt ws p ≡ true
+  unfolding pick
+  whole-before h = go (wholeAt ws p) (rw bounds-are at h)
+    where
+      go : (b : Bool) → wholeAt ws (pick b fills nothing .1) ≡ true → b ≡ true
+      go true k = refl
+      go false k = not-whole ws (length ws) (omega arith) ∙ k
+
+  stands : wholeAt ws p ≡ true → drop p ws ≡ section (wordsIn ws (bounds (boundsAt ws p))) ++ drop (boundsAt ws p .1) ws
+  unfolding section pick
+  stands h =
+      let i = inside ws p h in
+      let m : p + 1 + n - (p + 1) ≡ n = omega arith in
+      let k : length (take n (drop (p + 1) ws)) ≡ n = length-take-le n (drop (p + 1) ws) (omega (arith, i, length-drop (p + 1) ws)) in
+      first-of ws p (p + 1) (i .0) refl
+      ∙ sym (rw (bounds-are, h, m, k, ← drop-drop n (p + 1) ws, take-append-drop n (drop (p + 1) ws)))
+
+module _ (ws : List ℕ) (at : ℕ) where
+  abbrev l : ℕ
+  l = boundsAt ws (at + 3) .1
+
+  abbrev r : ℕ
+  r = boundsAt ws l .1
+
+  abbrev o : ℕ
+  o = boundsAt ws r .1
+
+  abbrev e : ℕ
+  e = boundsAt ws o .1
+
+  abbrev found : Node
+  found = record {
+    rule = getD ws at 0;
+    children = getD ws (at + 1) 0;
+    place = getD ws (at + 2) 0;
+    input = bounds (boundsAt ws (at + 3));
+    left = bounds (boundsAt ws l);
+    right = bounds (boundsAt ws r);
+    output = bounds (boundsAt ws o);
+    result = bounds (boundsAt ws e);
+    end = boundsAt ws e .1;
+  }
+
+  three-first : at + 3 < length ws → drop at ws ≡ getD ws at 0 ∷ getD ws (at + 1) 0 ∷ getD ws (at + 2) 0 ∷ drop (at + 3) ws
+  three-first h =
+      rw (first-of ws at (at + 1) (omega arith) refl, first-of ws (at + 1) (at + 2) (omega arith) (omega arith),
+      first-of ws (at + 2) (at + 3) (omega arith) (omega arith))
+
+  met-there : wholeAt ws e ≡ true → Finds ws at (Met found)
+  unfolding stateWords sections
+  met-there h =
+      let ho = whole-before ws o h in
+      let hr = whole-before ws r ho in
+      let hl = whole-before ws l hr in
+      let hi = whole-before ws (at + 3) hl in
+      three-first (inside ws (at + 3) hi .0)
+      ∙ rw (stands ws (at + 3) hi, stands ws l hl, stands ws r hr, stands ws o ho, stands ws e h) (sym (simp append-assoc))
+
+  none-there : wholeAt ws e ≡ false → Finds ws at Broken
+  none-there h S qs d = false≢true (sym h ∙ last-there ws S qs at d)
+
+-- what `nodeIn` answers, of any words
+pub finds : (ws : List ℕ) (at : ℕ) → Finds ws at (nodeIn ws at)
+unfolding nodeIn pick
+finds ws at = go (wholeAt ws (e ws at)) refl
+  where
+    go : (b : Bool) → wholeAt ws (e ws at) ≡ b → Finds ws at (pick b (Met (found ws at)) Broken)
+    go true h = met-there ws at h
+    go false h = none-there ws at h
 
 -- ## A walk
 

@@ -1,4 +1,5 @@
 -- The nodes of a tree in a report's words, one after the other, parent first; and what each states.
+use mathlib.Core.Path.{_≡_}
 use mathlib.Core.Bool.{Bool, _&&_}
 use mathlib.Core.List.{List, [], _∷_, _++_, map}
 use Prim.Native.Nat.{ℕ, zero, suc, _+_, _-_}
@@ -92,7 +93,7 @@ stated ws N = record {
 unfoldable pub statedIn : List ℕ → List Stated
 statedIn ws = map (stated ws) (nodesIn ws)
 
--- ## What the definition's nodes state
+-- ## The words that it is stated in
 
 unfoldable pub stateWords : Stated → List ℕ
 stateWords S =
@@ -102,6 +103,13 @@ stateWords S =
 unfoldable pub statesWords : List Stated → List ℕ
 statesWords [] = []
 statesWords (S ∷ Ss) = stateWords S ++ statesWords Ss
+
+-- what is met at a place begins there and ends before the next; where nothing is met no node stands, whatever it states
+abbrev pub Finds : List ℕ → ℕ → Walked → Type 0
+Finds ws at (Met N) = drop at ws ≡ stateWords (stated ws N) ++ drop (N .end) ws
+Finds ws at Broken = (S : Stated) (qs : List ℕ) → drop at ws ≡ stateWords S ++ qs → ⊥
+
+-- ## What the definition's nodes state
 
 abbrev pub states : Rule → ℕ → ℕ → Ctx → List ℕ → List ℕ → Ctx → List ℕ → Stated
 states r n p Γ left right Δ result = record {
