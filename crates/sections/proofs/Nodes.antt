@@ -1,20 +1,20 @@
 -- Where nodes stand in a tree's words, and that a walk through them meets the definition's nodes.
 use mathlib.Core.Path.{_≡_, refl, sym, ap, _∙_}
 use mathlib.Core.Bool.{Bool, true, false, false≢true, _&&_}
-use mathlib.Core.List.{List, [], _∷_, _++_, map, append-assoc, append-nil}
+use mathlib.Core.List.{List, [], _∷_, _++_, map, append-assoc}
 use Prim.Native.Nat.{ℕ, zero, suc, _+_, _-_, _≤_, _<_}
 use native.Mathlib.Omega.{arith}
 use lib.ListN.{length, getD, take, drop, length-append, length-drop, take-append-drop}
-use lib.Seq.{take-at, take-length, length-take-le, drop-at, drop-drop, drop-cons, getD-drop}
+use lib.Seq.{take-length, length-take-le, drop-drop, drop-cons, getD-drop}
 use lib.Dec.{leb, ltb}
 use borrow.Author.Tests.{le-ltb, lt-ltb, le-leb, ltb-true, leb-true}
 use Rattle.definition.specs.Syntax.{pick, section, sections, noSection, tySection, ctxSection, Judgement, infer, check, inferApp, subtype, inst, onL, onR, Ty, Ctx, Rule, judgementWords, ruleNumber, Tree, node, Trees, leaf, _&_, children, treeWords, treesWords}
 use Rattle.sections.specs.declared.Bounds.{Bounds}
 use Rattle.sections.specs.declared.Node.{Node}
-use Rattle.sections.specs.declared.Walked.{Walked}
 use Rattle.sections.specs.declared.Walked.the-variants.{Met, Broken}
 use Rattle.sections.specs.Sections.{boundsAt, PartAt}
 use Rattle.sections.specs.Nodes.{wholeAt, nodeIn, bounds, wordsIn, Finds, onward, nodesFrom, nodesIn, Stated, stated, statedIn, stateWords, statesWords, ofNode, ofTree, ofTrees}
+use Rattle.sections.proofs.Sections.{long, count-there, bounds-there, words-there, next-there}
 
 -- ## Where a node stands
 
@@ -51,48 +51,35 @@ module _ (ws : List ℕ) (at : ℕ) where
       rw (past-end ws (at + 3) h, e, e, e, ← not-whole ws (length ws) (omega arith))
 
   module _ {i l r o : Bounds} (input : PartAt ws (length ws) (at + 3) i) (left : PartAt ws (length ws) (i .to) l)
-    (right : PartAt ws (length ws) (l .to) r) (output : PartAt ws (length ws) (r .to) o)
-    {t : Bool} (last : t ≡ wholeAt ws (o .to)) where
+      (right : PartAt ws (length ws) (l .to) r) (output : PartAt ws (length ws) (r .to) o)
+      {t : Bool} (last : t ≡ wholeAt ws (o .to)) where
     pub broken-off : t ≡ false → Broken ≡ nodeIn ws at
     unfolding nodeIn pick
     broken-off h = rw (exact input, exact left, exact right, exact output, ← last, h)
 
     pub met : {e : Bounds} → t ≡ true → PartAt ws (length ws) (o .to) e
-        → Met (record { rule = getD ws at 0; children = getD ws (at + 1) 0; place = getD ws (at + 2) 0; input = i; left = l; right = r; output = o; result = e; end = e .to })
+        → Met (record {
+          rule = getD ws at 0;
+          children = getD ws (at + 1) 0;
+          place = getD ws (at + 2) 0;
+          input = i;
+          left = l;
+          right = r;
+          output = o;
+          result = e;
+          end = e .to;
+        })
         ≡ nodeIn ws at
     unfolding nodeIn pick
     met h result = rw (exact input, exact left, exact right, exact output, ← last, h, exact result)
 
--- ## A section that stands at a place, before other words
-
-module _ (ws vs qs : List ℕ) (p : ℕ) (h : drop p ws ≡ section vs ++ qs) where
-  long : length ws ≡ p + 1 + length vs + length qs
-  unfolding section
-  long = omega (arith, ap length h, length-drop p ws, length-append vs qs)
-
-  count-there : getD ws p 0 ≡ length vs
-  unfolding section
-  count-there = let e : p ≡ p + 0 = omega arith in ap (λ (k : ℕ). getD ws k 0) e ∙ (sym (getD-drop p ws 0 0) ∙ ap (λ (l : List ℕ). getD l 0 0) h)
-
-  whole-there : wholeAt ws p ≡ true
-  unfolding wholeAt
-  whole-there = rw (lt-ltb p (length ws) (omega (arith, long)), count-there, le-leb (length vs) (length ws - (p + 1)) (omega (arith, long)))
-
-  bounds-there : boundsAt ws p ≡ (p + 1, p + 1 + length vs)
-  unfolding boundsAt pick
-  bounds-there = rw (lt-ltb p (length ws) (omega (arith, long)), count-there, le-leb (length vs) (length ws - (p + 1)) (omega (arith, long)))
-
-  past-count : drop (p + 1) ws ≡ vs ++ qs
-  unfolding section
-  past-count = sym (drop-drop 1 p ws) ∙ ap (drop 1) h
-
-  words-there : take (p + 1 + length vs - (p + 1)) (drop (p + 1) ws) ≡ vs
-  words-there = let e : p + 1 + length vs - (p + 1) ≡ length vs = omega arith in rw (e, past-count) (take-at vs qs (length vs) refl)
-
-  next-there : drop (p + 1 + length vs) ws ≡ qs
-  next-there = sym (drop-drop (length vs) (p + 1) ws) ∙ ap (drop (length vs)) past-count ∙ drop-at vs qs (length vs) refl
-
 -- ## A node that stands at a place, before other words
+
+whole-there : (ws vs qs : List ℕ) (p : ℕ) → drop p ws ≡ section vs ++ qs → wholeAt ws p ≡ true
+unfolding wholeAt
+whole-there ws vs qs p h =
+    let l = long ws vs qs p h in
+    rw (lt-ltb p (length ws) (omega (arith, l)), count-there ws vs qs p h, le-leb (length vs) (length ws - (p + 1)) (omega (arith, l)))
 
 -- the words of its sections, and then others
 abbrev fiveThen : Stated → List ℕ → List ℕ
@@ -206,25 +193,25 @@ first-of : (ws : List ℕ) (p k : ℕ) → p < length ws → k ≡ p + 1 → dro
 first-of ws p k h e = let i : suc p ≡ k = omega arith in drop-cons ws p 0 h ∙ ap (λ (m : ℕ). getD ws p 0 ∷ drop m ws) i
 
 module _ (ws : List ℕ) (p : ℕ) where
-  abbrev n : ℕ
-  n = getD ws p 0
+  abbrev count : ℕ
+  count = getD ws p 0
 
-  abbrev fills : ℕ × ℕ
-  fills = (p + 1, p + 1 + n)
+  abbrev full : ℕ × ℕ
+  full = (p + 1, p + 1 + count)
 
-  abbrev nothing : ℕ × ℕ
-  nothing = (length ws, length ws)
+  abbrev none : ℕ × ℕ
+  none = (length ws, length ws)
 
-  bounds-are : boundsAt ws p ≡ pick (wholeAt ws p) fills nothing
+  bounds-are : boundsAt ws p ≡ pick (wholeAt ws p) full none
   unfolding boundsAt wholeAt
-  bounds-are = both (ltb p (length ws)) (leb n (length ws - (p + 1))) fills nothing
+  bounds-are = both (ltb p (length ws)) (leb count (length ws - (p + 1))) full none
 
   -- a section that is not whole ends where no other begins
   whole-before : wholeAt ws (boundsAt ws p .1) ≡ true → wholeAt ws p ≡ true
   unfolding pick
   whole-before h = go (wholeAt ws p) (rw bounds-are at h)
     where
-      go : (b : Bool) → wholeAt ws (pick b fills nothing .1) ≡ true → b ≡ true
+      go : (b : Bool) → wholeAt ws (pick b full none .1) ≡ true → b ≡ true
       go true k = refl
       go false k = not-whole ws (length ws) (omega arith) ∙ k
 
@@ -232,23 +219,24 @@ module _ (ws : List ℕ) (p : ℕ) where
   unfolding section pick
   stands h =
       let i = inside ws p h in
-      let m : p + 1 + n - (p + 1) ≡ n = omega arith in
-      let k : length (take n (drop (p + 1) ws)) ≡ n = length-take-le n (drop (p + 1) ws) (omega (arith, i, length-drop (p + 1) ws)) in
+      let m : p + 1 + count - (p + 1) ≡ count = omega arith in
+      let k : length (take count (drop (p + 1) ws)) ≡ count = length-take-le count (drop (p + 1) ws) (omega (arith, i, length-drop (p + 1) ws)) in
       first-of ws p (p + 1) (i .0) refl
-      ∙ sym (rw (bounds-are, h, m, k, ← drop-drop n (p + 1) ws, take-append-drop n (drop (p + 1) ws)))
+      ∙ sym (rw (bounds-are, h, m, k, ← drop-drop count (p + 1) ws, take-append-drop count (drop (p + 1) ws)))
 
 module _ (ws : List ℕ) (at : ℕ) where
-  abbrev l : ℕ
-  l = boundsAt ws (at + 3) .1
+  -- where the counts of the other four stand, if they do
+  abbrev c₁ : ℕ
+  c₁ = boundsAt ws (at + 3) .1
 
-  abbrev r : ℕ
-  r = boundsAt ws l .1
+  abbrev c₂ : ℕ
+  c₂ = boundsAt ws c₁ .1
 
-  abbrev o : ℕ
-  o = boundsAt ws r .1
+  abbrev c₃ : ℕ
+  c₃ = boundsAt ws c₂ .1
 
-  abbrev e : ℕ
-  e = boundsAt ws o .1
+  abbrev c₄ : ℕ
+  c₄ = boundsAt ws c₃ .1
 
   abbrev found : Node
   found = record {
@@ -256,37 +244,40 @@ module _ (ws : List ℕ) (at : ℕ) where
     children = getD ws (at + 1) 0;
     place = getD ws (at + 2) 0;
     input = bounds (boundsAt ws (at + 3));
-    left = bounds (boundsAt ws l);
-    right = bounds (boundsAt ws r);
-    output = bounds (boundsAt ws o);
-    result = bounds (boundsAt ws e);
-    end = boundsAt ws e .1;
+    left = bounds (boundsAt ws c₁);
+    right = bounds (boundsAt ws c₂);
+    output = bounds (boundsAt ws c₃);
+    result = bounds (boundsAt ws c₄);
+    end = boundsAt ws c₄ .1;
   }
 
   three-first : at + 3 < length ws → drop at ws ≡ getD ws at 0 ∷ getD ws (at + 1) 0 ∷ getD ws (at + 2) 0 ∷ drop (at + 3) ws
   three-first h =
-      rw (first-of ws at (at + 1) (omega arith) refl, first-of ws (at + 1) (at + 2) (omega arith) (omega arith),
-      first-of ws (at + 2) (at + 3) (omega arith) (omega arith))
+      rw (
+        first-of ws at (at + 1) (omega arith) refl,
+        first-of ws (at + 1) (at + 2) (omega arith) (omega arith),
+        first-of ws (at + 2) (at + 3) (omega arith) (omega arith),
+      )
 
-  met-there : wholeAt ws e ≡ true → Finds ws at (Met found)
+  met-there : wholeAt ws c₄ ≡ true → Finds ws at (Met found)
   unfolding stateWords sections
   met-there h =
-      let ho = whole-before ws o h in
-      let hr = whole-before ws r ho in
-      let hl = whole-before ws l hr in
-      let hi = whole-before ws (at + 3) hl in
-      three-first (inside ws (at + 3) hi .0)
-      ∙ rw (stands ws (at + 3) hi, stands ws l hl, stands ws r hr, stands ws o ho, stands ws e h) (sym (simp append-assoc))
+      let h₃ = whole-before ws c₃ h in
+      let h₂ = whole-before ws c₂ h₃ in
+      let h₁ = whole-before ws c₁ h₂ in
+      let h₀ = whole-before ws (at + 3) h₁ in
+      three-first (inside ws (at + 3) h₀ .0)
+      ∙ rw (stands ws (at + 3) h₀, stands ws c₁ h₁, stands ws c₂ h₂, stands ws c₃ h₃, stands ws c₄ h) (sym (simp append-assoc))
 
-  none-there : wholeAt ws e ≡ false → Finds ws at Broken
+  none-there : wholeAt ws c₄ ≡ false → Finds ws at Broken
   none-there h S qs d = false≢true (sym h ∙ last-there ws S qs at d)
 
 -- what `nodeIn` answers, of any words
 pub finds : (ws : List ℕ) (at : ℕ) → Finds ws at (nodeIn ws at)
 unfolding nodeIn pick
-finds ws at = go (wholeAt ws (e ws at)) refl
+finds ws at = go (wholeAt ws (c₄ ws at)) refl
   where
-    go : (b : Bool) → wholeAt ws (e ws at) ≡ b → Finds ws at (pick b (Met (found ws at)) Broken)
+    go : (b : Bool) → wholeAt ws (c₄ ws at) ≡ b → Finds ws at (pick b (Met (found ws at)) Broken)
     go true h = met-there ws at h
     go false h = none-there ws at h
 
@@ -298,8 +289,11 @@ unfolding nodesFrom onward statesWords
 walk ws [] zero at k h = refl
 walk ws [] (suc d) at k h = rw (← no-node ws at (omega (arith, ap length h, length-drop at ws)))
 walk ws (S ∷ Ss) (suc d) at k h =
-    rw (node-there ws S (statesWords Ss) at h, stated-there ws S (statesWords Ss) at h,
-    walk ws Ss d (p₅ ws S (statesWords Ss) at h) (omega arith) (after-node ws S (statesWords Ss) at h))
+    rw (
+      node-there ws S (statesWords Ss) at h,
+      stated-there ws S (statesWords Ss) at h,
+      walk ws Ss d (p₅ ws S (statesWords Ss) at h) (omega arith) (after-node ws S (statesWords Ss) at h),
+    )
 
 more-words : (Ss : List Stated) → length Ss ≤ length (statesWords Ss)
 unfolding statesWords stateWords

@@ -1,23 +1,23 @@
 -- After a call: a walk through what is handed out as the tree meets the nodes of the definition's tree.
 use mathlib.Core.Path.{_≡_, refl, sym, ap, _∙_}
 use mathlib.Core.Bool.{Bool, true, false}
-use mathlib.Core.List.{List, []}
+use mathlib.Core.List.{List, [], _∷_}
 use Prim.Native.Nat.{ℕ}
 use native.Mathlib.Omega.{arith}
 use lib.ListN.{length, take}
-use lib.Dec.{eqb, ltb}
+use lib.Dec.{eqb}
 use Rattle.definition.specs.Syntax.{pick}
 use Rattle.definition.specs.Run.{Out, done, fail, stop}
 use Rattle.definition.specs.Rules.{Result}
 use Rattle.definition.specs.Question.{Question, got, readQuestion}
-use Rattle.definition.specs.Reply.{Reply, refusal, answer, outReply, readReply, workWords, reply}
+use Rattle.definition.specs.Reply.{Reply, refusal, answer, outReply, readReply, reply}
 use Rattle.entry.specs.declared.Reply as entry
 use Rattle.entry.specs.Entry.{Replied}
 use Rattle.definition.specs.Memory.{call}
 use Rattle.sections.specs.declared.Section.the-variants.{Tree}
 use Rattle.sections.specs.Sections.{partOf}
 use Rattle.sections.specs.Outcomes.{ofResult, ofError, ofOutcome, handed}
-use Rattle.sections.specs.Nodes.{nodesFrom, nodesIn, Stated, statedIn, ofRun}
+use Rattle.sections.specs.Nodes.{nodesFrom, nodesIn, statedIn, ofRun, nodes-compute}
 use Rattle.sections.proofs.Reports.{every-reply, every-outcome, after-check}
 use Rattle.sections.proofs.Nodes.{tree-met}
 
@@ -59,7 +59,8 @@ module _ (budget work room : ℕ) (q : List ℕ) {Q : Question} {p : ℕ} {vs : 
   unfolding reply readReply
   run-reply h = not-refused _ _ _ _ h ∙ rw read
 
-  pub tree-on-zero : (s : List ℕ) → reply budget work room q .code ≡ 0 → statedIn (handed Tree (reply budget work room q) s) ≡ ofRun (answer Q budget 0)
+  pub tree-on-zero : (s : List ℕ) → reply budget work room q .code ≡ 0
+      → statedIn (handed Tree (reply budget work room q) s) ≡ ofRun (answer Q budget 0)
   unfolding pick
   tree-on-zero s h =
       let e = run-reply h in
@@ -73,3 +74,15 @@ unfolding call
 tree-after-check {budget} {q} {w} {s = s} read a h =
     ap statedIn (after-check a Tree ∙ sym (every-reply budget (length w) (length s) q Tree s))
     ∙ tree-on-zero budget (length w) (length s) q read s (sym (a .numbers .code) ∙ h)
+
+-- ## Computed
+
+-- rules 22 and 2, two nodes, and the beginning of a third; the second is case (a)'s tree
+abbrev two : List ℕ
+two = 22 ∷ 0 ∷ 0 ∷ 0 ∷ 1 ∷ 1 ∷ 1 ∷ 1 ∷ 0 ∷ 0 ∷ 2 ∷ 0 ∷ 4 ∷ 0 ∷ 0 ∷ 0 ∷ 0 ∷ 1 ∷ 1 ∷ 2 ∷ 0 ∷ 4 ∷ 0 ∷ 0 ∷ 0 ∷ 0 ∷ 1 ∷ []
+
+pub walked : statedIn two
+    ≡ record { rule = 22; children = 0; place = 0; input = []; left = 1 ∷ []; right = 1 ∷ []; output = []; result = [] }
+    ∷ record { rule = 2; children = 0; place = 4; input = []; left = []; right = []; output = []; result = 1 ∷ [] } ∷ []
+unfolding nodes-compute
+walked = refl

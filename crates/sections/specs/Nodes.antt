@@ -146,3 +146,8 @@ unfoldable pub ofRun : Out Result → List Stated
 ofRun (done r left fresh) = ofTree (r .2)
 ofRun (fail e left) = []
 ofRun stop = []
+
+-- `unfolding nodes-compute` opens every definition above
+unfoldable pub nodes-compute : Unit {0}
+unfolding wholeAt nodeIn onward nodesFrom nodesIn statedIn stateWords statesWords ofNode ofTree ofRun sections-compute
+nodes-compute = tt
