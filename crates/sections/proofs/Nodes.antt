@@ -11,6 +11,7 @@ use borrow.Author.Tests.{le-ltb, lt-ltb, le-leb, ltb-true, leb-true}
 use Rattle.definition.specs.Syntax.{pick, section, sections, noSection, tySection, ctxSection, Judgement, infer, check, inferApp, subtype, inst, onL, onR, Ty, Ctx, Rule, judgementWords, ruleNumber, Tree, node, Trees, leaf, _&_, children, treeWords, treesWords}
 use Rattle.sections.specs.declared.Bounds.{Bounds}
 use Rattle.sections.specs.declared.Node.{Node}
+use Rattle.sections.specs.declared.Walked.{Walked}
 use Rattle.sections.specs.declared.Walked.the-variants.{Met, Broken}
 use Rattle.sections.specs.Sections.{boundsAt, PartAt}
 use Rattle.sections.specs.Nodes.{wholeAt, nodeIn, bounds, wordsIn, Finds, onward, nodesFrom, nodesIn, Stated, stated, statedIn, stateWords, statesWords, ofNode, ofTree, ofTrees}
@@ -260,14 +261,17 @@ module _ (ws : List ℕ) (at : ℕ) where
       )
 
   met-there : wholeAt ws c₄ ≡ true → Finds ws at (Met found)
-  unfolding stateWords sections
+  unfolding stateWords sections pick
   met-there h =
       let h₃ = whole-before ws c₃ h in
       let h₂ = whole-before ws c₂ h₃ in
       let h₁ = whole-before ws c₁ h₂ in
       let h₀ = whole-before ws (at + 3) h₁ in
-      three-first (inside ws (at + 3) h₀ .0)
-      ∙ rw (stands ws (at + 3) h₀, stands ws c₁ h₁, stands ws c₂ h₂, stands ws c₃ h₃, stands ws c₄ h) (sym (simp append-assoc))
+      let i = inside ws c₄ h in (
+        rw (bounds-are ws c₄, h) (omega (arith, i)),
+        three-first (inside ws (at + 3) h₀ .0)
+            ∙ rw (stands ws (at + 3) h₀, stands ws c₁ h₁, stands ws c₂ h₂, stands ws c₃ h₃, stands ws c₄ h) (sym (simp append-assoc)),
+      )
 
   none-there : wholeAt ws c₄ ≡ false → Finds ws at Broken
   none-there h S qs d = false≢true (sym h ∙ last-there ws S qs at d)
@@ -282,6 +286,43 @@ finds ws at = go (wholeAt ws (c₄ ws at)) refl
     go false h = none-there ws at h
 
 -- ## A walk
+
+-- a node has eight words at least
+state-long : (S : Stated) (qs : List ℕ) → 8 + length qs ≤ length (stateWords S ++ qs)
+unfolding stateWords sections section
+state-long S qs = simp length-append (omega arith)
+
+module _ (ws : List ℕ) (at : ℕ) where
+  pub met-past : {N : Node} → nodeIn ws at ≡ Met N → (at + 8 ≤ N .end) × (N .end ≤ length ws)
+  met-past {N} e = let f = rw e at (finds ws at) in
+      (omega (arith, f .0, ap length (f .1), length-drop at ws, length-drop (N .end) ws, state-long (stated ws N) (drop (N .end) ws)), f .0)
+
+same-onward : (f g : ℕ → List Node) (z : Walked) → ((N : Node) → z ≡ Met N → f (N .end) ≡ g (N .end)) → onward f z ≡ onward g z
+unfolding onward
+same-onward f g (Met N) h = ap (λ (Ns : List Node). N ∷ Ns) (h N refl)
+same-onward f g Broken h = refl
+
+-- how many turns there may be does not matter
+same-walk : (ws : List ℕ) (d e at : ℕ) → length ws ≤ at + d → length ws ≤ at + e → nodesFrom d ws at ≡ nodesFrom e ws at
+unfolding nodesFrom onward
+same-walk ws zero zero at h k = refl
+same-walk ws zero (suc e) at h k = rw (← no-node ws at (omega arith))
+same-walk ws (suc d) zero at h k = rw (← no-node ws at (omega arith))
+same-walk ws (suc d) (suc e) at h k =
+    same-onward (λ p. nodesFrom d ws p) (λ p. nodesFrom e ws p) (nodeIn ws at) (λ N m. same-walk ws d e (N .end) (omega (arith, met-past ws at m)) (omega (arith, met-past ws at m)))
+
+module _ (ws : List ℕ) (at : ℕ) where
+  pub walk-ends : nodeIn ws at ≡ Broken → nodesFrom (length ws) ws at ≡ []
+  unfolding nodesFrom onward
+  walk-ends h = go (length ws)
+    where
+      go : (d : ℕ) → nodesFrom d ws at ≡ []
+      go zero = refl
+      go (suc d) = rw h
+
+  pub walk-goes-on : {N : Node} → nodeIn ws at ≡ Met N → nodesFrom (length ws) ws at ≡ N ∷ nodesFrom (length ws) ws (N .end)
+  unfolding nodesFrom onward
+  walk-goes-on h = same-walk ws (length ws) (suc (length ws)) at (omega arith) (omega arith) ∙ rw h
 
 -- so many turns are enough
 walk : (ws : List ℕ) (Ss : List Stated) (d at : ℕ) → length Ss ≤ d → drop at ws ≡ statesWords Ss → map (stated ws) (nodesFrom d ws at) ≡ Ss

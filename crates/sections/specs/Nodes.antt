@@ -2,7 +2,7 @@
 use mathlib.Core.Path.{_≡_}
 use mathlib.Core.Bool.{Bool, _&&_}
 use mathlib.Core.List.{List, [], _∷_, _++_, map}
-use Prim.Native.Nat.{ℕ, zero, suc, _+_, _-_}
+use Prim.Native.Nat.{ℕ, zero, suc, _+_, _-_, _≤_}
 use lib.ListN.{length, getD, take, drop}
 use lib.Dec.{ltb, leb}
 use Rattle.definition.specs.Syntax.{pick, placeOf, tyWords, etvar, Ty, ctxWords, Ctx, onL, onR, Judgement, infer, check, inferApp, subtype, inst, Rule, ruleNumber, Tree, node, Trees, leaf, _&_, section, sections, children}
@@ -61,6 +61,10 @@ nodesFrom (suc d) ws at = onward (λ p. nodesFrom d ws p) (nodeIn ws at)
 unfoldable pub nodesIn : List ℕ → List Node
 nodesIn ws = nodesFrom (length ws) ws 0
 
+-- their rules' numbers
+unfoldable pub rulesIn : List ℕ → List ℕ
+rulesIn ws = map (λ (N : Node). N .rule) (nodesIn ws)
+
 -- ## What a node states
 
 pub record Stated : Type 0 where
@@ -104,9 +108,9 @@ unfoldable pub statesWords : List Stated → List ℕ
 statesWords [] = []
 statesWords (S ∷ Ss) = stateWords S ++ statesWords Ss
 
--- what is met at a place begins there and ends before the next; where nothing is met no node stands, whatever it states
+-- what is met at a place stands there, and ends before what follows; where nothing is met no node stands, whatever it states
 abbrev pub Finds : List ℕ → ℕ → Walked → Type 0
-Finds ws at (Met N) = drop at ws ≡ stateWords (stated ws N) ++ drop (N .end) ws
+Finds ws at (Met N) = (N .end ≤ length ws) × (drop at ws ≡ stateWords (stated ws N) ++ drop (N .end) ws)
 Finds ws at Broken = (S : Stated) (qs : List ℕ) → drop at ws ≡ stateWords S ++ qs → ⊥
 
 -- ## What the definition's nodes state
@@ -149,5 +153,5 @@ ofRun stop = []
 
 -- `unfolding nodes-compute` opens every definition above
 unfoldable pub nodes-compute : Unit {0}
-unfolding wholeAt nodeIn onward nodesFrom nodesIn statedIn stateWords statesWords ofNode ofTree ofRun sections-compute
+unfolding wholeAt nodeIn onward nodesFrom nodesIn rulesIn statedIn stateWords statesWords ofNode ofTree ofRun sections-compute
 nodes-compute = tt
