@@ -16,7 +16,6 @@ returns c =
     let at-start = at-line .before .before .before .before .before in
     six (at-line .line .ensures) (at-part .part .ensures) (at-part2 .part2 .ensures) (at-part3 .part3 .ensures) (at-part4 .part4 .ensures)
     (at-part5 .part5 .ensures)
-    (omega (arith, same-length c, at-start .pre .0))
 
 pub say-spec : {M : Type 1} → statement M
 say-spec =
