@@ -54,18 +54,19 @@ not-refused false true z R h = absurd (omega (arith, h))
 not-refused false false true R h = absurd (omega (arith, h))
 not-refused false false false R h = refl
 
-module _ (budget work room : ℕ) (q : List ℕ) {Q : Question} {p : ℕ} {vs : List ℕ} (read : readQuestion q ≡ got Q p vs) where
-  run-reply : reply budget work room q .code ≡ 0 → reply budget work room q ≡ outReply (Q .kind) budget room (answer Q budget 0)
-  unfolding reply readReply
-  run-reply h = not-refused _ _ _ _ h ∙ rw read
+run-reply : (budget work room : ℕ) (q : List ℕ) {Q : Question} {p : ℕ} {vs : List ℕ} → readQuestion q ≡ got Q p vs
+    → reply budget work room q .code ≡ 0 → reply budget work room q ≡ outReply (Q .kind) budget room (answer Q budget 0)
+unfolding reply readReply
+run-reply budget work room q read h = not-refused _ _ _ _ h ∙ rw read
 
-  pub tree-on-zero : (s : List ℕ) → reply budget work room q .code ≡ 0
-      → statedIn (handed Tree (reply budget work room q) s) ≡ ofRun (answer Q budget 0)
-  unfolding pick
-  tree-on-zero s h =
-      let e = run-reply h in
-      let z : outReply (Q .kind) budget room (answer Q budget 0) .code ≡ 0 = ap (λ (R : Reply). R .code) (sym e) ∙ h in
-      rw e (every-tree (Q .kind) budget room (answer Q budget 0) s ∙ rw z)
+-- Q is the question that the words q are read as
+pub tree-on-zero : (budget work room : ℕ) (q s : List ℕ) {Q : Question} {p : ℕ} {vs : List ℕ} → readQuestion q ≡ got Q p vs
+    → reply budget work room q .code ≡ 0 → statedIn (handed Tree (reply budget work room q) s) ≡ ofRun (answer Q budget 0)
+unfolding pick
+tree-on-zero budget work room q s {Q} read h =
+    let e = run-reply budget work room q read h in
+    let z : outReply (Q .kind) budget room (answer Q budget 0) .code ≡ 0 = ap (λ (R : Reply). R .code) (sym e) ∙ h in
+    rw e (every-tree (Q .kind) budget room (answer Q budget 0) s ∙ rw z)
 
 -- the same in the entry's words
 pub tree-after-check : {budget : ℕ} {q w w′ s s′ : List ℕ} {r : entry.Reply} {Q : Question} {p : ℕ} {vs : List ℕ} → readQuestion q ≡ got Q p vs
@@ -73,7 +74,7 @@ pub tree-after-check : {budget : ℕ} {q w w′ s s′ : List ℕ} {r : entry.Re
 unfolding call
 tree-after-check {budget} {q} {w} {s = s} read a h =
     ap statedIn (after-check a Tree ∙ sym (every-reply budget (length w) (length s) q Tree s))
-    ∙ tree-on-zero budget (length w) (length s) q read s (sym (a .numbers .code) ∙ h)
+    ∙ tree-on-zero budget (length w) (length s) q s read (sym (a .numbers .code) ∙ h)
 
 -- ## Computed
 

@@ -20,8 +20,7 @@ line-requires c κs = omega (arith, slice-aggregate-line c)
 
 returns : tie.Need-returns
 returns c =
-    let at-line = c .before .before in let at-rules-of = at-line .before .before .before .before in
-    let at-section-of = at-rules-of .before .before in
+    let at-line = c .before .before in let at-rules-of = at-line .before .before .before .before in let at-section-of = at-rules-of .before .before in
     rule-line (at-section-of .section-of .ensures) (at-rules-of .rules-of .ensures) (search needs) (at-line .line .ensures)
 
 pub rule-line-spec : {M : Type 1} → statement M

@@ -15,8 +15,9 @@ abbrev μ-loop : tie.MeasureT-loop
 μ-loop tree rules₀ at₀ n₀ rules at n = length tree - at
 
 add-n : tie.Need-add-n Inv-loop μ-loop
-add-n c = let at-node = c .before in let at-loop = at-node .before .before .before in
-    omega (arith, room-listed (at-loop .loop .inv .0) (at-node .before .before .node-at .ensures) (at-node .z .given .1))
+add-n c =
+    let at-z = c .before in let at-node-at = at-z .before .before in let at-loop = at-node-at .before in
+    omega (arith, room-listed (at-loop .loop .inv .0) (at-node-at .node-at .ensures) (at-z .z .given .1))
 
 pub rules-of-spec : {M : Type 1} → statement M
 rules-of-spec =
