@@ -1,4 +1,4 @@
-"""The desk program as a function, after `rt check desk`: a question's words in, its two lines out, or the parts program's six; recorded
+"""The desk program as a function, after `rt check desk`: a question's words in, its two lines out, or the parts program's seven; recorded
 answers to hold them to; and what the tests' scripts share: files as arguments, and the verdict."""
 import collections
 import concurrent.futures

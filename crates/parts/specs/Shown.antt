@@ -10,6 +10,7 @@ use Rattle.entry.specs.declared.Reply.{Reply}
 use Rattle.sections.specs.declared.Section.{Section}
 use Rattle.sections.specs.declared.Section.the-variants.{Ty, Context, Tree, First, Second}
 use Rattle.sections.specs.Sections.{partOf}
+use Rattle.sections.specs.Nodes.{rulesIn}
 
 -- the line of each section, in the order in which they are declared
 abbrev pub five : (Section → List ℕ) → List ℕ
@@ -19,9 +20,13 @@ five part = lineOf (part Ty) ++ (lineOf (part Context) ++ (lineOf (part Tree) ++
 unfoldable pub sixLines : definition.Reply → List ℕ
 sixLines r = lineOf (numbers r) ++ five (λ x. partOf x (r .code) (r .report))
 
--- with the desk program's sizes: the first z bytes of out are the six lines
+-- and one for the rules of the tree's nodes, in written order
+unfoldable pub sevenLines : definition.Reply → List ℕ
+sevenLines r = sixLines r ++ lineOf (rulesIn (partOf Tree (r .code) (r .report)))
+
+-- with the desk program's sizes: the first z bytes of out are the seven lines
 pub record Shown (input out : List ℕ) (z : ℕ) : Type 0 where
-  pub is : take z out ≡ sixLines (byteReply 4096 input)
+  pub is : take z out ≡ sevenLines (byteReply 4096 input)
   pub within : z ≤ length out
 
 -- ## Inside: a reply r whose report stands at the start of the slice s
@@ -35,4 +40,13 @@ pub record PartLine (r : Reply) (x : Section) (s out out′ : List ℕ) (at z : 
 
 pub record Lines (r : Reply) (s out : List ℕ) (z : ℕ) : Type 0 where
   pub is : take z out ≡ lineOf (r .code ∷ r .at ∷ r .len ∷ r .units ∷ []) ++ five (partIn r s)
-  pub within : z ≤ length out
+  pub short : z ≤ 225330
+
+-- n rules, those of the nodes in the words ws
+pub record RulesOf (ws rules : List ℕ) (n : ℕ) : Type 0 where
+  pub is : take n rules ≡ rulesIn ws
+  pub within : n ≤ length rules
+
+pub record RuleLine (r : Reply) (s out out′ : List ℕ) (at z : ℕ) : Type 0 where
+  pub wrote : Wrote out out′ at (lineOf (rulesIn (partIn r s Tree))) z
+  pub short : z ≤ at + 5633

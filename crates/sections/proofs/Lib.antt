@@ -1,3 +1,5 @@
--- Laws of sections.
+-- Laws of sections and nodes.
 pub mod Sections
 pub mod Reports
+pub mod Nodes
+pub mod Trees

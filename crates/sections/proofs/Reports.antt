@@ -5,9 +5,9 @@ use mathlib.Core.List.{List, [], _∷_, _++_, map, append-assoc, append-nil}
 use Prim.Native.Nat.{ℕ, zero, suc, _+_, _-_, _≤_, _<_, min}
 use native.Mathlib.Omega.{arith}
 use lib.ListN.{length, getD, take, drop, length-append, length-take, length-drop}
-use lib.Seq.{take-at, take-suc, take-nil, drop-nil, drop-append-add, getD-at, split-at}
+use lib.Seq.{take-at, take-suc, take-nil, drop-nil, drop-append-seam, split-at}
 use lib.Dec.{eqb, leb}
-use borrow.Author.Tests.{lt-ltb, le-leb, ne-eqb, eqb-true}
+use borrow.Author.Tests.{le-leb, ne-eqb, eqb-true}
 use Rattle.definition.specs.Syntax.{pick, section, noSection, tySection, ctxSection, tyWords, ctxWords, treeWords, Error, Shown, noType, oneType, twoTypes, TypeError}
 use Rattle.definition.specs.Run.{Out, done, fail, stop}
 use Rattle.definition.specs.Rules.{Result}
@@ -22,32 +22,7 @@ use Rattle.sections.specs.declared.Section.{Section}
 use Rattle.sections.specs.declared.Section.the-variants.{Ty, Context, Tree, First, Second}
 use Rattle.sections.specs.Sections.{boundsAt, boundsOf, sectionOf, isError, has, placeOf, partOf, sections-compute}
 use Rattle.sections.specs.Outcomes.{ofResult, firstOf, secondOf, ofError, ofOutcome, handed}
-
--- ## Words between words
-
-module _ (ps vs qs : List ℕ) where
-  abbrev whole : List ℕ
-  whole = ps ++ (section vs ++ qs)
-
-  length-whole : length whole ≡ length ps + 1 + length vs + length qs
-  unfolding section
-  length-whole = length-append ps (section vs ++ qs) ∙ omega (arith, length-append vs qs)
-
-  pub bounds-between : boundsAt whole (length ps) ≡ (length ps + 1, length ps + 1 + length vs)
-  unfolding boundsAt section pick
-  bounds-between =
-      let l : length (ps ++ (length vs ∷ vs ++ qs)) ≡ length ps + 1 + length vs + length qs = length-whole in
-      let h : length ps < length (ps ++ (length vs ∷ vs ++ qs)) = omega arith in
-      let n : getD (ps ++ (length vs ∷ vs ++ qs)) (length ps) 0 ≡ length vs = getD-at ps (length vs) (vs ++ qs) 0 (length ps) refl in
-      let k : length vs ≤ length (ps ++ (length vs ∷ vs ++ qs)) - (length ps + 1) = omega arith in
-      rw (lt-ltb _ _ h, n, le-leb _ _ k)
-
-  pub words-between : take (length ps + 1 + length vs - (length ps + 1)) (drop (length ps + 1) whole) ≡ vs
-  unfolding section
-  words-between =
-      let d : drop (length ps + 1) (ps ++ (length vs ∷ vs ++ qs)) ≡ vs ++ qs = drop-append-add ps (length vs ∷ vs ++ qs) 1 in
-      let e : length ps + 1 + length vs - (length ps + 1) ≡ length vs = omega arith in
-      rw (e, d) (take-at vs qs (length vs) refl)
+use Rattle.sections.proofs.Sections.{bounds-there, words-there}
 
 -- ## Sections one after the other
 
@@ -65,9 +40,11 @@ module _ (wss : List (List ℕ)) where
   before : ℕ → List ℕ
   before k = joined (take k wss)
 
-  part-at : (k : ℕ) → k < length wss → joined wss ≡ whole (before k) (getD wss k []) (joined (drop (suc k) wss))
+  part-at : (k : ℕ) → k < length wss → drop (length (before k)) (joined wss) ≡ section (getD wss k []) ++ joined (drop (suc k) wss)
   unfolding joined before
-  part-at k h = ap joined (split-at wss k [] h) ∙ joined-append (take k wss) (getD wss k [] ∷ drop (suc k) wss)
+  part-at k h =
+      ap (drop (length (before k))) (ap joined (split-at wss k [] h) ∙ joined-append (take k wss) (getD wss k [] ∷ drop (suc k) wss))
+      ∙ drop-append-seam (before k) (section (getD wss k []) ++ joined (drop (suc k) wss))
 
   length-before : (k : ℕ) → k < length wss → length (before k) + 1 + length (getD wss k []) ≡ length (before (suc k))
   unfolding joined before section
@@ -75,7 +52,7 @@ module _ (wss : List (List ℕ)) where
       ∙ length-append (joined (take k wss)) (joined (getD wss k [] ∷ [])) ∙ omega (arith, length-append (getD wss k []) []))
 
   bounds-in : (k : ℕ) → k < length wss → boundsAt (joined wss) (length (before k)) ≡ (length (before k) + 1, length (before k) + 1 + length (getD wss k []))
-  bounds-in k h = rw (part-at k h) (bounds-between (before k) (getD wss k []) (joined (drop (suc k) wss)))
+  bounds-in k h = bounds-there (joined wss) (getD wss k []) _ (length (before k)) (part-at k h)
 
   bounds-are : (k : ℕ) → k < length wss → boundsOf k (joined wss) ≡ (length (before k) + 1, length (before k) + 1 + length (getD wss k []))
   unfolding boundsOf before joined
@@ -84,7 +61,7 @@ module _ (wss : List (List ℕ)) where
 
   section-is : (k : ℕ) → k < length wss → sectionOf k (joined wss) ≡ getD wss k []
   unfolding sectionOf
-  section-is k h = rw (bounds-are k h, part-at k h) (words-between (before k) (getD wss k []) (joined (drop (suc k) wss)))
+  section-is k h = rw (bounds-are k h) (words-there (joined wss) (getD wss k []) _ (length (before k)) (part-at k h))
 
 -- ## Where there is none
 

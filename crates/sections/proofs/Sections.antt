@@ -1,14 +1,14 @@
 -- Where sections stand, and what the sections of a report are.
-use mathlib.Core.Path.{_≡_, sym, ap, _∙_}
+use mathlib.Core.Path.{_≡_, refl, sym, ap, _∙_}
 use mathlib.Core.Bool.{Bool, true, false}
-use mathlib.Core.List.{List}
+use mathlib.Core.List.{List, _++_}
 use mathlib.Core.Logic.{_⊎_, ⊎-elim}
 use Prim.Native.Nat.{ℕ, suc, _+_, _-_, _≤_, _<_}
 use native.Mathlib.Omega.{arith}
-use lib.ListN.{length, getD, take, drop}
-use lib.Seq.{length-take-le, getD-take, take-take, take-add, take-all, drop-at}
+use lib.ListN.{length, getD, take, drop, length-append, length-drop}
+use lib.Seq.{length-take-le, getD-take, take-take, take-add, take-all, take-at, drop-at, drop-drop, getD-drop}
 use borrow.Author.Tests.{le-ltb, lt-ltb, le-leb, lt-leb}
-use Rattle.definition.specs.Syntax.{pick}
+use Rattle.definition.specs.Syntax.{pick, section}
 use Rattle.laws.proofs.Steps.{pick-true, pick-false}
 use Rattle.entry.specs.declared.Reply.{Reply}
 use Rattle.sections.specs.declared.Bounds.{Bounds}
@@ -29,6 +29,31 @@ module _ (ws : List ℕ) (n at : ℕ) (fits : n ≤ length ws) where
   pub found-at : at < n → getD ws at 0 ≤ n - (at + 1) → boundsAt (take n ws) at ≡ (at + 1, at + 1 + getD ws at 0)
   unfolding boundsAt pick
   found-at h k = rw (length-take-le n ws fits, lt-ltb at n h, getD-take n ws at 0 h, le-leb (getD ws at 0) (n - (at + 1)) k)
+
+-- ## A section that stands at a place, before other words
+
+module _ (ws vs qs : List ℕ) (p : ℕ) (h : drop p ws ≡ section vs ++ qs) where
+  pub long : length ws ≡ p + 1 + length vs + length qs
+  unfolding section
+  long = omega (arith, ap length h, length-drop p ws, length-append vs qs)
+
+  pub count-there : getD ws p 0 ≡ length vs
+  unfolding section
+  count-there = let e : p ≡ p + 0 = omega arith in ap (λ (k : ℕ). getD ws k 0) e ∙ (sym (getD-drop p ws 0 0) ∙ ap (λ (l : List ℕ). getD l 0 0) h)
+
+  pub bounds-there : boundsAt ws p ≡ (p + 1, p + 1 + length vs)
+  unfolding boundsAt pick
+  bounds-there = rw (lt-ltb p (length ws) (omega (arith, long)), count-there, le-leb (length vs) (length ws - (p + 1)) (omega (arith, long)))
+
+  past-count : drop (p + 1) ws ≡ vs ++ qs
+  unfolding section
+  past-count = sym (drop-drop 1 p ws) ∙ ap (drop 1) h
+
+  pub words-there : take (p + 1 + length vs - (p + 1)) (drop (p + 1) ws) ≡ vs
+  words-there = let e : p + 1 + length vs - (p + 1) ≡ length vs = omega arith in rw (e, past-count) (take-at vs qs (length vs) refl)
+
+  pub next-there : drop (p + 1 + length vs) ws ≡ qs
+  next-there = sym (drop-drop (length vs) (p + 1) ws) ∙ ap (drop (length vs)) past-count ∙ drop-at vs qs (length vs) refl
 
 -- ## A part of the first n words is a part of the slice
 

@@ -1,3 +1,4 @@
--- The sections of a report: where they stand, and what they hold.
+-- The sections of a report: where they stand, and what they hold; and the nodes of its tree.
 pub mod Sections
 pub mod Outcomes
+pub mod Nodes

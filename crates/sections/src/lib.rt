@@ -1,8 +1,9 @@
-// A report's sections, each as the part of the report slice that it fills, count excluded; empty where there is none.
+// A report's sections, each as the part of the report slice that it fills, count excluded, empty where there is none; and its tree, node by node.
 ghost use mathlib.Core.Path.{_≡_};
 ghost use Prim.Native.Nat.{_≤_};
 ghost use lib.ListN.{length, take};
 ghost use Rattle.sections.specs.Sections.{isError, has, placeOf, partOf, Part, PartAt, PartOf};
+ghost use Rattle.sections.specs.Nodes.{wholeAt, nodeIn};
 use entry::Reply;
 
 // What is asked for: on 0 a report has a type, a context and a tree; on 11 to 17 a first and a second type, those of the error.
@@ -18,6 +19,25 @@ pub enum Section {
 pub struct Bounds {
     pub from: usize,
     pub to: usize,
+}
+
+// A node of a tree, as it is written: the place is its expression's in the question. The next node stands where its own words end.
+pub struct Node {
+    pub rule: u32,
+    pub children: u32,
+    pub place: u32,
+    pub input: Bounds,
+    pub left: Bounds,
+    pub right: Bounds,
+    pub output: Bounds,
+    pub result: Bounds,
+    pub end: usize,
+}
+
+// What a walk comes to at a place: a whole node, or words that are none.
+pub enum Walked {
+    Met(Node),
+    Broken,
 }
 
 // The words of the section whose count stands at a place of the first n words.
@@ -111,4 +131,51 @@ pub fn section_of(report: &[u32], r: Reply, s: Section) -> &[u32]
     let from = b.from;
     let to = b.to;
     &report[from..to]
+}
+
+// Whether the section whose count stands at a place lies within the words.
+fn whole_at(words: &[u32], at: usize) -> bool
+    ensures { λ b. ⌜ b ≡ wholeAt (now (words .entry)) at ⌝ }
+{
+    let n = words.len();
+    if n <= at {
+        return false;
+    }
+    let count = words[at] as usize;
+    let left = n - (at + 1);
+    count <= left
+}
+
+// The node whose rule number stands at a place of any words.
+pub fn node_at(words: &[u32], at: usize) -> Walked
+    ensures { λ z. ⌜ z ≡ nodeIn (now (words .entry)) at ⌝ }
+{
+    let n = words.len();
+    if n <= 3 {
+        return Walked::Broken;
+    }
+    if n - 3 <= at {
+        return Walked::Broken;
+    }
+    let input = part_at(words, n, at + 3);
+    let left = part_at(words, n, input.to);
+    let right = part_at(words, n, left.to);
+    let output = part_at(words, n, right.to);
+    let last = output.to;
+    if whole_at(words, last) {
+        let result = part_at(words, n, last);
+        let node = Node {
+            rule: words[at],
+            children: words[at + 1],
+            place: words[at + 2],
+            input: input,
+            left: left,
+            right: right,
+            output: output,
+            result: result,
+            end: result.to,
+        };
+        return Walked::Met(node);
+    }
+    Walked::Broken
 }
