@@ -11,7 +11,7 @@ use Rattle.definition.specs.Syntax.{TmVar, TyVar, Binding, Entry, Ctx}
 use Rattle.definition.specs.Contexts.{Key, kVar, kTVar, kETVar, kSETVar, kMark, bindingKey, keyOf, kindOf, nameOf, hit, bindingType, held, find, leftOf, rightOf, has, _▹_, replace, isSolved, solved, solvedAndRight, before}
 use Rattle.definition.specs.Types.{sameName}
 use Rattle.definition.specs.Rules.{Here, _from_}
-use Rattle.alike.specs.Alike.{Pairing, OneToOne, Written, Named, written, fresh}
+use Rattle.alike.specs.Alike.{Pairing, OneToOne, Written, ReplyName, written, fresh}
 use Rattle.alike.proofs.Related.{BindingR, VarR, NameR, TyR, intR, EntryR, varBndR, tvarBndR, etvarBndR, setvarBndR, markR, CtxR, nilR, consR, OptionR, noneR, someR, pickR}
 
 -- ## Names: equal on one side where equal on the other
@@ -36,7 +36,7 @@ writtenSame {R} {a} {a′} {b} {b′} o p q =
 notFresh : {A : Type 0} {a : ℕ} (k : ℕ) → a < 1_000_000 → a ≡ 1_000_000 + k → A
 notFresh k h e = absurd (omega arith)
 
-namedSame : {R : ℕ → ℕ → Type 0} {a a′ b b′ : ℕ} → OneToOne R → Named R a a′ → Named R b b′ → eqb a b ≡ eqb a′ b′
+namedSame : {R : ℕ → ℕ → Type 0} {a a′ b b′ : ℕ} → OneToOne R → ReplyName R a a′ → ReplyName R b b′ → eqb a b ≡ eqb a′ b′
 namedSame o (written p) (written q) = writtenSame o p q
 namedSame o (written p) (fresh k) = sameTest (notFresh k (p .low)) (notFresh k (p .low′))
 namedSame o (fresh k) (written q) = sameTest (λ e. notFresh k (q .low) (sym e)) (λ e. notFresh k (q .low′) (sym e))
@@ -47,7 +47,7 @@ namedSame o (fresh k) (fresh i) = refl
 -- how a name is paired, by whether it is a variable's
 pub data Sort (P : Pairing) : Bool → ℕ → ℕ → Type 0 where
   ofVariable : {x x′ : ℕ} → Written (P .variables) x x′ → Sort P true x x′
-  ofType : {a a′ : ℕ} → Named (P .types) a a′ → Sort P false a a′
+  ofType : {a a′ : ℕ} → ReplyName (P .types) a a′ → Sort P false a a′
 
 sortSame : {P : Pairing} {b : Bool} {a a′ c c′ : ℕ} → Sort P b a a′ → Sort P b c c′ → eqb a c ≡ eqb a′ c′
 sortSame {P} (ofVariable p) (ofVariable q) = writtenSame (P .variablesPair) p q

@@ -11,7 +11,7 @@ use mir.Facts.{and-yes, yes-and}
 use Rattle.definition.specs.Syntax.{pick}
 use Rattle.definition.specs.Question.{Read, got, fault, Question, readQuestion, question-computes}
 use Rattle.alike.specs.Alike.{Label, the, variable, typeName, half, truth, section, IsTy, IsExpr, IsEntry, IsCtx, IsQuestion, OneToOne, Pairing, InQuestions, Each, none, more, AlikeQuestions, WellFormed}
-use Rattle.alike.proofs.Words.{lengthL, Parts, parts, splitE}
+use Rattle.alike.proofs.Words.{lengthL, InTwo, parts, splitE}
 use Rattle.alike.proofs.Demand3.{well-formed}
 use Rattle.alike.proofs.WellFormed.{alike-itself}
 
@@ -172,7 +172,7 @@ module _ {P : Pairing} where
   unfolding inSections
   sectionL {is} {iss} {s} {t} h g = record { at = by }
     where
-      apart : {u u′ : List ℕ} → Parts (InQuestions P) s t u u′ → inSections (is ∷ iss) (length s ∷ u) ≡ section s ++ t
+      apart : {u u′ : List ℕ} → InTwo (InQuestions P) s t u u′ → inSections (is ∷ iss) (length s ∷ u) ≡ section s ++ t
       apart (parts {u = u} {v = v} p q) = rw (take-at u v _ (lengthL p), drop-at u v _ (lengthL p), h .at p, g .at q)
 
       by : {u u′ : List ℕ} → Each (InQuestions P) (section s ++ t) u u′ → inSections (is ∷ iss) u ≡ section s ++ t
@@ -266,16 +266,16 @@ deciding-computes = tt
 -- ## What it says
 
 -- a pair of a list
-data In (a b : ℕ) : List (ℕ × ℕ) → Type 0 where
-  here : {p : ℕ × ℕ} {l : List (ℕ × ℕ)} → p .0 ≡ a → p .1 ≡ b → In a b (p ∷ l)
-  there : {p : ℕ × ℕ} {l : List (ℕ × ℕ)} → In a b l → In a b (p ∷ l)
+data PairIn (a b : ℕ) : List (ℕ × ℕ) → Type 0 where
+  here : {p : ℕ × ℕ} {l : List (ℕ × ℕ)} → p .0 ≡ a → p .1 ≡ b → PairIn a b (p ∷ l)
+  there : {p : ℕ × ℕ} {l : List (ℕ × ℕ)} → PairIn a b l → PairIn a b (p ∷ l)
 
-everyIn : (f : ℕ × ℕ → Bool) {a b : ℕ} {l : List (ℕ × ℕ)} → T (every f l) → In a b l → T (f (a, b))
+everyIn : (f : ℕ × ℕ → Bool) {a b : ℕ} {l : List (ℕ × ℕ)} → T (every f l) → PairIn a b l → T (f (a, b))
 unfolding every
 everyIn f {l = p ∷ l} t (here e e′) = rw (← e, ← e′) (and-yes (f p) (every f l) t .0)
 everyIn f {l = p ∷ l} t (there i) = everyIn f (and-yes (f p) (every f l) t .1) i
 
-inEvery : (f : ℕ × ℕ → Bool) (l : List (ℕ × ℕ)) → ((a b : ℕ) → In a b l → T (f (a, b))) → T (every f l)
+inEvery : (f : ℕ × ℕ → Bool) (l : List (ℕ × ℕ)) → ((a b : ℕ) → PairIn a b l → T (f (a, b))) → T (every f l)
 unfolding every
 inEvery f [] h = tt
 inEvery f (p ∷ l) h = yes-and (f p) (every f l) (h (p .0) (p .1) (here refl refl)) (inEvery f l (λ a b i. h a b (there i)))
@@ -296,7 +296,7 @@ equal : (a b : ℕ) → a ≡ b → T (eqb a b)
 equal a b e = rw e (eqb-refl b)
 
 abbrev Pairs : List (ℕ × ℕ) → ℕ → ℕ → Type 0
-Pairs l a b = In a b l
+Pairs l a b = PairIn a b l
 
 pairsOf : (l : List (ℕ × ℕ)) → T (oneToOne l) → OneToOne (Pairs l)
 unfolding oneToOne
@@ -305,7 +305,7 @@ pairsOf l t = record {
   left = λ {a} {b} {c} i j. eqb→eq a b (thence (eqb a b) (eqb c c) (everyIn _ (everyIn _ t i) j) .1 (eqb-refl c));
 }
 
-ofPairs : {R : ℕ → ℕ → Type 0} (l : List (ℕ × ℕ)) → OneToOne R → ((a b : ℕ) → In a b l → R a b) → T (oneToOne l)
+ofPairs : {R : ℕ → ℕ → Type 0} (l : List (ℕ × ℕ)) → OneToOne R → ((a b : ℕ) → PairIn a b l → R a b) → T (oneToOne l)
 unfolding oneToOne
 ofPairs l o h =
     inEvery _ l (λ a b i. inEvery _ l (λ c d j.
@@ -327,18 +327,18 @@ wordOf P typeName w w′ t v y =
 wordOf P half w w′ t v y = InQuestions.halves
 wordOf P truth w w′ t v y = let (e, e′) = and-yes (leb w 1) (leb w′ 1) t in InQuestions.truths (leb→le w 1 e) (leb→le w′ 1 e′)
 
-first : {w w′ : ℕ} (l : List (ℕ × ℕ)) (b : Bool) → T b → In w w′ (pick b ((w, w′) ∷ l) l)
+first : {w w′ : ℕ} (l : List (ℕ × ℕ)) (b : Bool) → T b → PairIn w w′ (pick b ((w, w′) ∷ l) l)
 unfolding pick
 first l true t = here refl refl
 first l false t = absurd t
 
-later : {c d : ℕ} {l : List (ℕ × ℕ)} (p : ℕ × ℕ) (b : Bool) → In c d l → In c d (pick b (p ∷ l) l)
+later : {c d : ℕ} {l : List (ℕ × ℕ)} (p : ℕ × ℕ) (b : Bool) → PairIn c d l → PairIn c d (pick b (p ∷ l) l)
 unfolding pick
 later p true i = there i
 later p false i = i
 
 eachOf : (P : Pairing) (s : List Label) (u u′ : List ℕ) → T (fit s u u′)
-    → ((b c : ℕ) → In b c (names isVariable s u u′) → P .variables b c) → ((b c : ℕ) → In b c (names isTypeName s u u′) → P .types b c)
+    → ((b c : ℕ) → PairIn b c (names isVariable s u u′) → P .variables b c) → ((b c : ℕ) → PairIn b c (names isTypeName s u u′) → P .types b c)
     → Each (InQuestions P) s u u′
 unfolding fit names
 eachOf P [] [] [] t v y = none
@@ -366,7 +366,7 @@ module _ {P : Pairing} where
   fitOf none = tt
   fitOf (more {k} {w} {w′} {s} {u} {u′} x e) = yes-and (fits k w w′) (fit s u u′) (fitsOf x) (fitOf e)
 
-  variablesIn : {s : List Label} {u u′ : List ℕ} {b c : ℕ} → Each (InQuestions P) s u u′ → In b c (names isVariable s u u′) → P .variables b c
+  variablesIn : {s : List Label} {u u′ : List ℕ} {b c : ℕ} → Each (InQuestions P) s u u′ → PairIn b c (names isVariable s u u′) → P .variables b c
   unfolding names isVariable pick
   variablesIn none i = elim i [ ]
   variablesIn (more InQuestions.same e) i = variablesIn e i
@@ -376,7 +376,7 @@ module _ {P : Pairing} where
   variablesIn (more InQuestions.halves e) i = variablesIn e i
   variablesIn (more (InQuestions.truths h h′) e) i = variablesIn e i
 
-  typesIn : {s : List Label} {u u′ : List ℕ} {b c : ℕ} → Each (InQuestions P) s u u′ → In b c (names isTypeName s u u′) → P .types b c
+  typesIn : {s : List Label} {u u′ : List ℕ} {b c : ℕ} → Each (InQuestions P) s u u′ → PairIn b c (names isTypeName s u u′) → P .types b c
   unfolding names isTypeName pick
   typesIn none i = elim i [ ]
   typesIn (more InQuestions.same e) i = typesIn e i

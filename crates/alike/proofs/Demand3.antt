@@ -11,7 +11,7 @@ use Rattle.definition.specs.Syntax.{pick}
 use Rattle.definition.specs.Question.{Read, Question, readQuestion}
 use Rattle.definition.specs.Reply.{Reply, reply}
 use Rattle.definition.specs.Memory.{Call, call, reportAfter, workAfter}
-use Rattle.alike.specs.Alike.{Pairing, itself, Label, IsReport, Named, written, fresh, InReplies, Each, none, more, AlikeQuestions, AlikeReplies, AlikeCalls, WellFormed}
+use Rattle.alike.specs.Alike.{Pairing, itself, Label, IsReport, ReplyName, written, fresh, InReplies, Each, none, more, AlikeQuestions, AlikeReplies, AlikeCalls, WellFormed}
 use Rattle.alike.proofs.Related.{pickR}
 use Rattle.alike.proofs.Words.{sameLength}
 use Rattle.alike.proofs.Readers.{GotR, gotR}
@@ -64,7 +64,7 @@ refused-same a h k =
 
 -- ## Literals
 
-sameName : {a b : ℕ} → Named (λ a b. a ≡ b) a b → a ≡ b
+sameName : {a b : ℕ} → ReplyName (λ a b. a ≡ b) a b → a ≡ b
 sameName (written n) = n .paired
 sameName (fresh k) = refl
 

@@ -7,33 +7,33 @@ use mathlib.Core.Bool.{Bool, true, false}
 use mathlib.Core.List.{List, [], _∷_, map}
 use Rattle.definition.specs.Reply.{reply, reply-computes}
 use Rattle.laws.proofs.Cases.{Says, wholly, begins, asked, seen}
-use Rattle.alike.specs.Alike.{Pairing, typeName, IsExpr, IsQuestion, Named, written, fresh, InReplies, InQuestions.same, halves, none, more}
+use Rattle.alike.specs.Alike.{Pairing, typeName, IsExpr, IsQuestion, ReplyName, written, fresh, InReplies, InQuestions.same, halves, none, more}
 use Rattle.alike.proofs.Demand3.{no-literal}
 use Rattle.alike.proofs.Deciding.{areAlike, Decided, decided, deciding-computes}
 
 -- ## The table
 
 -- a question, and what is said of its reply with budget 384
-abbrev pub Asked : Type 0
-Asked = List ℕ × Says
+abbrev pub Example : Type 0
+Example = List ℕ × Says
 
 -- whether two are alike, and both
 abbrev pub Pair : Type 0
-Pair = Bool × Asked × Asked
+Pair = Bool × Example × Example
 
-abbrev pub alike : Asked → Asked → Pair
+abbrev pub alike : Example → Example → Pair
 alike q q′ = (true, q, q′)
 
-abbrev pub apart : Asked → Asked → Pair
+abbrev pub apart : Example → Example → Pair
 apart q q′ = (false, q, q′)
 
 -- as much of a question's reply as is said, computed
-abbrev pub begun : Asked → Says
+abbrev pub begun : Example → Says
 begun q = seen (asked (384, q .0, q .1)) (q .1)
 
 -- alike under some pairing, or under none
-abbrev pub Shown : Pair → Type 1
-Shown (b, q, q′) = Decided b (q .0) (q′ .0) × (begun q ≡ q .1) × (begun q′ ≡ q′ .1)
+abbrev pub PairHolds : Pair → Type 1
+PairHolds (b, q, q′) = Decided b (q .0) (q′ .0) × (begun q ≡ q .1) × (begun q′ ≡ q′ .1)
 
 pub data All (F : Pair → Type 1) : List Pair → Type 1 where
   noPair : All F []
@@ -166,15 +166,15 @@ computed (b, q, q′) = (areAlike (q .0) (q′ .0), begun q, begun q′)
 claimed : Pair → Bool × Says × Says
 claimed (b, q, q′) = (b, q .1, q′ .1)
 
-shown : (p : Pair) → computed p ≡ claimed p → Shown p
+shown : (p : Pair) → computed p ≡ claimed p → PairHolds p
 unfolding computed claimed
 shown (b, q, q′) e = (rw (ap (λ c. c .0) e) at (decided (q .0) (q′ .0)), ap (λ c. c .1) e, ap (λ c. c .2) e)
 
-every : (l : List Pair) → map computed l ≡ map claimed l → All Shown l
+every : (l : List Pair) → map computed l ≡ map claimed l → All PairHolds l
 every [] e = noPair
 every (p ∷ l) e = shown p (cc) ⨾ every l (cc)
 
-pub each-pair : All Shown pairs
+pub each-pair : All PairHolds pairs
 unfolding pairs computed claimed asked seen deciding-computes reply-computes
 each-pair = every pairs refl
 
@@ -199,6 +199,6 @@ a-literal low high =
 pub fresh-alone : {P : Pairing} {a b : ℕ} → InReplies P typeName a b → (1_000_000 ≤ a → a ≡ b) × (1_000_000 ≤ b → a ≡ b)
 fresh-alone (InReplies.typeNames n) = by n
   where
-    by : {R : ℕ → ℕ → Type 0} {a b : ℕ} → Named R a b → (1_000_000 ≤ a → a ≡ b) × (1_000_000 ≤ b → a ≡ b)
+    by : {R : ℕ → ℕ → Type 0} {a b : ℕ} → ReplyName R a b → (1_000_000 ≤ a → a ≡ b) × (1_000_000 ≤ b → a ≡ b)
     by (written n) = (λ h. absurd (omega (arith, n .low)), λ h. absurd (omega (arith, n .low′)))
     by (fresh k) = (λ h. refl, λ h. refl)

@@ -6,13 +6,13 @@ use mathlib.Core.List.{[], _∷_}
 use mathlib.Core.Option.{Option, none, some}
 use Rattle.definition.specs.Syntax.{pick, TmVar, TyVar, Ty, int, bool, var, etvar, arrow, forall, Expr, evar, app, abs, tapp, tabs, ann, litInt, litBool, letIn, ifThenElse, binOp, Binding, varBnd, tvarBnd, etvarBnd, setvarBnd, mark, Entry, Ctx, Side, Judgement, infer, check, inferApp, subtype, inst, Rule, Tree, node, Trees, leaf, _&_, Shown, noType, oneType, twoTypes, TypeError}
 use Rattle.definition.specs.Reply.{errorCode, errorAt}
-use Rattle.alike.specs.Alike.{Pairing, Written, Named, InReplies, atLabel}
+use Rattle.alike.specs.Alike.{Pairing, Written, ReplyName, InReplies, atLabel}
 
 pub record VarR (P : Pairing) (x x′ : TmVar) : Type 0 where
   pub numbers : Written (P .variables) (x .number) (x′ .number)
 
 pub record NameR (P : Pairing) (a a′ : TyVar) : Type 0 where
-  pub numbers : Named (P .types) (a .number) (a′ .number)
+  pub numbers : ReplyName (P .types) (a .number) (a′ .number)
 
 pub data TyR (P : Pairing) : Ty → Ty → Type 0 where
   intR : TyR P int int

@@ -16,7 +16,7 @@ use Rattle.alike.specs.Alike.{Pairing, Label, the, IsTy, IsEntry, IsCtx,
 use Rattle.alike.proofs.Related
 use Rattle.alike.proofs.Related.{TyR, BindingR, CtxR, JudgementR, TreeR, TreesR, ShownR, TypeErrorR, pickR}
 use Rattle.laws.proofs.Codes.{error}
-use Rattle.alike.proofs.Runs.{OutR, doneR, failR, stopR, Runs, bindR, giveR}
+use Rattle.alike.proofs.Runs.{OutR, doneR, failR, stopR, RunsAlike, bindR, giveR}
 use Rattle.alike.proofs.Types.{applyR}
 use Rattle.alike.proofs.Rules.{exprParts, ResultR, judgeR}
 use Rattle.alike.proofs.Words.{sameLength, done, under, item, join, sect, lastSect}
@@ -24,13 +24,13 @@ use Rattle.alike.proofs.Readers.{GotR, gotR}
 use Rattle.alike.proofs.Reading.{QuestionR}
 
 -- words of two reports
-abbrev Told : Pairing → (List Label → Type 0) → List ℕ → List ℕ → Type 0
-Told P = Alike (InReplies P)
+abbrev ReportsAlike : Pairing → (List Label → Type 0) → List ℕ → List ℕ → Type 0
+ReportsAlike P = Alike (InReplies P)
 
 same : (P : Pairing) (n : ℕ) → InReplies P (the n) n n
 same P n = InReplies.same
 
-code : {P : Pairing} {Is : List Label → Type 0} {n : ℕ} {u u′ : List ℕ} → Told P (λ s. Is (the n ∷ s)) u u′ → Told P Is (n ∷ u) (n ∷ u′)
+code : {P : Pairing} {Is : List Label → Type 0} {n : ℕ} {u u′ : List ℕ} → ReportsAlike P (λ s. Is (the n ∷ s)) u u′ → ReportsAlike P Is (n ∷ u) (n ∷ u′)
 code a = under _ InReplies.same a
 
 joinNodes : {s t : List Label} → IsNodes s → IsNodes t → IsNodes (s ++ t)
@@ -40,7 +40,7 @@ joinNodes (IsNodes.node i A B o C v) q = simp append-assoc (IsNodes.node i A B o
 module _ {P : Pairing} where
   -- ## Types and contexts
 
-  tyW : {A A′ : Ty} → TyR P A A′ → Told P IsTy (tyWords A) (tyWords A′)
+  tyW : {A A′ : Ty} → TyR P A A′ → ReportsAlike P IsTy (tyWords A) (tyWords A′)
   unfolding tyWords
   tyW Related.intR = code (done IsTy.int)
   tyW Related.boolR = code (done IsTy.bool)
@@ -51,7 +51,7 @@ module _ {P : Pairing} where
       code (join a (item (λ v. IsTy.arrow (a .format)) (tyW t)))
   tyW (Related.forallR a t) = code (under _ (InReplies.typeNames (a .numbers)) (item (λ v. IsTy.forall) (tyW t)))
 
-  bindingW : {b b′ : Binding} → BindingR P b b′ → Told P IsEntry (bindingWords b) (bindingWords b′)
+  bindingW : {b b′ : Binding} → BindingR P b b′ → ReportsAlike P IsEntry (bindingWords b) (bindingWords b′)
   unfolding bindingWords
   bindingW (Related.varBndR x t) = code (under _ (InReplies.variables (x .numbers)) (item (λ v. IsEntry.varBnd) (tyW t)))
   bindingW (Related.tvarBndR a) = code (under _ (InReplies.typeNames (a .numbers)) (done IsEntry.tvarBnd))
@@ -59,7 +59,7 @@ module _ {P : Pairing} where
   bindingW (Related.setvarBndR a t) = code (under _ (InReplies.typeNames (a .numbers)) (item (λ v. IsEntry.setvarBnd) (tyW t)))
   bindingW (Related.markR a) = code (under _ (InReplies.typeNames (a .numbers)) (done IsEntry.mark))
 
-  ctxW : {Γ Γ′ : Ctx} → CtxR P Γ Γ′ → Told P IsCtx (ctxWords Γ) (ctxWords Γ′)
+  ctxW : {Γ Γ′ : Ctx} → CtxR P Γ Γ′ → ReportsAlike P IsCtx (ctxWords Γ) (ctxWords Γ′)
   unfolding ctxWords entryWords
   ctxW Related.nilR = done IsCtx.noEntry
   ctxW (Related.consR e c) = let a = bindingW (e .bindings) in join a (item (λ v. IsCtx.entry (a .format)) (ctxW c))
@@ -72,9 +72,9 @@ module _ {P : Pairing} where
   childrenR (Related.andR t ts) = ap suc (childrenR ts)
 
   -- a node's three numbers and five sections, before other nodes
-  fiveW : (r n p : ℕ) {i i′ A A′ B B′ o o′ C C′ v v′ : List ℕ} → Told P IsCtx i i′ → Told P IsTyOrNone A A′
-      → Told P IsTyOrNone B B′ → Told P IsCtx o o′ → Told P IsTyOrNone C C′ → Told P IsNodes v v′
-      → Told P IsNodes
+  fiveW : (r n p : ℕ) {i i′ A A′ B B′ o o′ C C′ v v′ : List ℕ} → ReportsAlike P IsCtx i i′ → ReportsAlike P IsTyOrNone A A′
+      → ReportsAlike P IsTyOrNone B B′ → ReportsAlike P IsCtx o o′ → ReportsAlike P IsTyOrNone C C′ → ReportsAlike P IsNodes v v′
+      → ReportsAlike P IsNodes
       (r ∷ n ∷ p ∷ sections (Syntax.section i) (Syntax.section A) (Syntax.section B) (Syntax.section o) (Syntax.section C) ++ v)
       (r ∷ n ∷ p ∷ sections (Syntax.section i′) (Syntax.section A′) (Syntax.section B′) (Syntax.section o′) (Syntax.section C′) ++ v′)
   unfolding sections
@@ -84,14 +84,14 @@ module _ {P : Pairing} where
       (sect (same P) i (sect (same P) A (sect (same P) B (sect (same P) o (sect (same P) C
       (item (λ s. IsNodes.node (i .format) (A .format) (B .format) (o .format) (C .format)) v)))))))))
 
-  tyOrNoneW : {A A′ : Ty} → TyR P A A′ → Told P IsTyOrNone (tyWords A) (tyWords A′)
+  tyOrNoneW : {A A′ : Ty} → TyR P A A′ → ReportsAlike P IsTyOrNone (tyWords A) (tyWords A′)
   tyOrNoneW t = item (λ s. aTy) (tyW t)
 
-  noneW : Told P IsTyOrNone [] []
+  noneW : ReportsAlike P IsTyOrNone [] []
   noneW = done noTy
 
   nodeW : (r n : ℕ) {j j′ : Judgement} {C C′ : Ty} {Δ Δ′ : Ctx} {v v′ : List ℕ} → JudgementR P j j′ → TyR P C C′ → CtxR P Δ Δ′
-      → Told P IsNodes v v′ → Told P IsNodes (r ∷ n ∷ judgementWords j C Δ ++ v) (r ∷ n ∷ judgementWords j′ C′ Δ′ ++ v′)
+      → ReportsAlike P IsNodes v v′ → ReportsAlike P IsNodes (r ∷ n ∷ judgementWords j C Δ ++ v) (r ∷ n ∷ judgementWords j′ C′ Δ′ ++ v′)
   unfolding judgementWords ctxSection tySection noSection Syntax.section
   nodeW r n (Related.inferR c e) t d v = rw (exprParts e .place) (fiveW r n _ (ctxW c) noneW noneW (ctxW d) (tyOrNoneW t) v)
   nodeW r n (Related.checkR c e b) t d v = rw (exprParts e .place) (fiveW r n _ (ctxW c) noneW (tyOrNoneW b) (ctxW d) noneW v)
@@ -103,16 +103,16 @@ module _ {P : Pairing} where
   mutual
     unfolding treeWords
 
-    treeW : {t t′ : Tree} → TreeR P t t′ → Told P IsNodes (treeWords t) (treeWords t′)
+    treeW : {t t′ : Tree} → TreeR P t t′ → ReportsAlike P IsNodes (treeWords t) (treeWords t′)
     treeW (Related.nodeR j c d ts) = rw (childrenR ts) (nodeW _ _ j c d (treesW ts))
 
-    treesW : {ts ts′ : Trees} → TreesR P ts ts′ → Told P IsNodes (treesWords ts) (treesWords ts′)
+    treesW : {ts ts′ : Trees} → TreesR P ts ts′ → ReportsAlike P IsNodes (treesWords ts) (treesWords ts′)
     treesW Related.leafR = done IsNodes.noNode
     treesW (Related.andR t ts) = let a = treeW t in join a (item (λ s. joinNodes (a .format)) (treesW ts))
 
   -- ## Replies
 
-  reportedR : (room c units : ℕ) {p p′ : ℕ} {u u′ : List ℕ} → InReplies P (atLabel c p) p p′ → Told P (IsReport c) u u′
+  reportedR : (room c units : ℕ) {p p′ : ℕ} {u u′ : List ℕ} → InReplies P (atLabel c p) p p′ → ReportsAlike P (IsReport c) u u′
       → AlikeReplies P (reported room c p units u) (reported room c p′ units u′)
   unfolding reported pick
   reportedR room c units {u = u} {u′ = u′} a w =
@@ -125,11 +125,11 @@ module _ {P : Pairing} where
   unfolding refusal
   refusalR c u h k a = record { code = refl; at = a; len = refl; units = refl; report = done (IsReport.empty h k) }
 
-  errorW : {c : ℕ} {A A′ B B′ : List ℕ} → 11 ≤ c → Told P IsTyOrNone A A′ → Told P IsTyOrNone B B′
-      → Told P (IsReport c) (Syntax.section A ++ Syntax.section B) (Syntax.section A′ ++ Syntax.section B′)
+  errorW : {c : ℕ} {A A′ B B′ : List ℕ} → 11 ≤ c → ReportsAlike P IsTyOrNone A A′ → ReportsAlike P IsTyOrNone B B′
+      → ReportsAlike P (IsReport c) (Syntax.section A ++ Syntax.section B) (Syntax.section A′ ++ Syntax.section B′)
   errorW h a b = sect (same P) a (lastSect (same P) b (IsReport.error h (a .format) (b .format)))
 
-  shownW : {c : ℕ} → 11 ≤ c → {x x′ : Shown} → ShownR P x x′ → Told P (IsReport c) (errorWords x) (errorWords x′)
+  shownW : {c : ℕ} → 11 ≤ c → {x x′ : Shown} → ShownR P x x′ → ReportsAlike P (IsReport c) (errorWords x) (errorWords x′)
   unfolding errorWords tySection noSection Syntax.section
   shownW h Related.noTypeR = errorW h noneW noneW
   shownW h (Related.oneTypeR t) = errorW h (tyOrNoneW t) noneW
@@ -141,12 +141,12 @@ module _ {P : Pairing} where
       (reported room (errorCode (e′ .error)) (errorAt (e′ .about)) units (errorWords (e′ .shown)))
   errorR room u {e} x = rw (← x .error) (reportedR room (errorCode (e .error)) u (x .about) (shownW (error (e .error) .least) (x .shown)))
 
-  resultW : (k : ℕ) (r r′ : Result) → ResultR P r r′ → Told P (IsReport 0) (resultWords k r) (resultWords k r′)
+  resultW : (k : ℕ) (r r′ : Result) → ResultR P r r′ → ReportsAlike P (IsReport 0) (resultWords k r) (resultWords k r′)
   unfolding resultWords ctxSection tySection noSection Syntax.section pick
   resultW k r r′ w = typed (givesType k)
     where
-      whole : {A A′ : List ℕ} → Told P IsTyOrNone A A′
-          → Told P (IsReport 0)
+      whole : {A A′ : List ℕ} → ReportsAlike P IsTyOrNone A A′
+          → ReportsAlike P (IsReport 0)
           (Syntax.section A ++ (Syntax.section (ctxWords (r .1)) ++ Syntax.section (treeWords (r .2))))
           (Syntax.section A′ ++ (Syntax.section (ctxWords (r′ .1)) ++ Syntax.section (treeWords (r′ .2))))
       whole a =
@@ -155,7 +155,7 @@ module _ {P : Pairing} where
           sect (same P) a (sect (same P) c (lastSect (same P) t (IsReport.result (a .format) (c .format) (t .format))))
 
       typed : (b : Bool)
-          → Told P (IsReport 0)
+          → ReportsAlike P (IsReport 0)
           (pick b (tySection (r .0)) noSection ++ (ctxSection (r .1) ++ Syntax.section (treeWords (r .2))))
           (pick b (tySection (r′ .0)) noSection ++ (ctxSection (r′ .1) ++ Syntax.section (treeWords (r′ .2))))
       typed true = whole (tyOrNoneW (w .0))
@@ -168,12 +168,12 @@ module _ {P : Pairing} where
   outReplyR budget room e (failR {l = l} x) = errorR room (budget - l) x
   outReplyR budget room e stopR = refusalR 6 budget (omega arith) (omega arith) InReplies.same
 
-  answerR : {q q′ : Question} → QuestionR P q q′ → Runs P (ResultR P) (answer q) (answer q′)
+  answerR : {q q′ : Question} → QuestionR P q q′ → RunsAlike P (ResultR P) (answer q) (answer q′)
   unfolding answer
   answerR {q} {q′} h =
-      let asked : Runs P (ResultR P) (judge (outside (q .manner)) (q .asks)) (judge (outside (q′ .manner)) (q′ .asks)) =
+      let asked : RunsAlike P (ResultR P) (judge (outside (q .manner)) (q .asks)) (judge (outside (q′ .manner)) (q′ .asks)) =
       rw (h .manners) (judgeR (outside (q′ .manner)) (h .judgements)) in
-      pickR (Runs P (ResultR P)) (ap (λ k. eqb k 7) (h .kinds))
+      pickR (RunsAlike P (ResultR P)) (ap (λ k. eqb k 7) (h .kinds))
       (bindR asked (λ r r′ w. bindR (applyR (w .1) (w .0)) (λ A A′ t. giveR _ _ (t, w .1, w .2))))
       asked
 

@@ -13,7 +13,7 @@ use Rattle.alike.specs.Alike.{Pairing, InReplies}
 use Rattle.alike.proofs.Related
 use Rattle.alike.proofs.Related.{BindingR, EntryR, VarR, NameR, TyR, intR, boolR, varR, etvarR, arrowR, forallR, varBndR, tvarBndR, etvarBndR, setvarBndR, markR, CtxR, nilR, consR, ExprR, JudgementR, inferR, checkR, inferAppR, subtypeR, instR, TreeR, nodeR, TreesR, leafR, andR, TypeErrorR, OptionR, noneR, someR, pickR}
 use Rattle.alike.proofs.Contexts.{sameNameR, kVarR, kTVarR, kMarkR, findR, rightOfR, beforeR, fromR, pushR, replaceR, solvedAndRightR, lengthR}
-use Rattle.alike.proofs.Runs.{Runs, bindR, giveR, refuseR, haltR, freshR, chargeR}
+use Rattle.alike.proofs.Runs.{RunsAlike, bindR, giveR, refuseR, haltR, freshR, chargeR}
 use Rattle.alike.proofs.Types.{isMonoR, occursR, substR, applyR, sameTyR}
 
 -- what rules and judgements give
@@ -26,24 +26,24 @@ ResultR P r r′ = TyR P (r .0) (r′ .0) × CtxR P (r .1) (r′ .1) × TreeR P 
 -- ## The first arm that is there
 
 module _ {P : Pairing} {A : Type 0} {W : A → A → Type 0} where
-  orElseR : {o o′ : Option (M A)} {m m′ : M A} → OptionR (Runs P W) o o′ → Runs P W m m′ → Runs P W (o orElse m) (o′ orElse m′)
+  orElseR : {o o′ : Option (M A)} {m m′ : M A} → OptionR (RunsAlike P W) o o′ → RunsAlike P W m m′ → RunsAlike P W (o orElse m) (o′ orElse m′)
   unfolding _orElse_
   orElseR noneR w = w
   orElseR (someR p) w = p
 
-  whenR : {b b′ : Bool} {m m′ : M A} → b ≡ b′ → Runs P W m m′ → OptionR (Runs P W) (when b m) (when b′ m′)
+  whenR : {b b′ : Bool} {m m′ : M A} → b ≡ b′ → RunsAlike P W m m′ → OptionR (RunsAlike P W) (when b m) (when b′ m′)
   unfolding when
-  whenR e w = pickR (OptionR (Runs P W)) e (someR w) noneR
+  whenR e w = pickR (OptionR (RunsAlike P W)) e (someR w) noneR
 
   onArmR : {X : Type 0} {U : X → X → Type 0} {o o′ : Option X} {f f′ : X → M A} → OptionR U o o′
-      → ((x x′ : X) → U x x′ → Runs P W (f x) (f′ x′)) → OptionR (Runs P W) (on o f) (on o′ f′)
+      → ((x x′ : X) → U x x′ → RunsAlike P W (f x) (f′ x′)) → OptionR (RunsAlike P W) (on o f) (on o′ f′)
   unfolding on
   onArmR noneR h = noneR
   onArmR (someR p) h = someR (h _ _ p)
 
   onBothR : {X Y : Type 0} {U : X → X → Type 0} {W₂ : Y → Y → Type 0} {o o′ : Option X} {q q′ : Option Y}
       {f f′ : X → Y → M A} → OptionR U o o′ → OptionR W₂ q q′
-      → ((x x′ : X) (y y′ : Y) → U x x′ → W₂ y y′ → Runs P W (f x y) (f′ x′ y′)) → OptionR (Runs P W) (onBoth o q f) (onBoth o′ q′ f′)
+      → ((x x′ : X) (y y′ : Y) → U x x′ → W₂ y y′ → RunsAlike P W (f x y) (f′ x′ y′)) → OptionR (RunsAlike P W) (onBoth o q f) (onBoth o′ q′ f′)
   unfolding onBoth
   onBothR noneR q h = noneR
   onBothR (someR p) noneR h = noneR
@@ -98,7 +98,7 @@ module _ {P : Pairing} where
 
   -- ## inst_l and inst_r
 
-  closesR : (r : Rule) {Γ Γ′ : Ctx} → CtxR P Γ Γ′ → Runs P (FiredR P) (closes r Γ) (closes r Γ′)
+  closesR : (r : Rule) {Γ Γ′ : Ctx} → CtxR P Γ Γ′ → RunsAlike P (FiredR P) (closes r Γ) (closes r Γ′)
   unfolding closes
   closesR r c = giveR _ _ (refl, intR, c, leafR)
 
@@ -133,7 +133,7 @@ module _ {P : Pairing} where
   parameterMismatchR s t = record { error = refl; about = InReplies.same; shown = Related.twoTypesR s t }
 
   -- in what rules run, and the judgements they ask
-  module _ (h : Here) (judge judge′ : Judge) (asked : (j j′ : Judgement) → JudgementR P j j′ → Runs P (ResultR P) (judge j) (judge′ j′)) where
+  module _ (h : Here) (judge judge′ : Judge) (asked : (j j′ : Judgement) → JudgementR P j j′ → RunsAlike P (ResultR P) (judge j) (judge′ j′)) where
     newR : {b b′ : Binding} → BindingR P b b′ → EntryR P (b from h) (b′ from h)
     newR b = fromR h b
 
@@ -141,11 +141,11 @@ module _ {P : Pairing} where
     addR c b = pushR c (newR b)
 
     solveR : (s : Side) {Γ Γ′ : Ctx} {a a′ : TyVar} {A A′ : Ty} → CtxR P Γ Γ′ → NameR P a a′ → TyR P A A′
-        → Runs P (FiredR P) (solve h s Γ a A) (solve h s Γ′ a′ A′)
+        → RunsAlike P (FiredR P) (solve h s Γ a A) (solve h s Γ′ a′ A′)
     unfolding solve
     solveR s c a t =
-        pickR (Runs P (FiredR P)) (isMonoR t)
-        (pickR (Runs P (FiredR P)) (occursR a t) (refuseR (occursCheckR a t)) (closesR _ (replaceR a (consR (newR (setvarBndR a t)) nilR) c)))
+        pickR (RunsAlike P (FiredR P)) (isMonoR t)
+        (pickR (RunsAlike P (FiredR P)) (occursR a t) (refuseR (occursCheckR a t)) (closesR _ (replaceR a (consR (newR (setvarBndR a t)) nilR) c)))
         (refuseR (instantiationErrorR a t))
 
     splitR : {a a′ b b′ d d′ : TyVar} {Γ Γ′ : Ctx} → NameR P a a′ → NameR P b b′ → NameR P d d′ → CtxR P Γ Γ′
@@ -155,18 +155,18 @@ module _ {P : Pairing} where
 
     -- one judgement, and what the rule gives then
     oneR : {j j′ : Judgement} {f f′ : Result → Fired} → JudgementR P j j′ → ((r r′ : Result) → ResultR P r r′ → FiredR P (f r) (f′ r′))
-        → Runs P (FiredR P) (judge j >>= λ r. give (f r)) (judge′ j′ >>= λ r. give (f′ r))
+        → RunsAlike P (FiredR P) (judge j >>= λ r. give (f r)) (judge′ j′ >>= λ r. give (f′ r))
     oneR j k = bindR (asked _ _ j) (λ r r′ w. giveR _ _ (k r r′ w))
 
     -- one judgement, and a second that depends on it
     twoR : {j j′ : Judgement} {k k′ : Result → Judgement} {f f′ : Result → Result → Fired} → JudgementR P j j′
         → ((r r′ : Result) → ResultR P r r′ → JudgementR P (k r) (k′ r′))
         → ((r r′ s s′ : Result) → ResultR P r r′ → ResultR P s s′ → FiredR P (f r s) (f′ r′ s′))
-        → Runs P (FiredR P) (judge j >>= λ r. (judge (k r) >>= λ s. give (f r s))) (judge′ j′ >>= λ r. (judge′ (k′ r) >>= λ s. give (f′ r s)))
+        → RunsAlike P (FiredR P) (judge j >>= λ r. (judge (k r) >>= λ s. give (f r s))) (judge′ j′ >>= λ r. (judge′ (k′ r) >>= λ s. give (f′ r s)))
     twoR j i k = bindR (asked _ _ j) (λ r r′ w. oneR (i r r′ w) (λ s s′. k r r′ s s′ w))
 
     instForallR : (s : Side) {Γ Γ′ : Ctx} {a a′ b b′ : TyVar} {A A′ : Ty} → CtxR P Γ Γ′ → NameR P a a′ → NameR P b b′ → TyR P A A′
-        → Runs P (FiredR P) (instForall h judge s Γ a b A) (instForall h judge′ s Γ′ a′ b′ A′)
+        → RunsAlike P (FiredR P) (instForall h judge s Γ a b A) (instForall h judge′ s Γ′ a′ b′ A′)
     unfolding instForall
     instForallR onL c a b t = oneR (instR (addR c (tvarBndR b)) a t) (λ r r′ w. (refl, intR, rightOfR (kTVarR b) (w .1), andR (w .2) leafR))
     instForallR onR c a b t =
@@ -174,13 +174,13 @@ module _ {P : Pairing} where
         (λ r r′ w. (refl, intR, rightOfR (kMarkR b) (w .1), andR (w .2) leafR)))
 
     instRuleR : (s : Side) {Γ Γ′ : Ctx} {a a′ : TyVar} {A A′ : Ty} → CtxR P Γ Γ′ → NameR P a a′ → TyR P A A′
-        → Runs P (FiredR P) (instRule h judge s Γ a A) (instRule h judge′ s Γ′ a′ A′)
+        → RunsAlike P (FiredR P) (instRule h judge s Γ a A) (instRule h judge′ s Γ′ a′ A′)
     unfolding instRule instArrow reach
     instRuleR s c a intR = solveR s c a intR
     instRuleR s c a boolR = solveR s c a boolR
     instRuleR s c a (varR p) = solveR s c a (varR p)
     instRuleR s c a (etvarR p) =
-        pickR (Runs P (FiredR P)) (beforeR c a p) (closesR _ (replaceR p (consR (newR (setvarBndR p (etvarR a))) nilR) c)) (solveR s c a (etvarR p))
+        pickR (RunsAlike P (FiredR P)) (beforeR c a p) (closesR _ (replaceR p (consR (newR (setvarBndR p (etvarR a))) nilR) c)) (solveR s c a (etvarR p))
     instRuleR s c a (arrowR p q) =
         bindR freshR (λ b b′ β. bindR freshR (λ d d′ δ. bindR (asked _ _ (instR (splitR a β δ c) β p)) (λ r r′ w. bindR (applyR (w .1) q) (λ B B′ t.
         oneR (instR (w .1) δ t) (λ s s′ v. (refl, intR, v .1, andR (w .2) (andR (v .2) leafR)))))))
@@ -204,12 +204,12 @@ module _ {P : Pairing} where
     notInR t (someR p) = pickR (OptionR (NameR P)) (occursR p t) noneR (someR p)
 
     subInstR : (r : Rule) (s : Side) {Γ Γ′ : Ctx} {A A′ : Ty} → CtxR P Γ Γ′ → TyR P A A′ → (a a′ : TyVar) → NameR P a a′
-        → Runs P (FiredR P) (subInst h judge r s Γ A a) (subInst h judge′ r s Γ′ A′ a′)
+        → RunsAlike P (FiredR P) (subInst h judge r s Γ A a) (subInst h judge′ r s Γ′ A′ a′)
     unfolding subInst
     subInstR r s c t a a′ p = oneR (instR c p t) (λ r r′ w. (refl, intR, w .1, andR (w .2) leafR))
 
     subtypeRuleR : {Γ Γ′ : Ctx} {A A′ B B′ : Ty} → CtxR P Γ Γ′ → TyR P A A′ → TyR P B B′
-        → Runs P (FiredR P) (subtypeRule h judge Γ A B) (subtypeRule h judge′ Γ′ A′ B′)
+        → RunsAlike P (FiredR P) (subtypeRule h judge Γ A B) (subtypeRule h judge′ Γ′ A′ B′)
     unfolding subtypeRule subArr subAllR subAllL
     subtypeRuleR c p q =
         orElseR (whenR (sameBaseR p q) (closesR _ c))
@@ -230,14 +230,14 @@ module _ {P : Pairing} where
     -- ## check
 
     parameterR : (b : Bool) {Γ Γ′ : Ctx} {A A′ B B′ : Ty} → CtxR P Γ Γ′ → TyR P A A′ → TyR P B B′
-        → Runs P _≡_ (parameter b Γ A B) (parameter b Γ′ A′ B′)
+        → RunsAlike P _≡_ (parameter b Γ A B) (parameter b Γ′ A′ B′)
     unfolding parameter
     parameterR false c p q = giveR _ _ refl
     parameterR true c p q =
-        bindR (applyR c q) (λ T T′ t. pickR (Runs P _≡_) (sameTyR p t) (giveR _ _ refl) (refuseR (parameterMismatchR p t)))
+        bindR (applyR c q) (λ T T′ t. pickR (RunsAlike P _≡_) (sameTyR p t) (giveR _ _ refl) (refuseR (parameterMismatchR p t)))
 
     checkRuleR : {Γ Γ′ : Ctx} {e e′ : Expr} {B B′ : Ty} → CtxR P Γ Γ′ → ExprR P e e′ → TyR P B B′
-        → Runs P (FiredR P) (checkRule h judge Γ e B) (checkRule h judge′ Γ′ e′ B′)
+        → RunsAlike P (FiredR P) (checkRule h judge Γ e B) (checkRule h judge′ Γ′ e′ B′)
     unfolding checkRule chkLam chkAll chkSub
     checkRuleR c e q =
         orElseR (whenR (ap₂ (λ x y. eqb x 22 && eqb y 1) (exprParts e .code) (tyParts q .code)) (closesR _ c))
@@ -253,7 +253,7 @@ module _ {P : Pairing} where
     -- ## infer_app
 
     inferAppRuleR : {Γ Γ′ : Ctx} {e e′ : Expr} {A A′ : Ty} → CtxR P Γ Γ′ → ExprR P e e′ → TyR P A A′
-        → Runs P (FiredR P) (inferAppRule h judge Γ e A) (inferAppRule h judge′ Γ′ e′ A′)
+        → RunsAlike P (FiredR P) (inferAppRule h judge Γ e A) (inferAppRule h judge′ Γ′ e′ A′)
     unfolding inferAppRule infAppArr infAppETVar
     inferAppRuleR c e p =
         orElseR (onArmR (tyParts p .arrow) (λ A A′ a. oneR (checkR c e (a .0)) (λ r r′ w. (refl, a .1, w .1, andR (w .2) leafR))))
@@ -264,25 +264,25 @@ module _ {P : Pairing} where
     -- ## infer
 
     infVarR : {x x′ : TmVar} {Γ Γ′ : Ctx} {o o′ : Option Ty} → VarR P x x′ → CtxR P Γ Γ′ → OptionR (TyR P) o o′
-        → Runs P (FiredR P) (infVar x Γ o) (infVar x′ Γ′ o′)
+        → RunsAlike P (FiredR P) (infVar x Γ o) (infVar x′ Γ′ o′)
     unfolding infVar
     infVarR x c noneR = refuseR (unboundVariableR x)
     infVarR x c (someR t) = giveR _ _ (refl, t, c, leafR)
 
-    branchR : (b : Bool) {Γ Γ′ : Ctx} {A A′ : Ty} → CtxR P Γ Γ′ → TyR P A A′ → Runs P (TyR P) (branch b Γ A) (branch b Γ′ A′)
+    branchR : (b : Bool) {Γ Γ′ : Ctx} {A A′ : Ty} → CtxR P Γ Γ′ → TyR P A A′ → RunsAlike P (TyR P) (branch b Γ A) (branch b Γ′ A′)
     unfolding branch
     branchR false c t = giveR _ _ t
     branchR true c t = applyR c t
 
     infBothR : (r : Rule) {A A′ C C′ : Ty} {Γ Γ′ : Ctx} {e e′ f f′ : Expr} → TyR P A A′ → TyR P C C′ → CtxR P Γ Γ′ → ExprR P e e′
         → ExprR P f f′
-        → Runs P (FiredR P) (infBoth h judge r A C Γ e f) (infBoth h judge′ r A′ C′ Γ′ e′ f′)
+        → RunsAlike P (FiredR P) (infBoth h judge r A C Γ e f) (infBoth h judge′ r A′ C′ Γ′ e′ f′)
     unfolding infBoth
     infBothR r a t c e f =
         twoR (checkR c e a) (λ r r′ w. checkR (w .1) f a) (λ r r′ s s′ w v. (refl, t, v .1, andR (w .2) (andR (v .2) leafR)))
 
     infBinOpR : (o : ℕ) {Γ Γ′ : Ctx} {e e′ f f′ : Expr} → CtxR P Γ Γ′ → ExprR P e e′ → ExprR P f f′
-        → Runs P (FiredR P) (infBinOp h judge Γ o e f) (infBinOp h judge′ Γ′ o e′ f′)
+        → RunsAlike P (FiredR P) (infBinOp h judge Γ o e f) (infBinOp h judge′ Γ′ o e′ f′)
     unfolding infBinOp infEq
     infBinOpR o c e f =
         orElseR (whenR refl (infBothR _ intR intR c e f))
@@ -291,12 +291,12 @@ module _ {P : Pairing} where
         (λ r r′ s s′ w v. (refl, boolR, v .1, andR (w .2) (andR (v .2) leafR)))))
         (infBothR _ intR boolR c e f)))
 
-    instantiateR : {A A′ B B′ : Ty} → TyR P B B′ → TyR P A A′ → Runs P (TyR P) (instantiate B A) (instantiate B′ A′)
+    instantiateR : {A A′ B B′ : Ty} → TyR P B B′ → TyR P A A′ → RunsAlike P (TyR P) (instantiate B A) (instantiate B′ A′)
     unfolding instantiate
     instantiateR b p = orElseR (onArmR (tyParts p .forall) (λ A A′ a. substR (a .0) b (a .1))) (refuseR (typeApplicationErrorR p))
 
     inferRuleR : {Γ Γ′ : Ctx} {e e′ : Expr} → CtxR P Γ Γ′ → ExprR P e e′
-        → Runs P (FiredR P) (inferRule h judge Γ e) (inferRule h judge′ Γ′ e′)
+        → RunsAlike P (FiredR P) (inferRule h judge Γ e) (inferRule h judge′ Γ′ e′)
     unfolding inferRule infLam infApp infLet infIf infAnn infTAbs infTApp
     inferRuleR c (Related.evarR x) = infVarR x c (findR (kVarR x) c)
     inferRuleR c (Related.annR e t) = oneR (checkR c e t) (λ r r′ w. (refl, t, w .1, andR (w .2) leafR))
@@ -324,7 +324,7 @@ module _ {P : Pairing} where
 
     -- ## Every rule
 
-    ruleR : {j j′ : Judgement} → JudgementR P j j′ → Runs P (FiredR P) (rule h judge j) (rule h judge′ j′)
+    ruleR : {j j′ : Judgement} → JudgementR P j j′ → RunsAlike P (FiredR P) (rule h judge j) (rule h judge′ j′)
     unfolding rule
     ruleR (inferR c e) = inferRuleR c e
     ruleR (checkR c e t) = checkRuleR c e t
@@ -340,18 +340,18 @@ module _ {P : Pairing} where
   givenR (subtypeR c p q) = c
   givenR (instR c a t) = c
 
-  judgeStepR : (judge judge′ : Here → Judge) → ((h : Here) (j j′ : Judgement) → JudgementR P j j′ → Runs P (ResultR P) (judge h j) (judge′ h j′))
-      → (h : Here) {j j′ : Judgement} → JudgementR P j j′ → Runs P (ResultR P) (judgeStep rule judge h j) (judgeStep rule judge′ h j′)
+  judgeStepR : (judge judge′ : Here → Judge) → ((h : Here) (j j′ : Judgement) → JudgementR P j j′ → RunsAlike P (ResultR P) (judge h j) (judge′ h j′))
+      → (h : Here) {j j′ : Judgement} → JudgementR P j j′ → RunsAlike P (ResultR P) (judgeStep rule judge h j) (judgeStep rule judge′ h j′)
   unfolding judgeStep
   judgeStepR judge judge′ asked h p =
       bindR (chargeR (ap (λ n. 1 + n) (lengthR (givenR p)))) (λ u u′ v. bindR (ruleR h (judge h) (judge′ h) (asked h) p) (λ r r′ w. bindR (chargeR (lengthR (w .2)))
       (λ u u′ v. giveR _ _ (w .1, w .2, rw (w .0) (nodeR p (w .1) (w .2) (w .3))))))
 
-  judgeToR : (d : ℕ) (h : Here) (j j′ : Judgement) → JudgementR P j j′ → Runs P (ResultR P) (judgeTo rule d h j) (judgeTo rule d h j′)
+  judgeToR : (d : ℕ) (h : Here) (j j′ : Judgement) → JudgementR P j j′ → RunsAlike P (ResultR P) (judgeTo rule d h j) (judgeTo rule d h j′)
   unfolding judgeTo
   judgeToR zero h j j′ p = haltR
   judgeToR (suc d) h j j′ p = judgeStepR _ _ (λ g i i′ q. record { at = λ l n. judgeToR d g i i′ q .at l n }) h p
 
-  pub judgeR : (h : Here) {j j′ : Judgement} → JudgementR P j j′ → Runs P (ResultR P) (judge h j) (judge h j′)
+  pub judgeR : (h : Here) {j j′ : Judgement} → JudgementR P j j′ → RunsAlike P (ResultR P) (judge h j) (judge h j′)
   unfolding judgeBy
   judgeR h p = record { at = λ l n. judgeToR l h _ _ p .at l n }

@@ -9,7 +9,7 @@ use Rattle.definition.specs.Types.{isMono, occurs, subst, solutionOr, applyStep
 use Rattle.alike.specs.Alike.{Pairing}
 use Rattle.alike.proofs.Related.{NameR, TyR, intR, boolR, varR, etvarR, arrowR, forallR, CtxR, OptionR, noneR, someR, pickR}
 use Rattle.alike.proofs.Contexts.{sameNameR, kSETVarR, findR}
-use Rattle.alike.proofs.Runs.{Runs, bindR, giveR, haltR, chargeR}
+use Rattle.alike.proofs.Runs.{RunsAlike, bindR, giveR, haltR, chargeR}
 
 module _ {P : Pairing} where
   pub isMonoR : {A A′ : Ty} → TyR P A A′ → isMono A ≡ isMono A′
@@ -30,7 +30,7 @@ module _ {P : Pairing} where
   occursR a (arrowR A B) = ap₂ _||_ (occursR a A) (occursR a B)
   occursR a (forallR p A) = ap₂ (λ x y. not x && y) (sameNameR p a) (occursR a A)
 
-  pub substR : {a a′ : TyVar} {B B′ A A′ : Ty} → NameR P a a′ → TyR P B B′ → TyR P A A′ → Runs P (TyR P) (subst a B A) (subst a′ B′ A′)
+  pub substR : {a a′ : TyVar} {B B′ A A′ : Ty} → NameR P a a′ → TyR P B B′ → TyR P A A′ → RunsAlike P (TyR P) (subst a B A) (subst a′ B′ A′)
   unfolding subst
   substR a r intR = bindR (chargeR refl) (λ u u′ v. giveR _ _ intR)
   substR a r boolR = bindR (chargeR refl) (λ u u′ v. giveR _ _ boolR)
@@ -40,18 +40,18 @@ module _ {P : Pairing} where
       bindR (chargeR refl) (λ u u′ v. bindR (substR a r A) (λ C C′ s. bindR (substR a r B) (λ D D′ t. giveR _ _ (arrowR s t))))
   substR a r (forallR p A) =
       bindR (chargeR refl) (λ u u′ v.
-      pickR (Runs P (TyR P)) (sameNameR p a) (giveR _ _ (forallR p A)) (bindR (substR a r A) (λ C C′ s. giveR _ _ (forallR p s))))
+      pickR (RunsAlike P (TyR P)) (sameNameR p a) (giveR _ _ (forallR p A)) (bindR (substR a r A) (λ C C′ s. giveR _ _ (forallR p s))))
 
   -- ## Application
 
-  module _ (once once′ : Ty → M Ty) (h : (B B′ : Ty) → TyR P B B′ → Runs P (TyR P) (once B) (once′ B′)) where
+  module _ (once once′ : Ty → M Ty) (h : (B B′ : Ty) → TyR P B B′ → RunsAlike P (TyR P) (once B) (once′ B′)) where
     solutionOrR : {A A′ : Ty} {o o′ : Option Ty} → TyR P A A′ → OptionR (TyR P) o o′
-        → Runs P (TyR P) (solutionOr A once o) (solutionOr A′ once′ o′)
+        → RunsAlike P (TyR P) (solutionOr A once o) (solutionOr A′ once′ o′)
     unfolding solutionOr
     solutionOrR t noneR = giveR _ _ t
     solutionOrR t (someR s) = h _ _ s
 
-    applyStepR : {Γ Γ′ : Ctx} {A A′ : Ty} → CtxR P Γ Γ′ → TyR P A A′ → Runs P (TyR P) (applyStep Γ once A) (applyStep Γ′ once′ A′)
+    applyStepR : {Γ Γ′ : Ctx} {A A′ : Ty} → CtxR P Γ Γ′ → TyR P A A′ → RunsAlike P (TyR P) (applyStep Γ once A) (applyStep Γ′ once′ A′)
     unfolding applyStep
     applyStepR c intR = giveR _ _ intR
     applyStepR c boolR = giveR _ _ boolR
@@ -60,12 +60,12 @@ module _ {P : Pairing} where
     applyStepR c (arrowR p q) = bindR (h _ _ p) (λ C C′ r. bindR (h _ _ q) (λ D D′ s. giveR _ _ (arrowR r s)))
     applyStepR c (forallR p q) = bindR (h _ _ q) (λ C C′ r. giveR _ _ (forallR p r))
 
-  applyToR : (d : ℕ) {Γ Γ′ : Ctx} {A A′ : Ty} → CtxR P Γ Γ′ → TyR P A A′ → Runs P (TyR P) (applyTo d Γ A) (applyTo d Γ′ A′)
+  applyToR : (d : ℕ) {Γ Γ′ : Ctx} {A A′ : Ty} → CtxR P Γ Γ′ → TyR P A A′ → RunsAlike P (TyR P) (applyTo d Γ A) (applyTo d Γ′ A′)
   unfolding applyTo
   applyToR zero c t = haltR
   applyToR (suc d) c t = bindR (chargeR refl) (λ u u′ v. applyStepR _ _ (λ B B′ s. record { at = λ l n. applyToR d c s .at l n }) c t)
 
-  pub applyR : {Γ Γ′ : Ctx} {A A′ : Ty} → CtxR P Γ Γ′ → TyR P A A′ → Runs P (TyR P) (apply Γ A) (apply Γ′ A′)
+  pub applyR : {Γ Γ′ : Ctx} {A A′ : Ty} → CtxR P Γ Γ′ → TyR P A A′ → RunsAlike P (TyR P) (apply Γ A) (apply Γ′ A′)
   unfolding apply
   applyR c t = record { at = λ l n. applyToR l c t .at l n }
 

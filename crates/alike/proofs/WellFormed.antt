@@ -112,8 +112,8 @@ data Rows {A : Type 0} (F : A → List ℕ → Type 0) : List (ℕ × Reader A) 
   _⨾_ : {r : ℕ × Reader A} {rows : List (ℕ × Reader A)} → Only (r .1) (λ a v. F a (r .0 ∷ v)) → Rows F rows → Rows F (r ∷ rows)
 
 infixr 20 _⨾_
-data Section {A : Type 0} (G : A → List ℕ → Type 0) (a : A) : List ℕ → Type 0 where
-  inSection : {u : List ℕ} → G a u → Section G a (Syntax.section u)
+data SectionWords {A : Type 0} (G : A → List ℕ → Type 0) (a : A) : List ℕ → Type 0 where
+  inSection : {u : List ℕ} → G a u → SectionWords G a (Syntax.section u)
 
 module _ {A : Type 0} {F : A → List ℕ → Type 0} where
   -- a reader of one word, and what comes then
@@ -236,22 +236,22 @@ contextO = record { at = λ p ws. readCtxO (length ws) .at p ws }
 
 -- all of the next n words
 wholeTook : {A : Type 0} {G : A → List ℕ → Type 0} (n : ℕ) (ws : List ℕ) {o : Read A} → n ≤ length ws → Took G (take n ws) o
-    → Took (λ a v. Section G a (n ∷ v)) ws (next (next o (λ a. _>>=_ end λ t. give a)) (λ a q vs. got a q (drop n ws)))
+    → Took (λ a v. SectionWords G a (n ∷ v)) ws (next (next o (λ a. _>>=_ end λ t. give a)) (λ a q vs. got a q (drop n ws)))
 unfolding next _>>=_ end give Syntax.section
 wholeTook {G = G} n ws h (took {a = a} u [] g e) =
     let taken : take n ws ≡ u = e ∙ append-nil u in
     let long : n ≡ length u = sym (length-take-le n ws h) ∙ ap length taken in
-    let full : Section G a (n ∷ u) = rw long (inSection g) in
+    let full : SectionWords G a (n ∷ u) = rw long (inSection g) in
     took u (drop n ws) full (sym (take-append-drop n ws) ∙ ap (λ l. l ++ drop n ws) taken)
 wholeTook n ws h (took u (x ∷ r) g e) = failed
 wholeTook n ws h failed = failed
 
-countedO : {A : Type 0} {G : A → List ℕ → Type 0} {m : Reader A} → Only m G → Only (counted m) (Section G)
+countedO : {A : Type 0} {G : A → List ℕ → Type 0} {m : Reader A} → Only m G → Only (counted m) (SectionWords G)
 unfolding counted whole badShape pick _>>=_ next
 countedO {G = G} {m} h = wordO _ (λ p n. record { at = λ q ws. by p n q ws (leb n (length ws)) refl })
   where
     by : (p n q : ℕ) (ws : List ℕ) (b : Bool) → leb n (length ws) ≡ b
-        → Took (λ a v. Section G a (n ∷ v)) ws (pick b (whole n m) (badShape p) q ws)
+        → Took (λ a v. SectionWords G a (n ∷ v)) ws (pick b (whole n m) (badShape p) q ws)
     by p n q ws true e = wholeTook n ws (leb→le n (length ws) (rw e tt)) (h .at q (take n ws))
     by p n q ws false e = failed
 

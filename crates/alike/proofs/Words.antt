@@ -22,14 +22,14 @@ module _ {R : Label → ℕ → ℕ → Type 0} where
   joinE none q = q
   joinE (more w p) q = more w (joinE p q)
 
-pub data Parts (R : Label → ℕ → ℕ → Type 0) (s t : List Label) : List ℕ → List ℕ → Type 0 where
-  parts : {u u′ v v′ : List ℕ} → Each R s u u′ → Each R t v v′ → Parts R s t (u ++ v) (u′ ++ v′)
+pub data InTwo (R : Label → ℕ → ℕ → Type 0) (s t : List Label) : List ℕ → List ℕ → Type 0 where
+  parts : {u u′ v v′ : List ℕ} → Each R s u u′ → Each R t v v′ → InTwo R s t (u ++ v) (u′ ++ v′)
 
 module _ {R : Label → ℕ → ℕ → Type 0} where
-  firstE : {k : Label} {w w′ : ℕ} {s t : List Label} {u u′ : List ℕ} → R k w w′ → Parts R s t u u′ → Parts R (k ∷ s) t (w ∷ u) (w′ ∷ u′)
+  firstE : {k : Label} {w w′ : ℕ} {s t : List Label} {u u′ : List ℕ} → R k w w′ → InTwo R s t u u′ → InTwo R (k ∷ s) t (w ∷ u) (w′ ∷ u′)
   firstE x (parts p q) = parts (more x p) q
 
-  pub splitE : (s : List Label) {t : List Label} {u u′ : List ℕ} → Each R (s ++ t) u u′ → Parts R s t u u′
+  pub splitE : (s : List Label) {t : List Label} {u u′ : List ℕ} → Each R (s ++ t) u u′ → InTwo R s t u u′
   splitE [] e = parts none e
   splitE (k ∷ s) (more x e) = firstE x (splitE s e)
 

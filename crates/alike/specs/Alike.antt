@@ -118,16 +118,16 @@ pub record Written (R : ℕ → ℕ → Type 0) (a a′ : ℕ) : Type 0 where
   pub low′ : a′ < 1_000_000
 
 -- a type name in a reply: a written one, or "the k-th fresh name", which pairs with itself
-pub data Named (R : ℕ → ℕ → Type 0) : ℕ → ℕ → Type 0 where
-  written : {a a′ : ℕ} → Written R a a′ → Named R a a′
-  fresh : (k : ℕ) → Named R (1_000_000 + k) (1_000_000 + k)
+pub data ReplyName (R : ℕ → ℕ → Type 0) : ℕ → ℕ → Type 0 where
+  written : {a a′ : ℕ} → Written R a a′ → ReplyName R a a′
+  fresh : (k : ℕ) → ReplyName R (1_000_000 + k) (1_000_000 + k)
 
 -- ---- Two words under one label, in two replies and in two questions
 
 pub data InReplies (P : Pairing) : Label → ℕ → ℕ → Type 0 where
   same : {n : ℕ} → InReplies P (the n) n n
   variables : {x x′ : ℕ} → Written (P .variables) x x′ → InReplies P variable x x′
-  typeNames : {a a′ : ℕ} → Named (P .types) a a′ → InReplies P typeName a a′
+  typeNames : {a a′ : ℕ} → ReplyName (P .types) a a′ → InReplies P typeName a a′
 
 pub data InQuestions (P : Pairing) : Label → ℕ → ℕ → Type 0 where
   same : {n : ℕ} → InQuestions P (the n) n n

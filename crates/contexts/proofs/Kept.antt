@@ -46,14 +46,14 @@ solved-append (e ∷ L) R = go (isSolved e) (solved-append L R)
 
 -- ## A run in two
 
-record Halves (q w : List ℕ) (t at i j : ℕ) (Γ : Ctx) : Type 0 where
+record TwoRuns (q w : List ℕ) (t at i j : ℕ) (Γ : Ctx) : Type 0 where
   L : Ctx
   R : Ctx
   is : Γ ≡ L ++ R
   left : Run q w t at i L
   right : Run q w t (at + 4 * i) j R
 
-further : {q w : List ℕ} {t at i j : ℕ} {e : Entry} {Γ : Ctx} → EntryAt q w t at e → Halves q w t (at + 4) i j Γ → Halves q w t at (suc i) j (e ∷ Γ)
+further : {q w : List ℕ} {t at i j : ℕ} {e : Entry} {Γ : Ctx} → EntryAt q w t at e → TwoRuns q w t (at + 4) i j Γ → TwoRuns q w t at (suc i) j (e ∷ Γ)
 further {at = at} {i = i} {e = e} x h =
     let l = h .left in
     let p : at + 4 * suc i ≡ at + 4 + 4 * i = omega arith in
@@ -65,7 +65,7 @@ further {at = at} {i = i} {e = e} x h =
       right = rw p (h .right);
     }
 
-halves : {q w : List ℕ} {t at : ℕ} (i j : ℕ) {Γ : Ctx} → CtxAt q w t at Γ → i + j ≡ length Γ → at + 4 * (i + j) ≤ t → Halves q w t at i j Γ
+halves : {q w : List ℕ} {t at : ℕ} (i j : ℕ) {Γ : Ctx} → CtxAt q w t at Γ → i + j ≡ length Γ → at + 4 * (i + j) ≤ t → TwoRuns q w t at i j Γ
 halves {q} {w} {t} {at} zero j {Γ} g c b =
     let e : at + 4 * 0 ≡ at = omega arith in
     let run : Run q w t at j Γ = record { ctx = g; count = omega arith; below = omega arith } in
@@ -126,7 +126,7 @@ kept-more {w} {w₁} {w₂} {at} {to} {i} {j} {m} {m′} b x y =
       run = λ l u. go l (halves i j (u .ctx) (u .count) (u .below));
     }
   where
-    go : {q : List ℕ} {t : ℕ} {Γ : Ctx} → t ≤ to → Halves q w t at i j Γ → Run q w₂ (to + 4 * (m + m′)) to (m + m′) (solved Γ)
+    go : {q : List ℕ} {t : ℕ} {Γ : Ctx} → t ≤ to → TwoRuns q w t at i j Γ → Run q w₂ (to + 4 * (m + m′)) to (m + m′) (solved Γ)
     go {q} {t} l h =
         let a = x .run l (h .left) in
         let r : Run q w₁ t (at + 4 * i) j (h .R) = run-frame (keep-less l (le-refl _) (x .keep)) (le-refl _) (h .right) in

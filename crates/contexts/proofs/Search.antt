@@ -34,13 +34,13 @@ module _ {q w : List ℕ} {t at : ℕ} (k : Key) {e : Entry} (x : EntryAt q w t 
   unfolding hit
   hit-yes p r = rw (eq-eqb (kindOf (keyOf e)) (kindOf k) (sym (x .kind) ∙ p)) (eq-eqb (nameOf (keyOf e)) (nameOf k) (sym (x .name) ∙ r))
 
-record Here (k : Key) (e : Entry) (Γ : Ctx) : Type 0 where
+record AtHead (k : Key) (e : Entry) (Γ : Ctx) : Type 0 where
   find-is : find k (e ∷ Γ) ≡ some (held e)
   has-is : has k (e ∷ Γ) ≡ true
   left-is : leftOf k (e ∷ Γ) ≡ []
   right-is : rightOf k (e ∷ Γ) ≡ Γ
 
-here : (k : Key) (e : Entry) (Γ : Ctx) → hit k e ≡ true → Here k e Γ
+here : (k : Key) (e : Entry) (Γ : Ctx) → hit k e ≡ true → AtHead k e Γ
 unfolding find has leftOf rightOf pick
 here k e Γ h = record { find-is = rw h; has-is = rw h; left-is = rw h; right-is = rw h }
 
@@ -78,13 +78,13 @@ module _ {w : List ℕ} {at n kind name : ℕ} where
 
 -- ## Find and break3
 
-record Parts (q w : List ℕ) (t at i : ℕ) (k : Key) (Γ : Ctx) : Type 0 where
+record Breaks (q w : List ℕ) (t at i : ℕ) (k : Key) (Γ : Ctx) : Type 0 where
   left : Run q w t at i (leftOf k Γ)
   missing : i ≡ length Γ → Missing k Γ
   found : i < length Γ → Found q w t at (length Γ) i k Γ
 
 module _ {q w : List ℕ} {t : ℕ} (k : Key) where
-  none-of : {at : ℕ} (i : ℕ) → at ≤ t → i ≤ 0 → Parts q w t at i k []
+  none-of : {at : ℕ} (i : ℕ) → at ≤ t → i ≤ 0 → Breaks q w t at i k []
   none-of i h l = record {
     left = rw (nowhere k .left-is) (record { ctx = nil; count = omega arith; below = omega arith });
     missing = λ e. nowhere k;
@@ -92,7 +92,7 @@ module _ {q w : List ℕ} {t : ℕ} (k : Key) where
   }
 
   at-once : {at : ℕ} {e : Entry} {Γ : Ctx} → at + 4 * length (e ∷ Γ) ≤ t → EntryAt q w t at e → CtxAt q w t (at + 4) Γ → hit k e ≡ true
-      → Parts q w t at 0 k (e ∷ Γ)
+      → Breaks q w t at 0 k (e ∷ Γ)
   at-once {at} {e} {Γ} b x g h =
       let is = here k e Γ h in
       let p : at + 4 * 0 + 2 ≡ at + 2 = omega arith in
@@ -111,7 +111,7 @@ module _ {q w : List ℕ} {t : ℕ} (k : Key) where
       }
 
   further : {at : ℕ} (i : ℕ) {e : Entry} {Γ : Ctx} → at + 4 * length (e ∷ Γ) ≤ t → EntryAt q w t at e → hit k e ≡ false
-      → Parts q w t (at + 4) i k Γ → Parts q w t at (suc i) k (e ∷ Γ)
+      → Breaks q w t (at + 4) i k Γ → Breaks q w t at (suc i) k (e ∷ Γ)
   further {at} i {e} {Γ} b x h m =
       let is = later k e Γ h in
       let l = m .left in
@@ -147,7 +147,7 @@ module _ {q w : List ℕ} {t : ℕ} (k : Key) where
           }
 
   parts : {at : ℕ} (i : ℕ) {Γ : Ctx} → CtxAt q w t at Γ → at + 4 * length Γ ≤ t → First w at (length Γ) (kindOf k) (nameOf k) i
-      → Parts q w t at i k Γ
+      → Breaks q w t at i k Γ
   parts i nil b f = none-of i (omega arith) (f .within)
   parts {at} zero (cons x g) b f =
       let e : at + 4 * 0 ≡ at = omega arith in
@@ -164,7 +164,7 @@ first-split {w} {g} {i} k f = record {
   found = λ l u. rw (u .count) (on u .found (omega (arith, l, u .count)));
 }
   where
-    on : {q : List ℕ} {t : ℕ} {Γ : Ctx} → Run q w t (g .at) (g .n) Γ → Parts q w t (g .at) i k Γ
+    on : {q : List ℕ} {t : ℕ} {Γ : Ctx} → Run q w t (g .at) (g .n) Γ → Breaks q w t (g .at) i k Γ
     on u = parts k i (u .ctx) (omega (arith, u .below, u .count)) (rw (← u .count) f)
 
 -- ## What follows

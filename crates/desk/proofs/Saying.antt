@@ -8,7 +8,7 @@ use native.Mathlib.Decide.{decLe}
 use lib.ListN.{length, take}
 use lib.Seq.{take-all, length-take-le}
 use Rattle.definition.specs.Host.{bytesOf, numbers, byteReply, host-computes}
-use Rattle.lines.specs.Lines.{lineOf, Wrote}
+use Rattle.lines.specs.Lines.{lineOf, PutBytes}
 use Rattle.lines.proofs.Lines.{wrote-then}
 use Rattle.entry.specs.declared.Reply.{Reply}
 use Rattle.sized.specs.Sized.{writtenOf, Told}
@@ -19,7 +19,7 @@ use Rattle.desk.specs.Said.{twoLines, Said, Lines}
 
 -- the words shown are `&report[0..n]`
 pub both : {r : Reply} {s o o₁ o₂ : List ℕ} {y z : ℕ} (n : ℕ) → n ≡ writtenOf r
-    → Wrote o o₁ 0 (lineOf (r .code ∷ r .at ∷ r .len ∷ r .units ∷ [])) y → Wrote o₁ o₂ y (lineOf (take (n - 0) s)) z → z ≤ length o₂ → Lines r s o₂ z
+    → PutBytes o o₁ 0 (lineOf (r .code ∷ r .at ∷ r .len ∷ r .units ∷ [])) y → PutBytes o₁ o₂ y (lineOf (take (n - 0) s)) z → z ≤ length o₂ → Lines r s o₂ z
 both n h a b l = record { is = rw (sub-zero n, h) at (wrote-then _ _ a b .is); within = l }
 
 pub said : {input : List ℕ} {r : Reply} {s out : List ℕ} {z : ℕ} → Told input 4096 s r → Lines r s out z → Said input out z

@@ -14,7 +14,7 @@ use Rattle.reading.proofs.Questions.{asks-context}
 use Rattle.loading.specs.Table.{Sized, Laid}
 use Rattle.reading.specs.declared.Question.{Question}
 use Rattle.loading.specs.Loading.{Loading, Loaded}
-use Rattle.entry.specs.Entry.{OpenPre, Opens}
+use Rattle.entry.specs.Entry.{OpenPre, Prepares}
 
 -- ## Laying and loading
 
@@ -47,7 +47,7 @@ module _ {q w : List ℕ} {budget : ℕ} {a : Question} (pre : OpenPre q w budge
         })
 
     pub opens : {low : ℕ} {s : State} {w₂ : List ℕ} {o : Opened} → low ≡ workWords budget → s ≡ started low budget
-        → Loaded q w₁ w₂ s (a .context) (a .entries) o → Opens q w₂ budget a o
+        → Loaded q w₁ w₂ s (a .context) (a .entries) o → Prepares q w₂ budget a o
     unfolding workWords
     opens {low} {w₂ = w₂} {o} g h m =
         let l : Loaded q w₁ w₂ (started low budget) (a .context) (a .entries) o = rw h at m in

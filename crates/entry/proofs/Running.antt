@@ -19,7 +19,7 @@ use Rattle.reading.specs.Questions.{Accepted}
 use Rattle.reading.proofs.Questions.{asks-context}
 use Rattle.reading.specs.declared.Question.{Question}
 use Rattle.entry.specs.declared.Reply.{Reply}
-use Rattle.entry.specs.Entry.{Gives, RunPre, Runs, Opens, Answers, FinishPre, Finishes}
+use Rattle.entry.specs.Entry.{Gives, RunPre, Runs, Prepares, Answers, FinishPre, Finishes}
 
 -- ## Entering cannot be paid
 
@@ -47,7 +47,7 @@ unpaid {budget = budget} h e = record {
 
 -- ## The reply
 
-module _ {q w w₁ w₂ : List ℕ} {budget : ℕ} {a : Question} {o : Opened} {z : Step} (pre : RunPre q w budget a) (op : Opens q w₁ budget a o)
+module _ {q w w₁ w₂ : List ℕ} {budget : ℕ} {a : Question} {o : Opened} {z : Step} (pre : RunPre q w budget a) (op : Prepares q w₁ budget a o)
     (an : Answers q w₁ w₂ a (o .st) z) where
   pub finish-pre : FinishPre q w₂ (o .st) z
   unfolding workWords

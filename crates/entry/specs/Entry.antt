@@ -84,7 +84,7 @@ pub record OpenPre (q w : List ℕ) (budget : ℕ) (a : Question) : Type 0 where
   pub paid : a .entries < budget
 
 -- the table of ends is laid and the context loaded
-pub record Opens (q w′ : List ℕ) (budget : ℕ) (a : Question) (o : Opened) : Type 0 where
+pub record Prepares (q w′ : List ℕ) (budget : ℕ) (a : Question) (o : Opened) : Type 0 where
   pub ready : Ready q w′ (o .st) (o .g)
   pub low : o .st .low ≡ workWords budget
   pub left : o .st .left ≡ budget

@@ -4,7 +4,7 @@ ghost use mathlib.Core.List.{_++_};
 ghost use Prim.Native.Nat.{_≤_, _<_, _^_};
 ghost use lib.ListN.{length, drop, replicate};
 ghost use Rattle.definition.specs.Reply.{workWords};
-ghost use Rattle.entry.specs.Entry.{OutsideOf, AskPre, Answers, toldOf, lengthOf, FinishPre, Finishes, ResolvePre, Resolves, OpenPre, Opens, RunPre, Runs, ZeroBits, ClearedPre, Cleared, Replied};
+ghost use Rattle.entry.specs.Entry.{OutsideOf, AskPre, Answers, toldOf, lengthOf, FinishPre, Finishes, ResolvePre, Resolves, OpenPre, Prepares, RunPre, Runs, ZeroBits, ClearedPre, Cleared, Replied};
 use contexts::Opened;
 use judging::Answer;
 use judging::Here;
@@ -103,7 +103,7 @@ fn work_words(budget: usize) -> usize
 // Lays the table of ends, and loads the context.
 fn prepare(q: &[u32], work: &mut [u32], budget: usize, a: Question) -> Opened
     requires { ⌜ OpenPre (now q) (now work) budget a ⌝ }
-    ensures { λ o. ⌜ Opens (now (q .entry)) (now (work .exit)) budget a o ⌝ }
+    ensures { λ o. ⌜ Prepares (now (q .entry)) (now (work .exit)) budget a o ⌝ }
 {
     let low = work_words(budget);
     let from = a.context;

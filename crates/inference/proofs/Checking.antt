@@ -43,9 +43,9 @@ use Rattle.rules.proofs.Standing.{room-space, ref-small, check-shaped}
 use Rattle.rules.specs.declared.Mid.{Mid}
 use Rattle.rules.specs.declared.Mid.the-variants.{On, End}
 use Rattle.rules.specs.Taking.{Choice, lit-int, lit-bool, lam, all, sub, CheckPre}
-use Rattle.rules.specs.Going.{TwoIn, Passes, Nothing, Compared, PlainOut, kept, KeepOut}
+use Rattle.rules.specs.Going.{TwoIn, GoesOrEnds, Nothing, Compared, PlainOut, kept, KeepOut}
 use Rattle.rules.proofs.Choices.{chk-lam, chk-all, chk-sub}
-use Rattle.rules.proofs.Ways.{Way, den-on, otherwise, back, went, grown, Onward, onward, there, turn, finish}
+use Rattle.rules.proofs.Ways.{Way, den-on, otherwise, back, went, grown, WayOn, onward, there, turn, finish}
 use Rattle.inference.specs.Rules.{relate, Related}
 use Rattle.inference.proofs.Starting.{outcome, begin-check}
 use Rattle.inference.proofs.Premise.{At, Premise, ask-infer, ask-check, Returns, returns}
@@ -114,14 +114,14 @@ module _ (m : Here) {q w : List ℕ} {s : State} {g : Span} {ex r : ℕ} (pre : 
 
     module _ {w₁ : List ℕ} {y : Mid} (o : Compared m q w w₁ s g (l .ty) p y) where
       lam-passes : {j : Judgement} (k : At (pre .rule) j)
-          → Passes q w w₁ s Nothing y (parameter (m .manner .«compares_parameter») (check-asked ex r k .Γ) (lam-parts k .A) (lam-arrow k .A) (s .left) (s .fresh))
+          → GoesOrEnds q w w₁ s Nothing y (parameter (m .manner .«compares_parameter») (check-asked ex r k .Γ) (lam-parts k .A) (lam-arrow k .A) (s .left) (s .fresh))
       lam-passes k = o .passes _ _ _ (check-asked ex r k .run) (written (lam-parts k .type)) (lam-left k)
 
       pub lam-end : {z : Step} → y ≡ End z → Fires m q w w₁ s g (checkAsk ex r) z
       lam-end e = record { run = λ j k. there Nothing _ _ (lam-way k) (lam-passes k) e }
 
       module _ {s₁ : State} {a b : ℕ} (e : y ≡ On s₁ a b) where
-        lam-onward : {j : Judgement} (k : At (pre .rule) j) → Onward Nothing _ _ (lam-way k) w₁ s₁ a b
+        lam-onward : {j : Judgement} (k : At (pre .rule) j) → WayOn Nothing _ _ (lam-way k) w₁ s₁ a b
         lam-onward k = onward Nothing _ _ (lam-way k) (lam-passes k) e
 
         pub lam-space : {n : Entry} → EntryFrom m (Var (l .x)) p n → Space w₁ s₁ g 1 × SmallEntry n

@@ -21,13 +21,13 @@ use Rattle.rules.proofs.Ways.{Way, otherwise, back, turn, finish}
 use Rattle.inference.specs.Rules.{relate, Related}
 use Rattle.inference.proofs.Starting.{outcome, begin-infer}
 use Rattle.inference.proofs.Related.{regroup}
-use Rattle.inference.proofs.Premise.{At, Begun, Starts, Ends, Premise, ask-infer, ask-check, Returns, returns}
+use Rattle.inference.proofs.Premise.{At, RuleAsked, Starts, Ends, Premise, ask-infer, ask-check, Returns, returns}
 
 -- ## As far as the rule has come
 
 -- its condition was checked
-pub record Checked (t : ℕ) : Type 0 where
-  pub on : Begun IfOf t
+pub record ConditionChecked (t : ℕ) : Type 0 where
+  pub on : RuleAsked IfOf t
   pub w : List ℕ
   pub z : Step
   pub r : Answer
@@ -36,7 +36,7 @@ pub record Checked (t : ℕ) : Type 0 where
 
 -- its first branch was inferred
 pub record Inferred (t : ℕ) : Type 0 where
-  pub on : Checked t
+  pub on : ConditionChecked t
   pub w : List ℕ
   pub z : Step
   pub r : Answer
@@ -53,12 +53,12 @@ pub record Both (t : ℕ) : Type 0 where
   pub done : z ≡ Done r
 
 -- the rule as it was asked
-abbrev pub asked : {t : ℕ} → Both t → Begun IfOf t
+abbrev pub asked : {t : ℕ} → Both t → RuleAsked IfOf t
 asked b = b .on .on .on
 
 -- ## Its condition
 
-module _ {t : ℕ} (i : Begun IfOf t) where
+module _ {t : ℕ} (i : RuleAsked IfOf t) where
   pub ifs : {j : Judgement} (k : At (i .rule) j) → IsIf (i .q) (i .ex) (i .p) (infer-asked (i .ex) k .e)
   ifs k = i .parts .is (infer-asked (i .ex) k .at)
 
@@ -78,7 +78,7 @@ module _ {t : ℕ} (i : Begun IfOf t) where
 
 -- ## Its branches
 
-module _ {t : ℕ} (c : Checked t) where
+module _ {t : ℕ} (c : ConditionChecked t) where
   pub if-back : {j : Judgement} (k : At (c .on .rule) j) → Returns (if-asks (c .on)) (c .call) k (c .r)
   if-back k = returns (if-asks (c .on)) (c .call) (c .done) k
 

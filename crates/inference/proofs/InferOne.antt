@@ -39,20 +39,20 @@ use Rattle.rules.specs.declared.Mid.the-variants.{On, End}
 use Rattle.rules.specs.Going.{LamPre, LamIn, Two, DenOne, Instantiated, PlainOut, kept, KeepOut, TabsPre, TabsOut}
 use Rattle.rules.proofs.Ways.{Way, went, grown, apply-pre, AppliedTo, apply-spent, apply-done, onward, there, finish}
 use Rattle.inference.proofs.Starting.{outcome, begin-infer}
-use Rattle.inference.proofs.Premise.{At, Begun, Starts, Ends, Premise, ask-infer, ask-check, Returns, returns}
+use Rattle.inference.proofs.Premise.{At, RuleAsked, Starts, Ends, Premise, ask-infer, ask-check, Returns, returns}
 
 -- ## As far as such a rule has come
 
 -- InfLam: the parameter and a fresh unknown entered the context
 pub record LamOpened (t : ℕ) : Type 0 where
-  pub on : Begun AbsOf t
+  pub on : RuleAsked AbsOf t
   pub w : List ℕ
   pub o : Lam
   pub call : LamIn (on .m) (on .q) (on .w) w (on .s) (on .g) (on .p .x) (on .p .ty) o
 
 -- InfTAbs: the name entered the context
 pub record TAbsOpened (t : ℕ) : Type 0 where
-  pub on : Begun TAbsOf t
+  pub on : RuleAsked TAbsOf t
   pub w : List ℕ
   pub e : Entry
   pub o : Opened
@@ -80,7 +80,7 @@ pub record TAbsApplied (t : ℕ) : Type 0 where
 
 -- InfTApp: its expression was inferred
 pub record TAppInferred (t : ℕ) : Type 0 where
-  pub on : Begun (TypedOf Syntax.tapp) t
+  pub on : RuleAsked (TypedOf Syntax.tapp) t
   pub w : List ℕ
   pub z : Step
   pub r : Answer
@@ -89,7 +89,7 @@ pub record TAppInferred (t : ℕ) : Type 0 where
 
 -- ## InfAnn
 
-module _ {t : ℕ} (i : Begun (TypedOf Syntax.ann) t) where
+module _ {t : ℕ} (i : RuleAsked (TypedOf Syntax.ann) t) where
   pub ann : {j : Judgement} (k : At (i .rule) j) → IsTyped Syntax.ann (i .q) (i .ex) (i .p) (infer-asked (i .ex) k .e)
   ann k = i .parts .is (infer-asked (i .ex) k .at)
 
@@ -112,7 +112,7 @@ module _ {t : ℕ} (i : Begun (TypedOf Syntax.ann) t) where
 
 -- ## InfLam
 
-module _ {t : ℕ} (i : Begun AbsOf t) where
+module _ {t : ℕ} (i : RuleAsked AbsOf t) where
   pub lam : {j : Judgement} (k : At (i .rule) j) → IsAbs (i .q) (i .ex) (i .p) (infer-asked (i .ex) k .e)
   lam k = i .parts .is (infer-asked (i .ex) k .at)
 
@@ -151,7 +151,7 @@ module _ {t : ℕ} (l : LamOpened t) where
 
 -- ## InfTAbs
 
-module _ {t : ℕ} (i : Begun TAbsOf t) where
+module _ {t : ℕ} (i : RuleAsked TAbsOf t) where
   pub tabs : {j : Judgement} (k : At (i .rule) j) → IsTAbs (i .q) (i .ex) (i .p) (infer-asked (i .ex) k .e)
   tabs k = i .parts .is (infer-asked (i .ex) k .at)
 
@@ -205,7 +205,7 @@ module _ {t : ℕ} (h : TAbsApplied t) where
 
 -- ## InfTApp
 
-module _ {t : ℕ} (i : Begun (TypedOf Syntax.tapp) t) where
+module _ {t : ℕ} (i : RuleAsked (TypedOf Syntax.tapp) t) where
   pub tapp : {j : Judgement} (k : At (i .rule) j) → IsTyped Syntax.tapp (i .q) (i .ex) (i .p) (infer-asked (i .ex) k .e)
   tapp k = i .parts .is (infer-asked (i .ex) k .at)
 

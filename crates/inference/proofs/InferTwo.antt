@@ -41,13 +41,13 @@ use Rattle.rules.proofs.Ways.{Way, grown, apply-pre, AppliedTo, apply-spent, ap
 use Rattle.inference.specs.declared.Sides.{Sides}
 use Rattle.inference.specs.Rules.{infSides, Operates}
 use Rattle.inference.proofs.Starting.{outcome, begin-infer}
-use Rattle.inference.proofs.Premise.{At, Begun, Starts, Ends, Asked, Premise, ask-infer, ask-check, ask-app, Returns, returns}
+use Rattle.inference.proofs.Premise.{At, RuleAsked, Starts, Ends, Asked, Premise, ask-infer, ask-check, ask-app, Returns, returns}
 
 -- ## As far as such a rule has come
 
 -- the first part, which stands at e, was inferred
-pub record First {O : Type 0} (Of : List ℕ → ℕ → O → Type 0) (e : O → ℕ) (t : ℕ) : Type 0 where
-  pub on : Begun Of t
+pub record FirstInferred {O : Type 0} (Of : List ℕ → ℕ → O → Type 0) (e : O → ℕ) (t : ℕ) : Type 0 where
+  pub on : RuleAsked Of t
   pub w : List ℕ
   pub z : Step
   pub r : Answer
@@ -56,7 +56,7 @@ pub record First {O : Type 0} (Of : List ℕ → ℕ → O → Type 0) (e : O �
 
 -- InfApp: the function was; the context was applied to its type
 abbrev pub Function : ℕ → Type 0
-Function t = First AppOf (λ (p : App). p .func) t
+Function t = FirstInferred AppOf (λ (p : App). p .func) t
 
 pub record Headed (t : ℕ) : Type 0 where
   pub on : Function t
@@ -69,7 +69,7 @@ pub record Headed (t : ℕ) : Type 0 where
 
 -- InfLet: what the name stands for was; the name entered the context
 abbrev pub Value : ℕ → Type 0
-Value t = First LetOf (λ (p : Let). p .first) t
+Value t = FirstInferred LetOf (λ (p : Let). p .first) t
 
 pub record Bound (t : ℕ) : Type 0 where
   pub on : Value t
@@ -81,7 +81,7 @@ pub record Bound (t : ℕ) : Type 0 where
 
 -- ## InfApp
 
-module _ {t : ℕ} (i : Begun AppOf t) where
+module _ {t : ℕ} (i : RuleAsked AppOf t) where
   pub app : {j : Judgement} (k : At (i .rule) j) → IsApp (i .q) (i .ex) (i .p) (infer-asked (i .ex) k .e)
   app k = i .parts .is (infer-asked (i .ex) k .at)
 
@@ -129,7 +129,7 @@ module _ {t : ℕ} (h : Headed t) where
 
 -- ## InfLet
 
-module _ {t : ℕ} (i : Begun LetOf t) where
+module _ {t : ℕ} (i : RuleAsked LetOf t) where
   pub lets : {j : Judgement} (k : At (i .rule) j) → IsLet (i .q) (i .ex) (i .p) (infer-asked (i .ex) k .e)
   lets k = i .parts .is (infer-asked (i .ex) k .at)
 
@@ -199,7 +199,7 @@ right-den h d e = ⊎-elim (λ i. rw (i .0, i .1) d) (λ i. rw (i .0, i .1) e) h
 
 -- its rule is known
 pub record Operator (t : ℕ) : Type 0 where
-  pub on : Begun BinOpOf t
+  pub on : RuleAsked BinOpOf t
   pub o : Sides
   pub by : Operates (on .p .op) o
 
@@ -208,7 +208,7 @@ abbrev pub Sided : {t : ℕ} → Operator t → List ℕ → Step → Type 0
 Sided c w z = let i = c .on in Judged (i .m) (i .q) (i .w) w (i .s) (i .g) (leftAsk (c .o .0) (i .p .left) (c .o .1)) z
 
 -- its left side came back
-pub record Left (t : ℕ) : Type 0 where
+pub record LeftBack (t : ℕ) : Type 0 where
   pub on : Operator t
   pub w : List ℕ
   pub z : Step
@@ -218,11 +218,11 @@ pub record Left (t : ℕ) : Type 0 where
 
 -- the type for its right side is chosen
 pub record Aimed (t : ℕ) : Type 0 where
-  pub on : Left t
+  pub on : LeftBack t
   pub ty : ℕ
   pub picks : Picks (on .on .o .0) (on .r .ty) (on .on .o .1) ty
 
-module _ {t : ℕ} (i : Begun BinOpOf t) where
+module _ {t : ℕ} (i : RuleAsked BinOpOf t) where
   pub op : {j : Judgement} (k : At (i .rule) j) → IsBinOp (i .q) (i .ex) (i .p) (infer-asked (i .ex) k .e)
   op k = i .parts .is (infer-asked (i .ex) k .at)
 
@@ -241,7 +241,7 @@ module _ {t : ℕ} (c : Operator t) where
   pub op-asks : let i = c .on in Premise (i .m) (i .rule) _ _ (λ j k. op-way k) (i .g) (leftAsk (c .o .0) (i .p .left) (c .o .1))
   op-asks = record { at = λ j k. left-asks (c .o .0) (infer-asked (c .on .ex) k .run) (op (c .on) k .left) op-side }
 
-module _ {t : ℕ} (l : Left t) where
+module _ {t : ℕ} (l : LeftBack t) where
   pub op-back : {j : Judgement} (k : At (l .on .on .rule) j) → Returns (op-asks (l .on)) (l .call) k (l .r)
   op-back k = returns (op-asks (l .on)) (l .call) (l .done) k
 

@@ -28,7 +28,7 @@ abbrev pub At : {q w : List ℕ} {s : State} {g : Span} {a : Ask} → RulePre q 
 At {q} {w} {s} {g} {a} pre j = Asks q w (s .top) g a j
 
 -- a rule of infer is asked, and the parts p of its expression are known; t is the cycle's measure
-pub record Begun {O : Type 0} (Of : List ℕ → ℕ → O → Type 0) (t : ℕ) : Type 0 where
+pub record RuleAsked {O : Type 0} (Of : List ℕ → ℕ → O → Type 0) (t : ℕ) : Type 0 where
   pub m : Here
   pub q : List ℕ
   pub w : List ℕ
@@ -41,7 +41,7 @@ pub record Begun {O : Type 0} (Of : List ℕ → ℕ → O → Type 0) (t : ℕ)
   pub parts : Of q ex p
 
 -- how it begins, and how it ends
-module _ {O : Type 0} {Of : List ℕ → ℕ → O → Type 0} {t : ℕ} (i : Begun Of t) where
+module _ {O : Type 0} {Of : List ℕ → ℕ → O → Type 0} {t : ℕ} (i : RuleAsked Of t) where
   abbrev pub Starts : Judgement → M Fired → Type 0
   Starts j f = Way (i .q) (i .w) (i .w) (i .s) (i .s) leaf (20 + 28 * i .g .n) (outcome (i .m) (i .s) j) f
 

@@ -22,7 +22,7 @@ use Rattle.judging.specs.Ending.{EndsJ, landed, failed, ran-out, RunsJ, Judged}
 use Rattle.judging.proofs.Nodes.{nodes-at}
 use Rattle.rules.specs.declared.Mid.{Mid}
 use Rattle.rules.specs.declared.Mid.the-variants.{On, End}
-use Rattle.rules.specs.Going.{Passes, fails, stops, TwoIn, Dens, applyBoth, AppliedBoth}
+use Rattle.rules.specs.Going.{GoesOrEnds, fails, stops, TwoIn, Dens, applyBoth, AppliedBoth}
 use Rattle.rules.proofs.Ways.{Got, got, asks-sub}
 use Rattle.inference.specs.Rules.{relate, Related}
 
@@ -73,7 +73,7 @@ module _ {b : Bool} {q w w₁ : List ℕ} {s : State} {g : Span} {x y : ℕ} {v 
   pub related-end : {m : Here} {z : Step} → v ≡ End z → Related m b q w w₁ s g x y z
   related-end {m} {z} e = record { run = λ Γ A B n d f. go Γ A B refl (rw e at (o .passes Γ A B n d f)) }
     where
-      go : (Γ : Ctx) (A B : Ty) {O : Out (Ty × Ty)} {u : Step} → applyBoth b Γ A B (s .left) (s .fresh) ≡ O → Passes q w w₁ s (Dens q w₁) (End u) O
+      go : (Γ : Ctx) (A B : Ty) {O : Out (Ty × Ty)} {u : Step} → applyBoth b Γ A B (s .left) (s .fresh) ≡ O → GoesOrEnds q w w₁ s (Dens q w₁) (End u) O
           → RunsJ q w w₁ s u (relate m b Γ A B (s .left) (s .fresh))
       go Γ A B i (fails kp h) = record { keep = kp; ends = rw (bind-fail (applyBoth b Γ A B) _ _ _ i) (failed h) }
       go Γ A B i (stops kp) = record { keep = kp; ends = rw (bind-stop (applyBoth b Γ A B) _ _ _ i) ran-out }

@@ -92,7 +92,7 @@ pub record Halved (t : ℕ) : Type 0 where
   pub number : n ≡ ruleNumber (instArr sd)
 
 -- the first half was instantiated
-pub record First (t : ℕ) : Type 0 where
+pub record FirstHalf (t : ℕ) : Type 0 where
   pub on : Halved t
   pub w : List ℕ
   pub z : Step
@@ -102,7 +102,7 @@ pub record First (t : ℕ) : Type 0 where
 
 -- the context was applied to the second
 pub record Between (t : ℕ) : Type 0 where
-  pub on : First t
+  pub on : FirstHalf t
   pub w : List ℕ
   pub y : Made
   pub s : State
@@ -164,7 +164,7 @@ module _ {t : ℕ} (h : Halved t) where
 
 -- ## The context is applied to the second half
 
-module _ {t : ℕ} (c : First t) where
+module _ {t : ℕ} (c : FirstHalf t) where
   came : {j : Judgement} (k : At (c .on) j)
       → Came (c .on .q) (c .w) (c .on .o .st) (c .u) (judge (here (c .on .m)) (first (c .on) k) (c .on .o .st .left) (c .on .o .st .fresh))
   came k = gave (so₁ (c .on)) (c .call) (asks₁ (c .on) k) (c .done)

@@ -8,14 +8,14 @@ use Rattle.definition.specs.Rules.{other, instSolve, instReach, instArr}
 use Rattle.rules.specs.declared.Side.{Side}
 use Rattle.rules.specs.declared.Side.the-variants.{L, R}
 use Rattle.rules.specs.Sides.{side}
-use Rattle.instantiation.specs.Sides.{firstOf, otherOf}
+use Rattle.instantiation.specs.Sides.{firstRule, otherOf}
 
 pub other-is : {z : Side} (s : Side) → z ≡ otherOf s → side z ≡ other (side s)
 unfolding other
 other-is L e = rw e
 other-is R e = rw e
 
-pub first-is : {n : ℕ} (s : Side) → n ≡ firstOf s → n ≡ ruleNumber (instSolve (side s))
+pub first-is : {n : ℕ} (s : Side) → n ≡ firstRule s → n ≡ ruleNumber (instSolve (side s))
 unfolding ruleNumber instSolve
 first-is L e = e
 first-is R e = e

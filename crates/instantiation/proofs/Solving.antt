@@ -37,7 +37,7 @@ use Rattle.judging.specs.declared.Step.the-variants.{Fail}
 use Rattle.judging.proofs.Asking.{InstAsked, inst-asked}
 use Rattle.judging.proofs.Entries.{as-solved}
 use Rattle.judging.proofs.Chain.{begin, built, refuses, room-on, room-within}
-use Rattle.instantiation.specs.Sides.{FormPre, Meets, SolvePre, ReachPre, Closed}
+use Rattle.instantiation.specs.Sides.{FormPre, Meets, SolvePre, ReachPre, SolvedBy}
 use Rattle.instantiation.proofs.Equations.{occurs-is, solved-is, reach-is}
 use Rattle.rules.proofs.Standing.{unknown-named, room-space, ref-small}
 use Rattle.rules.proofs.Premises.{ends}
@@ -45,7 +45,7 @@ use Rattle.rules.proofs.Premises.{ends}
 -- ## A context that was built by solving an unknown is a rule's output
 
 pub closed : {m : Here} {q w w₁ : List ℕ} {s : State} {g : Span} {x : TyVar} {y : syntax.TyVar} {r n : ℕ} {z : Step} {T : Ty} {Γ : Ctx} (R : Rule) → n ≡ ruleNumber R
-    → ty x ≡ y → Room q w s (20 + 28 * g .n) → Run q w (s .top) (g .at) (g .n) Γ → Den q w (s .top) r T → Closed m w w₁ s g x r n z
+    → ty x ≡ y → Room q w s (20 + 28 * g .n) → Run q w (s .top) (g .at) (g .n) Γ → Den q w (s .top) r T → SolvedBy m w w₁ s g x r n z
     → (O : Out Fired) → O ≡ done (R, int, replace y (setvarBnd y T from here m ∷ []) Γ, leaf) (s .left) (s .fresh) → RunsR q w w₁ s z O
 unfolding children
 closed {w = w} {w₁} {s} {g} R e ex room run d c O eq =
@@ -110,7 +110,7 @@ module _ {q w : List ℕ} {s : State} {g : Span} {sd : Side} {a t : ℕ} (pre : 
         (late (v .Γ) (v .x) (v .T) (v .run) (v .unknown) (v .den)) (occurs-so (v .x) (v .T) (v .unknown) (v .den) ∙ h));
   }
 
-  pub solve-done : {m : Here} {w₁ : List ℕ} {n : ℕ} {z : Step} → b ≡ false → n ≡ ruleNumber (instSolve sd) → Closed m w w₁ s g x t n z
+  pub solve-done : {m : Here} {w₁ : List ℕ} {n : ℕ} {z : Step} → b ≡ false → n ≡ ruleNumber (instSolve sd) → SolvedBy m w w₁ s g x t n z
       → Fires m q w w₁ s g (instAsk sd a t) z
   solve-done {m} h e c = record {
     run = λ j k.
@@ -145,7 +145,7 @@ module _ {q w : List ℕ} {s : State} {g : Span} {sd : Side} {a t : ℕ} (pre : 
     meet-solve e = record { pre = pre .pre; plain = λ T d. let c = pre .code T d in omega arith; late = meets e }
 
 pub reach-done : {m : Here} {q w w₁ : List ℕ} {s : State} {g : Span} {sd : Side} {a t n : ℕ} {y : TyVar} {z : Step} → ReachPre sd q w s g a t → Named q w (s .top) t y
-    → n ≡ ruleNumber (instReach sd) → Closed m w w₁ s g y a n z → Fires m q w w₁ s g (instAsk sd a t) z
+    → n ≡ ruleNumber (instReach sd) → SolvedBy m w w₁ s g y a n z → Fires m q w w₁ s g (instAsk sd a t) z
 reach-done {m} {s = s} {sd = sd} {a = a} {t = t} pre nm e c = record {
   run = λ j k.
       let v = inst-asked sd a t k in

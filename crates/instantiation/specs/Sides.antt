@@ -23,9 +23,9 @@ use Rattle.rules.specs.declared.Side as program
 use Rattle.rules.specs.declared.Side.the-variants.{L, R}
 
 -- the number of a side's first rule
-abbrev pub firstOf : program.Side → ℕ
-firstOf L = 30
-firstOf R = 34
+abbrev pub firstRule : program.Side → ℕ
+firstRule L = 30
+firstRule R = 34
 
 -- the other one
 abbrev pub otherOf : program.Side → program.Side
@@ -55,7 +55,7 @@ pub record ReachPre (side : Side) (q w : List ℕ) (s : State) (g : Span) (a t :
   pub early : Meets q w s g a t true
 
 -- a context with a solved by the type r was built, and the rule of number n gives it
-pub record Closed (h : Here) (w w′ : List ℕ) (s : State) (g : Span) (a : declared.TyVar) (r n : ℕ) (z : Step) : Type 0 where
+pub record SolvedBy (h : Here) (w w′ : List ℕ) (s : State) (g : Span) (a : declared.TyVar) (r n : ℕ) (z : Step) : Type 0 where
   pub o : Opened
   pub e : Entry
   pub made : EntryFrom h (SETVar a) r e

@@ -21,7 +21,7 @@ ghost use Rattle.contexts.specs.Build.{Space};
 ghost use Rattle.judging.specs.Asking.{instAsk, JudgePre, RulePre};
 ghost use Rattle.judging.specs.Ending.{Judged, Fires};
 ghost use Rattle.rules.specs.Sides.{side};
-ghost use Rattle.instantiation.specs.Sides.{firstOf, otherOf, FormPre, Closed, SolvePre, ReachPre};
+ghost use Rattle.instantiation.specs.Sides.{firstRule, otherOf, FormPre, SolvedBy, SolvePre, ReachPre};
 
 // The other side.
 fn other(s: Side) -> Side
@@ -35,7 +35,7 @@ fn other(s: Side) -> Side
 
 // The number of the rule that solves, the first of the side's four.
 fn first(s: Side) -> usize
-    ensures { λ n. ⌜ n ≡ firstOf s ⌝ }
+    ensures { λ n. ⌜ n ≡ firstRule s ⌝ }
 {
     match s {
         Side::L => 30,
@@ -66,7 +66,7 @@ fn asked(s: Side, a: usize, ty: usize) -> Ask
 // The output context with a solved by the type r, and no children.
 fn solved(work: &mut [u32], h: Here, st: State, g: Span, a: TyVar, r: usize, rule: usize) -> Step
     requires { ⌜ (Space (now work) st g 1) × (r < 2 ^ 32) ⌝ }
-    ensures { λ z. ⌜ Closed h (now (work .entry)) (now (work .exit)) st g a r rule z ⌝ }
+    ensures { λ z. ⌜ SolvedBy h (now (work .entry)) (now (work .exit)) st g a r rule z ⌝ }
 {
     let e = judging::entry(h, Key::SETVar(a), r);
     let o = contexts::replace(work, st, g, a, e);

@@ -67,12 +67,12 @@ pub record InstAsked (q w : List ℕ) (t : ℕ) (g : Span) (s : Side) (a b : ℕ
   pub den : Den q w t b T
 
 -- what a judgement of kind k is
-abbrev Asked : List ℕ → List ℕ → ℕ → Span → Ask → Judgement → ℕ → Type 0
-Asked q w t g a j k =
+abbrev AskedAs : List ℕ → List ℕ → ℕ → Span → Ask → Judgement → ℕ → Type 0
+AskedAs q w t g a j k =
     nth (InferAsked q w t g (a .ex) j ∷ TypedAsked check q w t g (a .ex) (a .right) j ∷ TypedAsked inferApp q w t g (a .ex) (a .left) j
     ∷ SubAsked q w t g (a .left) (a .right) j ∷ InstAsked q w t g onL (a .left) (a .right) j ∷ InstAsked q w t g onR (a .right) (a .left) j ∷ []) (k - 1)
 
-asked : {q w : List ℕ} {t : ℕ} {g : Span} {a : Ask} {j : Judgement} → Asks q w t g a j → Asked q w t g a j (a .kind)
+asked : {q w : List ℕ} {t : ℕ} {g : Span} {a : Ask} {j : Judgement} → Asks q w t g a j → AskedAs q w t g a j (a .kind)
 asked (as-infer {Γ = Γ} {e = e} k r x) = rw k (record { Γ = Γ; e = e; is = refl; run = r; at = x })
 asked (as-check {Γ = Γ} {e = e} {B = B} k r x d) = rw k (record { Γ = Γ; e = e; T = B; is = refl; run = r; at = x; den = d })
 asked (as-app {Γ = Γ} {e = e} {A = A} k r x d) = rw k (record { Γ = Γ; e = e; T = A; is = refl; run = r; at = x; den = d })

@@ -38,10 +38,10 @@ asks-run (as-inst-r k z r d e) = r
 -- ## Nodes
 
 -- the words of a range of places stay
-abbrev pub Same : ℕ → ℕ → List ℕ → List ℕ → Type 0
-Same lo hi w w′ = (i : ℕ) → lo ≤ i → i < hi → getD w i 0 ≡ getD w′ i 0
+abbrev pub SameWords : ℕ → ℕ → List ℕ → List ℕ → Type 0
+SameWords lo hi w w′ = (i : ℕ) → lo ≤ i → i < hi → getD w i 0 ≡ getD w′ i 0
 
-words-frame : {w w′ : List ℕ} {m rule kids ty : ℕ} {g h : Span} {a : Ask} → Same m (m + 12) w w′ → NodeWords w m rule kids g a h ty
+words-frame : {w w′ : List ℕ} {m rule kids ty : ℕ} {g h : Span} {a : Ask} → SameWords m (m + 12) w w′ → NodeWords w m rule kids g a h ty
     → NodeWords w′ m rule kids g a h ty
 words-frame {m = m} sm x = record {
   rule-is = sym (sm m (omega arith) (omega arith)) ∙ x .rule-is;
@@ -57,7 +57,7 @@ words-frame {m = m} sm x = record {
   kind-is = sym (sm (m + 10) (omega arith) (omega arith)) ∙ x .kind-is;
 }
 
-node-frame : {q w w′ : List ℕ} {t t′ h m kids : ℕ} {r : Rule} {j : Judgement} {C : Ty} {Δ : Ctx} → Keep t h w w′ → t ≤ t′ → Same m (m + 12) w w′
+node-frame : {q w w′ : List ℕ} {t t′ h m kids : ℕ} {r : Rule} {j : Judgement} {C : Ty} {Δ : Ctx} → Keep t h w w′ → t ≤ t′ → SameWords m (m + 12) w w′
     → NodeAt q w t m r kids j C Δ → NodeAt q w′ t′ m r kids j C Δ
 node-frame kp le sm x = record {
   input = x .input;
@@ -70,7 +70,7 @@ node-frame kp le sm x = record {
   den = den-frame kp le (x .den);
 }
 
-pub nodes-frame : {q w w′ : List ℕ} {t t′ h lo hi : ℕ} {ts : Trees} → Keep t h w w′ → t ≤ t′ → Same lo hi w w′ → NodesAt q w t lo hi ts
+pub nodes-frame : {q w w′ : List ℕ} {t t′ h lo hi : ℕ} {ts : Trees} → Keep t h w w′ → t ≤ t′ → SameWords lo hi w w′ → NodesAt q w t lo hi ts
     → NodesAt q w′ t′ lo hi ts
 nodes-frame kp le sm (no-nodes e) = no-nodes e
 nodes-frame kp le sm (a-node e a x k b u) =

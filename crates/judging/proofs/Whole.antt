@@ -22,11 +22,11 @@ use Rattle.judging.specs.Leaving.{inner, EnteredBy, entered, unpaid, Lea
 use Rattle.judging.proofs.Judgements.{judge-spent, rule-pre, conclude-pre, judge-done, fail-pre, judge-fail, judge-out}
 
 -- what entering tells
-record Inside (s : State) (g : Span) (i : State) : Type 0 where
+record InnerState (s : State) (g : Span) (i : State) : Type 0 where
   is : i ≡ inner s g
   pos : g .n < s .left
 
-inside : {s i : State} {g : Span} {e : Entered} → EnteredBy s g e → e ≡ In i → Inside s g i
+inside : {s i : State} {g : Span} {e : Entered} → EnteredBy s g e → e ≡ In i → InnerState s g i
 inside (entered p) d = record { is = cc; pos = p }
 inside (unpaid p) d = let z : _≡_ {A = ℕ} 0 1 = cc in absurd (omega arith)
 

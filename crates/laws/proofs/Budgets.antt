@@ -14,7 +14,7 @@ use Rattle.definition.specs.Types.{applyTo, apply}
 use Rattle.definition.specs.Rules.{Here, outside, Rules, judgeStep, judgeTo, judgeBy, judge}
 use Rattle.definition.specs.Reply.{answer}
 use Rattle.laws.proofs.Steps.{charge-yes, charge-no}
-use Rattle.laws.proofs.Congruence.{Rel, Closed, applyStepR, Congruent, rule-congruent}
+use Rattle.laws.proofs.Congruence.{Rel, Compatible, applyStepR, Congruent, rule-congruent}
 use Rattle.laws.proofs.Depth.{Upto, upto, apply-upto, judgeBy-upto}
 
 -- an end, a type error among others, that is charged k more
@@ -98,10 +98,10 @@ bind-steady {m = m} {f} hm hf = record {
   early = λ k l n. sym (then-then (charge k l n) (λ u. m) f) ∙ ap (λ o. andThen o f) (hm .early k l n) ∙ then-late k (m l n) f hf;
 }
 
-abbrev Each : Rel
-Each A m m′ = Steady m
+abbrev SteadyOne : Rel
+SteadyOne A m m′ = Steady m
 
-each : Closed Each
+each : Compatible SteadyOne
 each = record {
   giveR = give-steady;
   refuseR = refuse-steady;
@@ -122,7 +122,7 @@ from-depths m x h e = record {
 applyTo-steady : (d : ℕ) (Γ : Ctx) (A : Ty) → Steady (applyTo d Γ A)
 unfolding applyTo
 applyTo-steady zero Γ A = halt-steady
-applyTo-steady (suc d) Γ A = bind-steady (charge-steady 1) (λ u. applyStepR Each each Γ _ (λ B l n. applyTo d Γ B l n) (applyTo-steady d Γ) A)
+applyTo-steady (suc d) Γ A = bind-steady (charge-steady 1) (λ u. applyStepR SteadyOne each Γ _ (λ B l n. applyTo d Γ B l n) (applyTo-steady d Γ) A)
 
 apply-steady : (Γ : Ctx) (A : Ty) → Steady (apply Γ A)
 apply-steady Γ A = from-depths (λ d. applyTo d Γ A) (apply Γ A) (λ d. applyTo-steady d Γ A) (λ d. apply-upto d d (le-refl d) Γ A)
@@ -133,7 +133,7 @@ module _ {rules : Rules} (c : Congruent rules) where
   judgeTo-steady zero h j = halt-steady
   judgeTo-steady (suc d) h j =
       bind-steady (charge-steady _) (λ u. bind-steady
-      (c .keeps Each each apply-steady h _ (λ i l n. judgeTo rules d h i l n) (judgeTo-steady d h) j)
+      (c .keeps SteadyOne each apply-steady h _ (λ i l n. judgeTo rules d h i l n) (judgeTo-steady d h) j)
       (λ r. bind-steady (charge-steady _) (λ v. give-steady _)))
 
   pub judgeBy-steady : (h : Here) (j : Judgement) → Steady (judgeBy rules h j)

@@ -12,14 +12,14 @@ use Rattle.definition.specs.Rules.{Fired, Result, Judge, Here, Rules, closes, _
 abbrev pub Rel : Type 1
 Rel = (A : Type 0) → M A → M A → Type 0
 
-pub record Closed (R : Rel) : Type 1 where
+pub record Compatible (R : Rel) : Type 1 where
   pub giveR : {A : Type 0} (a : A) → R A (give a) (give a)
   pub refuseR : {A : Type 0} (e : TypeError) → R A (refuse e) (refuse e)
   pub freshR : R TyVar fresh fresh
   pub chargeR : (c : ℕ) → R (Unit {0}) (charge c) (charge c)
   pub bindR : {A B : Type 0} {m m′ : M A} {f f′ : A → M B} → R A m m′ → ((a : A) → R B (f a) (f′ a)) → R B (m >>= f) (m′ >>= f′)
 
-module _ (R : Rel) (c : Closed R) where
+module _ (R : Rel) (c : Compatible R) where
   -- ## Choices
 
   pickR : {A : Type 0} (b : Bool) {x x′ y y′ : M A} → R A x x′ → R A y y′ → R A (pick b x y) (pick b x′ y′)
@@ -213,7 +213,7 @@ module _ (R : Rel) (c : Closed R) where
 -- ## Rules that keep every such relation: document 01's do
 
 pub record Congruent (rules : Rules) : Type 1 where
-  pub keeps : (R : Rel) → Closed R → ((Γ : Ctx) (A : Ty) → R Ty (apply Γ A) (apply Γ A)) → (h : Here) (judge judge′ : Judge)
+  pub keeps : (R : Rel) → Compatible R → ((Γ : Ctx) (A : Ty) → R Ty (apply Γ A) (apply Γ A)) → (h : Here) (judge judge′ : Judge)
       → ((j : Judgement) → R Result (judge j) (judge′ j)) → (j : Judgement) → R Fired (rules h judge j) (rules h judge′ j)
 
 pub rule-congruent : Congruent rule

@@ -123,20 +123,20 @@ out-exactly-past-count {m = m} {n} {c} h l =
 -- ## Replies
 
 -- the reply R to a run that was charged c of the budget b
-data Told (b : ℕ) (R : Reply) : Option ℕ → Type 0 where
-  six : R ≡ refusal 6 0 b → Told b R none
-  other : {u : ℕ} → R .code ≢ 6 → R .units ≡ u → Told b R (some u)
+data ReplyTo (b : ℕ) (R : Reply) : Option ℕ → Type 0 where
+  six : R ≡ refusal 6 0 b → ReplyTo b R none
+  other : {u : ℕ} → R .code ≢ 6 → R .units ≡ u → ReplyTo b R (some u)
 
-pick-told : {b : ℕ} {c : Option ℕ} (t : Bool) {x y : Reply} → Told b x c → Told b y c → Told b (pick t x y) c
+pick-told : {b : ℕ} {c : Option ℕ} (t : Bool) {x y : Reply} → ReplyTo b x c → ReplyTo b y c → ReplyTo b (pick t x y) c
 unfolding pick
 pick-told true h k = h
 pick-told false h k = k
 
-reported-told : (b room c p u : ℕ) (ws : List ℕ) → c ≢ 6 → Told b (reported room c p u ws) (some u)
+reported-told : (b room c p u : ℕ) (ws : List ℕ) → c ≢ 6 → ReplyTo b (reported room c p u ws) (some u)
 unfolding reported
 reported-told b room c p u ws h = pick-told _ (other h refl) (other (λ e. omega (arith, e)) refl)
 
-told : (kind b room : ℕ) (o : Out Result) → Told b (outReply kind b room o) (charged b o)
+told : (kind b room : ℕ) (o : Out Result) → ReplyTo b (outReply kind b room o) (charged b o)
 unfolding outReply charged
 told kind b room (done r l n) = reported-told b room 0 0 (b - l) _ (λ e. omega (arith, e))
 told kind b room (fail e l) = reported-told b room (errorCode (e .error)) _ (b - l) _ (λ x. omega (arith, error (e .error) .least, x))
@@ -161,13 +161,13 @@ within {high = high} {x} h k =
     let p : x ≢ 0 = λ e. not-suc-le-zero (rw e at h) in
     ap (_|| ltb high x) (is-false (eqb x 0) (no-eqb p)) ∙ is-false (ltb high x) (no-ltb k)
 
-told-reply : {b w : ℕ} {ws : List ℕ} {q : Question} → IsRun b w ws q → (room : ℕ) → Told b (reply b w room ws) (charged b (answer q b 0))
+told-reply : {b w : ℕ} {ws : List ℕ} {q : Question} → IsRun b w ws q → (room : ℕ) → ReplyTo b (reply b w room ws) (charged b (answer q b 0))
 unfolding reply readReply pick
 told-reply {b} {w} {ws} {q} a room =
     rw (within (a .low) (a .high), is-false (ltb w (workWords b)) (no-ltb (a .enough)), within (some-words ws (a .read)) (a .few), a .read)
     (told (q .kind) b room (answer q b 0))
 
-exactly : {b : ℕ} {R : Reply} {u : Option ℕ} → Told b R u → (c : Option ℕ) → u ≡ upTo b c
+exactly : {b : ℕ} {R : Reply} {u : Option ℕ} → ReplyTo b R u → (c : Option ℕ) → u ≡ upTo b c
     → (R .code ≡ 6 → Passes c b) × (Passes c b → R ≡ refusal 6 0 b)
 exactly {b} (six r) c e = (λ _. passes b c (sym e), λ _. r)
 exactly {b} (other {u} h r) c e = (λ k. absurd (h k), λ p. absurd (Option·some-ne-none u (e ∙ passed b c p)))
@@ -186,7 +186,7 @@ unfolding countTo
 six-exactly-past-count-to {budget} {q = q} a most h room =
     exactly (told-reply a room) (countTo most q) (charged-smaller (answer-steady q) budget most 0 h)
 
-units : {b : ℕ} {R : Reply} {u : Option ℕ} → Told b R u → R .code ≢ 6 → u ≡ some (R .units)
+units : {b : ℕ} {R : Reply} {u : Option ℕ} → ReplyTo b R u → R .code ≢ 6 → u ≡ some (R .units)
 unfolding refusal
 units (six r) h = absurd (h (ap (λ R. R .code) r))
 units (other k r) h = ap some (sym r)

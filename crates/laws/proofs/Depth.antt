@@ -13,28 +13,28 @@ use Rattle.definition.specs.Run.{Out, done, fail, stop, M, andThen, _>>=_, give
 use Rattle.definition.specs.Types.{applyStep, applyTo, apply}
 use Rattle.definition.specs.Rules.{Result, Judge, Here, Rules, rule, judgeStep, judgeTo, judgeBy, judge}
 use Rattle.laws.proofs.Steps.{charge-yes, charge-no}
-use Rattle.laws.proofs.Congruence.{Rel, Closed, applyStepR, Congruent, rule-congruent}
+use Rattle.laws.proofs.Congruence.{Rel, Compatible, applyStepR, Congruent, rule-congruent}
 
 -- ## Two runs that are the same at every budget up to b, and never leave more than there was
 
-abbrev pub Left : {A : Type 0} → ℕ → Out A → Type 0
-Left l (done a l′ n) = l′ ≤ l
-Left l (fail e l′) = l′ ≤ l
-Left l stop = Unit {0}
+abbrev pub NoMoreLeft : {A : Type 0} → ℕ → Out A → Type 0
+NoMoreLeft l (done a l′ n) = l′ ≤ l
+NoMoreLeft l (fail e l′) = l′ ≤ l
+NoMoreLeft l stop = Unit {0}
 
 abbrev pub Upto : ℕ → Rel
-Upto b A m m′ = (l n : ℕ) → l ≤ b → (m l n ≡ m′ l n) × Left l (m l n)
+Upto b A m m′ = (l n : ℕ) → l ≤ b → (m l n ≡ m′ l n) × NoMoreLeft l (m l n)
 
-weaken : {A : Type 0} (l l′ : ℕ) (o : Out A) → l′ ≤ l → Left l′ o → Left l o
+weaken : {A : Type 0} (l l′ : ℕ) (o : Out A) → l′ ≤ l → NoMoreLeft l′ o → NoMoreLeft l o
 weaken l l′ (done a m n) h p = omega arith
 weaken l l′ (fail e m) h p = omega arith
 weaken l l′ stop h p = tt
 
-andThen-upto : (b : ℕ) {A B : Type 0} (l : ℕ) (o o′ : Out A) (f f′ : A → M B) → l ≤ b → o ≡ o′ → Left l o → ((a : A) → Upto b B (f a) (f′ a))
-    → (andThen o f ≡ andThen o′ f′) × Left l (andThen o f)
+andThen-upto : (b : ℕ) {A B : Type 0} (l : ℕ) (o o′ : Out A) (f f′ : A → M B) → l ≤ b → o ≡ o′ → NoMoreLeft l o → ((a : A) → Upto b B (f a) (f′ a))
+    → (andThen o f ≡ andThen o′ f′) × NoMoreLeft l (andThen o f)
 unfolding andThen
 andThen-upto b l (done a l′ n) o′ f f′ h e p k =
-    let r : (f a l′ n ≡ f′ a l′ n) × Left l′ (f a l′ n) = k a l′ n (omega arith) in
+    let r : (f a l′ n ≡ f′ a l′ n) × NoMoreLeft l′ (f a l′ n) = k a l′ n (omega arith) in
     (r .0 ∙ ap (λ o. andThen o f′) e, weaken l l′ (f a l′ n) p (r .1))
 andThen-upto b l (fail x l′) o′ f f′ h e p k = (ap (λ o. andThen o f′) e, p)
 andThen-upto b l stop o′ f f′ h e p k = (ap (λ o. andThen o f′) e, tt)
@@ -43,7 +43,7 @@ charge-upto : (b c : ℕ) → Upto b (Unit {0}) (charge c) (charge c)
 charge-upto b c l n h =
     (refl, elim (decLe c l) [ yes k ↦ rw (charge-yes c l n k) (omega arith) | no k ↦ rw (charge-no c l n (lt-of-not-le k)) tt ])
 
-pub upto : (b : ℕ) → Closed (Upto b)
+pub upto : (b : ℕ) → Compatible (Upto b)
 unfolding give refuse fresh _>>=_
 upto b = record {
   giveR = λ a l n h. (refl, le-refl l);
@@ -59,7 +59,7 @@ unfolding _>>=_ andThen
 charged-upto b c f f′ p h l n k =
     elim (decLe c l) [
       | yes q ↦
-          let r : (f tt (l - c) n ≡ f′ tt (l - c) n) × Left (l - c) (f tt (l - c) n) = h (l - c) n (omega arith) in
+          let r : (f tt (l - c) n ≡ f′ tt (l - c) n) × NoMoreLeft (l - c) (f tt (l - c) n) = h (l - c) n (omega arith) in
           rw (charge-yes c l n q) (r .0, weaken l (l - c) (f tt (l - c) n) (omega arith) (r .1))
       | no q ↦ rw (charge-no c l n (lt-of-not-le q)) (refl, tt)
     ]
@@ -148,7 +148,7 @@ module _ {rules : Rules} (c : Congruent rules) where
   judgeBy-eq h j (suc l) n =
       judgeStep-upto l (λ i k l′ n. judgeTo rules l i k l′ n) (judgeBy rules) (judgeBy-upto l) h j (suc l) n (le-refl (suc l)) .0
 
-  pub judgeBy-left : (h : Here) (j : Judgement) (l n : ℕ) → Left l (judgeBy rules h j l n)
+  pub judgeBy-left : (h : Here) (j : Judgement) (l n : ℕ) → NoMoreLeft l (judgeBy rules h j l n)
   unfolding judgeBy
   judgeBy-left h j l n = judgeTo-upto l l l (le-refl l) (le-refl l) h j l n (le-refl l) .1
 
@@ -158,7 +158,7 @@ judge-eq = judgeBy-eq rule-congruent
 
 -- ## No run leaves more than there was
 
-pub judge-left : (h : Here) (j : Judgement) (l n : ℕ) → Left l (judge h j l n)
+pub judge-left : (h : Here) (j : Judgement) (l n : ℕ) → NoMoreLeft l (judge h j l n)
 judge-left = judgeBy-left rule-congruent
 
 -- ## No words, read as a context at any depth

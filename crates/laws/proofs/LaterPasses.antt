@@ -22,38 +22,38 @@ Normal Γ (arrow A B) = Normal Γ A × Normal Γ B
 Normal Γ (forall a A) = Normal Γ A
 
 -- whatever a run gives is such, and it refuses nothing
-abbrev pub Holds : {A : Type 0} → (A → Type 0) → Out A → Type 0
-Holds P (done a l n) = P a
-Holds P (fail e l) = ⊥
-Holds P stop = Unit {0}
+abbrev pub GivesOnly : {A : Type 0} → (A → Type 0) → Out A → Type 0
+GivesOnly P (done a l n) = P a
+GivesOnly P (fail e l) = ⊥
+GivesOnly P stop = Unit {0}
 
-abbrev pub Gives : {A : Type 0} → (A → Type 0) → M A → Type 0
-Gives P m = (l n : ℕ) → Holds P (m l n)
+abbrev pub AlwaysGives : {A : Type 0} → (A → Type 0) → M A → Type 0
+AlwaysGives P m = (l n : ℕ) → GivesOnly P (m l n)
 
-andThen-holds : {A B : Type 0} (P : A → Type 0) (Q : B → Type 0) (o : Out A) (f : A → M B) → Holds P o → ((a : A) → P a → Gives Q (f a))
-    → Holds Q (andThen o f)
+andThen-holds : {A B : Type 0} (P : A → Type 0) (Q : B → Type 0) (o : Out A) (f : A → M B) → GivesOnly P o → ((a : A) → P a → AlwaysGives Q (f a))
+    → GivesOnly Q (andThen o f)
 unfolding andThen
 andThen-holds P Q (done a l n) f p h = h a p l n
 andThen-holds P Q (fail e l) f p h = absurd p
 andThen-holds P Q stop f p h = tt
 
-bind-gives : {A B : Type 0} (P : A → Type 0) (Q : B → Type 0) (m : M A) (f : A → M B) → Gives P m → ((a : A) → P a → Gives Q (f a))
-    → Gives Q (m >>= f)
+bind-gives : {A B : Type 0} (P : A → Type 0) (Q : B → Type 0) (m : M A) (f : A → M B) → AlwaysGives P m → ((a : A) → P a → AlwaysGives Q (f a))
+    → AlwaysGives Q (m >>= f)
 unfolding _>>=_
 bind-gives P Q m f hm hf l n = andThen-holds P Q (m l n) f (hm l n) hf
 
-pub charge-gives : (c : ℕ) → Gives (λ u. Unit {0}) (charge c)
+pub charge-gives : (c : ℕ) → AlwaysGives (λ u. Unit {0}) (charge c)
 charge-gives c l n = elim (decLe c l) [ yes h ↦ rw (charge-yes c l n h) tt | no h ↦ rw (charge-no c l n (lt-of-not-le h)) tt ]
 
 module _ (Γ : Ctx) where
-  step-normal : (ap : Ty → M Ty) → ((A : Ty) → Gives (Normal Γ) (ap A)) → (A : Ty) → Gives (Normal Γ) (applyStep Γ ap A)
+  step-normal : (ap : Ty → M Ty) → ((A : Ty) → AlwaysGives (Normal Γ) (ap A)) → (A : Ty) → AlwaysGives (Normal Γ) (applyStep Γ ap A)
   unfolding applyStep give solutionOr
   step-normal ap h int l n = tt
   step-normal ap h bool l n = tt
   step-normal ap h (var a) l n = tt
   step-normal ap h (etvar a) l n = go (find (kSETVar a) Γ) refl
     where
-      go : (o : Option Ty) → find (kSETVar a) Γ ≡ o → Holds (Normal Γ) (solutionOr (etvar a) ap o l n)
+      go : (o : Option Ty) → find (kSETVar a) Γ ≡ o → GivesOnly (Normal Γ) (solutionOr (etvar a) ap o l n)
       go none e = e
       go (some A) e = h A l n
   step-normal ap h (arrow A B) l n =
@@ -61,7 +61,7 @@ module _ (Γ : Ctx) where
       (λ A′ p. bind-gives (Normal Γ) (Normal Γ) (ap B) _ (h B) (λ B′ q l n. (p, q))) l n
   step-normal ap h (forall a A) l n = bind-gives (Normal Γ) (Normal Γ) (ap A) _ (h A) (λ A′ p l n. p) l n
 
-  pub applyTo-normal : (d : ℕ) (A : Ty) → Gives (Normal Γ) (applyTo d Γ A)
+  pub applyTo-normal : (d : ℕ) (A : Ty) → AlwaysGives (Normal Γ) (applyTo d Γ A)
   unfolding applyTo halt
   applyTo-normal zero A = λ l n. tt
   applyTo-normal (suc d) A =

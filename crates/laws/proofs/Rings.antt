@@ -14,12 +14,12 @@ use Rattle.laws.specs.Count.{charged, Count, countTo, Passes, IsRun}
 use Rattle.laws.specs.Rings.{Leads, here, follow, left, right, under, Ring, Applies, itself, first, after, judging}
 use Rattle.laws.proofs.Steps.{bind-done, bind-stop}
 use Rattle.laws.proofs.Depth.{judge-eq}
-use Rattle.laws.proofs.LaterPasses.{Normal, Holds, charge-gives, applyTo-normal}
+use Rattle.laws.proofs.LaterPasses.{Normal, GivesOnly, charge-gives, applyTo-normal}
 use Rattle.laws.proofs.Count.{no-count, six-exactly-past-count-to}
 
 -- ## Application
 
-then-stops : {A B : Type 0} (P : A → Type 0) (o : Out A) (f : A → M B) → Holds P o → ((a : A) (l n : ℕ) → f a l n ≡ stop)
+then-stops : {A B : Type 0} (P : A → Type 0) (o : Out A) (f : A → M B) → GivesOnly P o → ((a : A) (l n : ℕ) → f a l n ≡ stop)
     → andThen o f ≡ stop
 unfolding andThen
 then-stops P (done a l n) f p h = h a l n

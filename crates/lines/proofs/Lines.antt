@@ -10,7 +10,7 @@ use borrow.Author.Tests.{lt-ltb, le-ltb}
 use lib.ListN.{length, getD, set, take, drop, length-append, drop-of-length-le}
 use lib.Seq.{length-take-le, take-length, take-suc-set, take-at, drop-cons}
 use Rattle.io.specs.Digits.{digits, Fewest}
-use Rattle.lines.specs.Lines.{decimalTo, decimal, lineOf, lines-compute, Wrote}
+use Rattle.lines.specs.Lines.{decimalTo, decimal, lineOf, lines-compute, PutBytes}
 
 -- ## Decimal numbers
 
@@ -58,22 +58,22 @@ fewest-ten k n h f =
 
 -- ## Bytes written
 
-pub wrote-none : (s : List ℕ) (p : ℕ) → Wrote s s p [] p
+pub wrote-none : (s : List ℕ) (p : ℕ) → PutBytes s s p [] p
 wrote-none s p = record { is = sym (append-nil (take p s)); next = omega arith }
 
-pub wrote-then : {s s₁ s₂ : List ℕ} {p y z : ℕ} (bs cs : List ℕ) → Wrote s s₁ p bs y → Wrote s₁ s₂ y cs z → Wrote s s₂ p (bs ++ cs) z
+pub wrote-then : {s s₁ s₂ : List ℕ} {p y z : ℕ} (bs cs : List ℕ) → PutBytes s s₁ p bs y → PutBytes s₁ s₂ y cs z → PutBytes s s₂ p (bs ++ cs) z
 wrote-then {s} {p = p} bs cs a b = record {
   is = b .is ∙ ap (_++ cs) (a .is) ∙ append-assoc (take p s) bs cs;
   next = omega (arith, a .next, b .next, length-append bs cs);
 }
 
-pub wrote-byte : {s s′ : List ℕ} {p z : ℕ} (bs : List ℕ) (b : ℕ) → Wrote s s′ p bs z → z < length s′ → Wrote s (set s′ z b) p (bs ++ (b ∷ [])) (z + 1)
+pub wrote-byte : {s s′ : List ℕ} {p z : ℕ} (bs : List ℕ) (b : ℕ) → PutBytes s s′ p bs z → z < length s′ → PutBytes s (set s′ z b) p (bs ++ (b ∷ [])) (z + 1)
 wrote-byte {s′ = s′} {z = z} bs b w h = wrote-then bs (b ∷ []) w (record { is = rw (add-one z) (take-suc-set s′ z b h); next = omega arith })
 
 -- the first n bytes of t copied to the place p, then the byte b
 pub wrote-number : {s ys ds : List ℕ} {n : ℕ} (p b : ℕ) (t mid rest : List ℕ) → p ≤ length s → n ≡ length (take n t) → take n t ≡ ds
     → ys ≡ take (length (take n t)) (take n t) ++ mid → p + n < length (take p s ++ (ys ++ rest))
-    → Wrote s (set (take p s ++ (ys ++ rest)) (p + n) b) p (ds ++ (b ∷ [])) (p + n + 1)
+    → PutBytes s (set (take p s ++ (ys ++ rest)) (p + n) b) p (ds ++ (b ∷ [])) (p + n + 1)
 wrote-number {s} {ys} {ds} {n} p b t mid rest h l d e i =
     let k : length ds ≡ n = rw d at (sym l) in
     let j : length (take p s ++ ds) ≡ p + n = length-append (take p s) ds ∙ omega (arith, length-take-le p s h) in
@@ -84,16 +84,16 @@ wrote-number {s} {ys} {ds} {n} p b t mid rest h l d e i =
 -- ## Lines, written from the number i on
 
 module _ {s s₁ : List ℕ} {p y : ℕ} (ws : List ℕ) where
-  pub line-none : length ws ≡ 0 → Wrote s s₁ p (10 ∷ []) y → Wrote s s₁ p (lineOf ws) y
+  pub line-none : length ws ≡ 0 → PutBytes s s₁ p (10 ∷ []) y → PutBytes s s₁ p (lineOf ws) y
   unfolding lineOf
   line-none h w = rw (drop-of-length-le ws {i = 0} (omega arith)) w
 
-  pub line-last : (i : ℕ) → length ws ≡ i + 1 → Wrote s s₁ p (decimal (getD ws i 0) ++ (10 ∷ [])) y → Wrote s s₁ p (lineOf (drop i ws)) y
+  pub line-last : (i : ℕ) → length ws ≡ i + 1 → PutBytes s s₁ p (decimal (getD ws i 0) ++ (10 ∷ [])) y → PutBytes s s₁ p (lineOf (drop i ws)) y
   unfolding lineOf
   line-last i h w = rw (drop-cons ws i 0 (omega arith), drop-of-length-le ws {i = suc i} (omega arith)) w
 
-  pub line-more : {s₂ : List ℕ} {z : ℕ} (i : ℕ) → i + 1 < length ws → Wrote s s₁ p (decimal (getD ws i 0) ++ (32 ∷ [])) y
-      → Wrote s₁ s₂ y (lineOf (drop (i + 1) ws)) z → Wrote s s₂ p (lineOf (drop i ws)) z
+  pub line-more : {s₂ : List ℕ} {z : ℕ} (i : ℕ) → i + 1 < length ws → PutBytes s s₁ p (decimal (getD ws i 0) ++ (32 ∷ [])) y
+      → PutBytes s₁ s₂ y (lineOf (drop (i + 1) ws)) z → PutBytes s s₂ p (lineOf (drop i ws)) z
   unfolding lineOf
   line-more {s₂} {z} i h w k =
       let l : List ℕ = lineOf (drop (i + 1) ws) in

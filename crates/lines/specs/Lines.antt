@@ -27,6 +27,6 @@ unfolding decimalTo decimal lineOf
 lines-compute = tt
 
 -- the buffer s became s′: what stood before the place p, then the bytes; z is the place past them
-pub record Wrote (s s′ : List ℕ) (p : ℕ) (bytes : List ℕ) (z : ℕ) : Type 0 where
+pub record PutBytes (s s′ : List ℕ) (p : ℕ) (bytes : List ℕ) (z : ℕ) : Type 0 where
   pub is : take z s′ ≡ take p s ++ bytes
   pub next : z ≡ p + length bytes

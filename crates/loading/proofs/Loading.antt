@@ -19,11 +19,11 @@ use Rattle.contexts.proofs.Build.{past-run}
 use Rattle.reading.specs.Items.{TyTo}
 use Rattle.reading.specs.Contexts.{RestTo, var-rest, tvar-rest, etvar-rest, setvar-rest, mark-rest, EntryTo, EntriesTo, none, some, ListTo}
 use Rattle.loading.specs.declared.Rest.{Rest}
-use Rattle.loading.specs.Loading.{Holds, EntryRead, Reads, Loads, LoadedFrom, Loaded}
+use Rattle.loading.specs.Loading.{TypedKind, EntryRest, Readable, Loads, LoadedFrom, Loaded}
 
 -- ## The first of some entries
 
-pub record Begins (q : List ℕ) (p : ℕ) (Γ : Ctx) (n end : ℕ) : Type 0 where
+pub record FirstEntry (q : List ℕ) (p : ℕ) (Γ : Ctx) (n end : ℕ) : Type 0 where
   pub x : Entry
   pub others : Ctx
   pub m : ℕ
@@ -31,10 +31,10 @@ pub record Begins (q : List ℕ) (p : ℕ) (Γ : Ctx) (n end : ℕ) : Type 0 whe
   pub entry : EntryTo q p x m
   pub list : ListTo q m others (n - 1) end
 
-pub begins : {q : List ℕ} {p n end : ℕ} {Γ : Ctx} → (n ≡ 0 → ⊥) → ListTo q p Γ n end → Begins q p Γ n end
+pub begins : {q : List ℕ} {p n end : ℕ} {Γ : Ctx} → (n ≡ 0 → ⊥) → ListTo q p Γ n end → FirstEntry q p Γ n end
 begins {q} {p} {n} {end} h l = go (l .entries) (l .count)
   where
-    go : {p end : ℕ} {Γ : Ctx} → EntriesTo q p Γ end → n ≡ length Γ → Begins q p Γ n end
+    go : {p end : ℕ} {Γ : Ctx} → EntriesTo q p Γ end → n ≡ length Γ → FirstEntry q p Γ n end
     go none c = absurd (h c)
     go (some {m = m} {x = x} {Γ = Γ} e es) c =
         record { x = x; others = Γ; m = m; is = refl; entry = e; list = record { entries = es; count = omega arith } }
@@ -44,7 +44,7 @@ pub record Rested (q w : List ℕ) (t : ℕ) (x : Entry) (m : ℕ) (r : Rest) : 
   pub den : Den q w t (r .ty) (held x)
   pub next : r .next ≡ m
 
-pub rested : {q w : List ℕ} {t p m : ℕ} {x : Entry} {r : Rest} → Base q w t → EntryTo q p x m → EntryRead w (getD q p 0) p r → Rested q w t x m r
+pub rested : {q w : List ℕ} {t p m : ℕ} {x : Entry} {r : Rest} → Base q w t → EntryTo q p x m → EntryRest w (getD q p 0) p r → Rested q w t x m r
 unfolding kindOf bindingKey bindingType held
 rested {q} {w} {t} {p} {m} {x} {r} b e h = let z = go (e .binds .rest) (e .binds .kind .is) in record { den = z .0; next = z .1 }
   where
@@ -63,11 +63,11 @@ rested {q} {w} {t} {p} {m} {x} {r} b e h = let z = go (e .binds .rest) (e .binds
     go mark-rest k = bare-at 36 k (λ f. omega arith) (λ f. omega arith)
 
 -- the table has the end of an entry's type
-pub reads : {q w : List ℕ} {t p m : ℕ} {x : Entry} → Base q w t → t ≤ length w → EntryTo q p x m → Reads w (getD q p 0) p
+pub reads : {q w : List ℕ} {t p m : ℕ} {x : Entry} → Base q w t → t ≤ length w → EntryTo q p x m → Readable w (getD q p 0) p
 unfolding kindOf bindingKey
 reads {q} {w} {t} {p} b l e = record { place = e .binds .kind .inside; table = go (e .binds .rest) (e .binds .kind .is) }
   where
-    go : {y : Binding} {m : ℕ} → RestTo q (p + 2) y m → getD q p 0 ≡ kindOf (bindingKey y) → Holds (getD q p 0) → 16 + (p + 2) < length w
+    go : {y : Binding} {m : ℕ} → RestTo q (p + 2) y m → getD q p 0 ≡ kindOf (bindingKey y) → TypedKind (getD q p 0) → 16 + (p + 2) < length w
     go (var-rest d) k h = let c = ty-code (d .at) in omega (arith, c .inside, b .floor)
     go tvar-rest k h = absurd (⊎-elim (λ f. omega arith) (λ f. omega arith) h)
     go etvar-rest k h = absurd (⊎-elim (λ f. omega arith) (λ f. omega arith) h)
@@ -84,7 +84,7 @@ loaded-none q w p at n e = record { keep = keep-refl _ _ _; run = λ Γ end l. g
     go none c = nil
     go (some x es) c = absurd (omega arith)
 
-module _ {q w w₁ : List ℕ} {p at n : ℕ} {r : Rest} (pre : Loads q w p at n) (pos : n ≡ 0 → ⊥) (h : EntryRead w (getD q p 0) p r) where
+module _ {q w w₁ : List ℕ} {p at n : ℕ} {r : Rest} (pre : Loads q w p at n) (pos : n ≡ 0 → ⊥) (h : EntryRest w (getD q p 0) p r) where
   pub next-reads : Put4 w w₁ at (getD q p 0) (getD q (p + 1) 0) (r .ty) 0 → Loads q w₁ (r .next) (at + 4) (n - 1)
   next-reads put =
       let f = begins pos (pre .list) in

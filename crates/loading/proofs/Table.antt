@@ -19,14 +19,14 @@ use Rattle.layout.specs.Words.{Keep, Put2}
 use Rattle.layout.specs.Denotes.{Base}
 use Rattle.layout.proofs.Places.{ty-code, expr-code}
 use Rattle.layout.proofs.Words.{keep-trans, keep-less}
-use Rattle.loading.specs.Table.{Spans, ty-spans, expr-spans, Table, Ready, PastIs, EndIs, Laid}
+use Rattle.loading.specs.Table.{Spans, ty-spans, expr-spans, Table, ReadyAt, PastIs, EndIs, Laid}
 
 -- ## What an item is made of
 
 -- k items stand one after the other from p up to m
-pub data Inner (q : List ℕ) : ℕ → ℕ → ℕ → Type 0 where
-  done : {p m : ℕ} → p ≡ m → Inner q p 0 m
-  item : {p n k m : ℕ} → Spans q p n → Inner q n k m → Inner q p (suc k) m
+pub data ItemsTo (q : List ℕ) : ℕ → ℕ → ℕ → Type 0 where
+  done : {p m : ℕ} → p ≡ m → ItemsTo q p 0 m
+  item : {p n k m : ℕ} → Spans q p n → ItemsTo q n k m → ItemsTo q p (suc k) m
 
 -- how many words an item has before its own items, and how many items, by its code; one word and no item for codes that are not listed
 abbrev pub Groups : Type 0
@@ -47,14 +47,14 @@ table =
     ∷ (25 ∷ [], (1, 3))
     ∷ []
 
-one : {q : List ℕ} {p m : ℕ} → Spans q p m → Inner q p 1 m
+one : {q : List ℕ} {p m : ℕ} → Spans q p m → ItemsTo q p 1 m
 one s = item s (done refl)
 
-two : {q : List ℕ} {p i m : ℕ} → Spans q p i → Spans q i m → Inner q p 2 m
+two : {q : List ℕ} {p i m : ℕ} → Spans q p i → Spans q i m → ItemsTo q p 2 m
 two s t = item s (one t)
 
 -- what an item is made of, by the word at its place
-inner : {q : List ℕ} {p m : ℕ} → Spans q p m → Inner q (p + look (getD q p 0) table .0) (look (getD q p 0) table .1) m
+inner : {q : List ℕ} {p m : ℕ} → Spans q p m → ItemsTo q (p + look (getD q p 0) table .0) (look (getD q p 0) table .1) m
 unfolding look table pick
 inner (ty-spans (int-at c) t) = rw (c .is) (done t)
 inner (ty-spans (bool-at c) t) = rw (c .is) (done t)
@@ -93,11 +93,11 @@ inner {q} {m = m} (expr-spans (binOp-at {m = i} c n l k d e f) t) =
 -- ## By the arms of a `match`
 
 -- what holds of each key holds of a word that is one of them
-abbrev pub Each : (ℕ → Type 0) → List ℕ → Type 0
-Each P [] = Unit {0}
-Each P (k ∷ ks) = P k × Each P ks
+abbrev pub EachKey : (ℕ → Type 0) → List ℕ → Type 0
+EachKey P [] = Unit {0}
+EachKey P (k ∷ ks) = P k × EachKey P ks
 
-pub each : {w : ℕ} (P : ℕ → Type 0) (ks : List ℕ) → Each P ks → OneOf ks w → P w
+pub each : {w : ℕ} (P : ℕ → Type 0) (ks : List ℕ) → EachKey P ks → OneOf ks w → P w
 each P [] h e = absurd e
 each P (k ∷ []) h e = rw e (h .0)
 each P (k ∷ (k′ ∷ ks)) h (inl e) = rw e (h .0)
@@ -130,14 +130,14 @@ spans-within : {q : List ℕ} {p m : ℕ} → Spans q p m → (p < length q) × 
 spans-within (ty-spans d t) = (ty-code d .within, omega arith)
 spans-within (expr-spans d t) = (expr-code d .within, omega arith)
 
-module _ {q w : List ℕ} {p : ℕ} (ready : Ready q w p) where
-  step : {i k m r : ℕ} → p + 1 ≤ i → Inner q i (suc k) m → PastIs q w i r → (p + 1 ≤ r) × Inner q r k m
+module _ {q w : List ℕ} {p : ℕ} (ready : ReadyAt q w p) where
+  step : {i k m r : ℕ} → p + 1 ≤ i → ItemsTo q i (suc k) m → PastIs q w i r → (p + 1 ≤ r) × ItemsTo q r k m
   step {i} {k} {m} {r} h (item {n = n} s x) y =
       let b = spans-within s in
       let e : r ≡ n = y .is (b .0) ∙ ready .table .ends i n h s in
       (omega arith, rw e x)
 
-  stop : {i m : ℕ} → Inner q i 0 m → i ≡ m
+  stop : {i m : ℕ} → ItemsTo q i 0 m → i ≡ m
   stop (done e) = e
 
   module _ (n : ℕ) (some : 1 ≤ n) where

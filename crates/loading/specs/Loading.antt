@@ -14,17 +14,17 @@ use Rattle.reading.specs.Contexts.{ListTo}
 use Rattle.loading.specs.declared.Rest.{Rest}
 
 -- an entry of one of these kinds holds a type
-abbrev pub Holds : ℕ → Type 0
-Holds kind = (kind ≡ 32) ⊎ (kind ≡ 35)
+abbrev pub TypedKind : ℕ → Type 0
+TypedKind kind = (kind ≡ 32) ⊎ (kind ≡ 35)
 
-pub record Reads (w : List ℕ) (kind p : ℕ) : Type 0 where
+pub record Readable (w : List ℕ) (kind p : ℕ) : Type 0 where
   pub place : p < 2048
-  pub table : Holds kind → 16 + (p + 2) < length w
+  pub table : TypedKind kind → 16 + (p + 2) < length w
 
 -- the type stands after the name, and ends where the table says
-pub record EntryRead (w : List ℕ) (kind p : ℕ) (r : Rest) : Type 0 where
-  pub held : Holds kind → (r .ty ≡ p + 2) × (r .next ≡ getD w (16 + (p + 2)) 0)
-  pub bare : (Holds kind → ⊥) → (r .ty ≡ 2048) × (r .next ≡ p + 2)
+pub record EntryRest (w : List ℕ) (kind p : ℕ) (r : Rest) : Type 0 where
+  pub held : TypedKind kind → (r .ty ≡ p + 2) × (r .next ≡ getD w (16 + (p + 2)) 0)
+  pub bare : (TypedKind kind → ⊥) → (r .ty ≡ 2048) × (r .next ≡ p + 2)
   pub small : r .ty < 2 ^ 32
 
 -- n entries stand in the question from p on, and there is room for them from a place of work on, above the table

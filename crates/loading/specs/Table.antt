@@ -22,7 +22,7 @@ pub record Sized (q w : List ℕ) : Type 0 where
 pub record Table (q w : List ℕ) (p : ℕ) : Type 0 where
   pub ends : (i m : ℕ) → p ≤ i → Spans q i m → getD w (16 + i) 0 ≡ m
 
-pub record Ready (q w : List ℕ) (p : ℕ) : Type 0 where
+pub record ReadyAt (q w : List ℕ) (p : ℕ) : Type 0 where
   pub sized : Sized q w
   pub within : p < length q
   pub table : Table q w (p + 1)

@@ -1,6 +1,6 @@
 // The table of ends: for each place of the question, the place past the item that stands there. Later steps find an item's parts by it,
 // with no walk.
-ghost use Rattle.loading.specs.Table.{Sized, Ready, PastIs, EndIs, Laid};
+ghost use Rattle.loading.specs.Table.{Sized, ReadyAt, PastIs, EndIs, Laid};
 
 // The place past the item at i, by the table; 0 past the question.
 fn past(q: &[u32], work: &[u32], i: usize) -> usize
@@ -15,7 +15,7 @@ fn past(q: &[u32], work: &[u32], i: usize) -> usize
 
 // The place past the item at p, by the table from p + 1 on; some number where no item stands.
 fn end_of(q: &[u32], work: &[u32], p: usize) -> usize
-    requires { ⌜ Ready (now q) (now work) p ⌝ }
+    requires { ⌜ ReadyAt (now q) (now work) p ⌝ }
     ensures { λ e. ⌜ EndIs (now (q .entry)) p e ⌝ }
 {
     let code = q[p];

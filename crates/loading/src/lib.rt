@@ -6,7 +6,7 @@ use layout::Span;
 use layout::State;
 use layout::put4;
 use layout::word;
-ghost use Rattle.loading.specs.Loading.{Loads, LoadedFrom, Loading, Loaded, Reads, EntryRead};
+ghost use Rattle.loading.specs.Loading.{Loads, LoadedFrom, Loading, Loaded, Readable, EntryRest};
 
 pub mod ends;
 
@@ -18,8 +18,8 @@ pub struct Rest {
 
 // What stands after the kind and the name of the entry at p.
 fn rest_of(work: &[u32], kind: usize, p: usize) -> Rest
-    requires { ⌜ Reads (now work) kind p ⌝ }
-    ensures { λ r. ⌜ EntryRead (now (work .entry)) kind p r ⌝ }
+    requires { ⌜ Readable (now work) kind p ⌝ }
+    ensures { λ r. ⌜ EntryRest (now (work .entry)) kind p r ⌝ }
 {
     let first = p + 2;
     match kind {

@@ -7,7 +7,7 @@ use native.Mathlib.Numerals.{add-one}
 use lib.ListN.{length, set, take, length-set}
 use lib.Seq.{length-take-le, take-suc-set, append-snoc}
 use Rattle.definition.specs.Host.{bytesOf, numbers, byteReply, host-computes}
-use Rattle.lines.specs.Lines.{lineOf, Wrote}
+use Rattle.lines.specs.Lines.{lineOf, PutBytes}
 use Rattle.lines.proofs.Lines.{wrote-then}
 use Rattle.entry.specs.declared.Reply.{Reply}
 use Rattle.sized.specs.Sized.{Told}
@@ -20,7 +20,7 @@ use Rattle.sections.specs.Sections.{partOf}
 use Rattle.sections.specs.Nodes.{nodeIn, nodesFrom, nodesIn, rulesIn, nodes-compute}
 use Rattle.sections.proofs.Reports.{written-only, part-short}
 use Rattle.sections.proofs.Nodes.{met-past, walk-ends, walk-goes-on}
-use Rattle.parts.specs.Shown.{five, sixLines, sevenLines, Shown, partIn, PartLine, Lines, RulesOf, RuleLine}
+use Rattle.parts.specs.Shown.{five, sixLines, sevenLines, PartsSaid, partIn, PartLine, SectionLines, RulesOf, RuleLine}
 
 -- ## One section's line
 
@@ -28,14 +28,14 @@ module _ (r : Reply) (x : Section) (s : List ℕ) {words : List ℕ} (is : words
   pub words-short : length words ≤ 4096
   words-short = rw is (omega (arith, part-short x (r .code) (r .len) s))
 
-  pub part-line : {o o′ : List ℕ} {at z : ℕ} → (Wrote o o′ at (lineOf words) z) × (z ≤ at + 11 * length words + 1) → PartLine r x s o o′ at z
+  pub part-line : {o o′ : List ℕ} {at z : ℕ} → (PutBytes o o′ at (lineOf words) z) × (z ≤ at + 11 * length words + 1) → PartLine r x s o o′ at z
   part-line w = record { wrote = rw is at (w .0); short = omega (arith, w .1, words-short) }
 
 -- ## The six lines
 
-pub six : {r : Reply} {s o o₁ o₂ o₃ o₄ o₅ o₆ : List ℕ} {a b c d e z : ℕ} → (Wrote o o₁ 0 (lineOf (r .code ∷ r .at ∷ r .len ∷ r .units ∷ [])) a) × (a ≤ 45)
+pub six : {r : Reply} {s o o₁ o₂ o₃ o₄ o₅ o₆ : List ℕ} {a b c d e z : ℕ} → (PutBytes o o₁ 0 (lineOf (r .code ∷ r .at ∷ r .len ∷ r .units ∷ [])) a) × (a ≤ 45)
     → PartLine r Ty s o₁ o₂ a b → PartLine r Context s o₂ o₃ b c → PartLine r Tree s o₃ o₄ c d → PartLine r First s o₄ o₅ d e
-    → PartLine r Second s o₅ o₆ e z → Lines r s o₆ z
+    → PartLine r Second s o₅ o₆ e z → SectionLines r s o₆ z
 six n t c d f g = record {
   is = wrote-then _ _ (n .0) (wrote-then _ _ (t .wrote) (wrote-then _ _ (c .wrote) (wrote-then _ _ (d .wrote) (wrote-then _ _ (f .wrote) (g .wrote))))) .is;
   short = omega (arith, n .1, t .short, c .short, d .short, f .short, g .short);
@@ -86,7 +86,7 @@ module _ {ws rules : List ℕ} {at n : ℕ} (l : Listed ws rules at n) {z : Walk
     }
 
 pub rule-line : {r : Reply} {s words rules o o′ : List ℕ} {n at z : ℕ} → words ≡ partIn r s Tree → RulesOf words rules n → n ≤ 512
-    → (Wrote o o′ at (lineOf (take n rules)) z) × (z ≤ at + 11 * length (take n rules) + 1) → RuleLine r s o o′ at z
+    → (PutBytes o o′ at (lineOf (take n rules)) z) × (z ≤ at + 11 * length (take n rules) + 1) → RuleLine r s o o′ at z
 rule-line {rules = rules} {n = n} is k h w = record {
   wrote = rw (← is, ← k .is) (w .0);
   short = omega (arith, w .1, length-take-le n rules (k .within), h);
@@ -102,8 +102,8 @@ part-told {r = r} {s} t x = written-only x (r .code) (r .len) s ∙ rw (t .repor
 five-same : {f g : Section → List ℕ} → ((x : Section) → f x ≡ g x) → five f ≡ five g
 five-same h = rw (h Ty, h Context, h Tree, h First, h Second)
 
-pub shown : {input : List ℕ} {r : Reply} {s out out′ : List ℕ} {y z : ℕ} → Told input 4096 s r → Lines r s out y → RuleLine r s out out′ y z
-    → length out′ ≡ 230963 → Shown input out′ z
+pub shown : {input : List ℕ} {r : Reply} {s out out′ : List ℕ} {y z : ℕ} → Told input 4096 s r → SectionLines r s out y → RuleLine r s out out′ y z
+    → length out′ ≡ 230963 → PartsSaid input out′ z
 unfolding sevenLines sixLines numbers
 shown {s = s} {out} {y = y} t k w l = let m = t .numbers in record {
   is = w .wrote .is ∙ rw (k .is, five-same (part-told t), part-told t Tree, m .code, m .at, m .len, m .units);

@@ -5,7 +5,7 @@ use Prim.Native.Nat.{ℕ, _+_, _≤_}
 use lib.ListN.{length, take}
 use Rattle.definition.specs.Reply as definition
 use Rattle.definition.specs.Host.{numbers, byteReply}
-use Rattle.lines.specs.Lines.{lineOf, Wrote}
+use Rattle.lines.specs.Lines.{lineOf, PutBytes}
 use Rattle.entry.specs.declared.Reply.{Reply}
 use Rattle.sections.specs.declared.Section.{Section}
 use Rattle.sections.specs.declared.Section.the-variants.{Ty, Context, Tree, First, Second}
@@ -25,7 +25,7 @@ unfoldable pub sevenLines : definition.Reply → List ℕ
 sevenLines r = sixLines r ++ lineOf (rulesIn (partOf Tree (r .code) (r .report)))
 
 -- with the desk program's sizes: the first z bytes of out are the seven lines
-pub record Shown (input out : List ℕ) (z : ℕ) : Type 0 where
+pub record PartsSaid (input out : List ℕ) (z : ℕ) : Type 0 where
   pub is : take z out ≡ sevenLines (byteReply 4096 input)
   pub within : z ≤ length out
 
@@ -35,10 +35,10 @@ abbrev pub partIn : Reply → List ℕ → Section → List ℕ
 partIn r s x = partOf x (r .code) (take (r .len) s)
 
 pub record PartLine (r : Reply) (x : Section) (s out out′ : List ℕ) (at z : ℕ) : Type 0 where
-  pub wrote : Wrote out out′ at (lineOf (partIn r s x)) z
+  pub wrote : PutBytes out out′ at (lineOf (partIn r s x)) z
   pub short : z ≤ at + 45057
 
-pub record Lines (r : Reply) (s out : List ℕ) (z : ℕ) : Type 0 where
+pub record SectionLines (r : Reply) (s out : List ℕ) (z : ℕ) : Type 0 where
   pub is : take z out ≡ lineOf (r .code ∷ r .at ∷ r .len ∷ r .units ∷ []) ++ five (partIn r s)
   pub short : z ≤ 225330
 
@@ -48,5 +48,5 @@ pub record RulesOf (ws rules : List ℕ) (n : ℕ) : Type 0 where
   pub within : n ≤ length rules
 
 pub record RuleLine (r : Reply) (s out out′ : List ℕ) (at z : ℕ) : Type 0 where
-  pub wrote : Wrote out out′ at (lineOf (rulesIn (partIn r s Tree))) z
+  pub wrote : PutBytes out out′ at (lineOf (rulesIn (partIn r s Tree))) z
   pub short : z ≤ at + 5633

@@ -3,7 +3,7 @@
 ghost use mathlib.Core.Path.{_≡_};
 ghost use Prim.Native.Nat.{_+_, _*_, _≤_};
 ghost use lib.ListN.{length};
-ghost use Rattle.parts.specs.Shown.{Shown, Lines, PartLine, RulesOf, RuleLine};
+ghost use Rattle.parts.specs.Shown.{PartsSaid, SectionLines, PartLine, RulesOf, RuleLine};
 ghost use Rattle.sized.specs.Sized.{Lent};
 use entry::Reply;
 use libc::STDIN_FILENO;
@@ -23,7 +23,7 @@ fn part(out: &mut [u8], at: usize, r: Reply, report: &[u32], s: Section) -> usiz
 // The first six lines, at the start of out; how many bytes they have.
 fn say(out: &mut [u8], r: Reply, report: &[u32]) -> usize
     requires { ⌜ (length (now out) ≡ 230963) × (length (now report) ≡ 4096) ⌝ }
-    ensures { λ z. ⌜ Lines r (now (report .entry)) (now (out .exit)) z ⌝ }
+    ensures { λ z. ⌜ SectionLines r (now (report .entry)) (now (out .exit)) z ⌝ }
 {
     let four = [r.code, r.at, r.len, r.units];
     let a = lines::line(out, 0, &four);
@@ -73,7 +73,7 @@ fn answer(
     out: &mut [u8],
 ) -> usize
     requires { ⌜ (Lent (now words) (now work) (now report)) × (length (now out) ≡ 230963) ⌝ }
-    ensures { λ z. ⌜ Shown (now (input .entry)) (now (out .exit)) z ⌝ }
+    ensures { λ z. ⌜ PartsSaid (now (input .entry)) (now (out .exit)) z ⌝ }
 {
     let r = sized::answer(input, words, work, report, 4096);
     let z = say(out, r, report);

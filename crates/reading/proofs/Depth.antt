@@ -13,23 +13,23 @@ use Rattle.laws.proofs.Depth.{readCtx-none}
 
 -- ## Two readers that are the same on up to n words, and never leave more than there were
 
-abbrev Left : {A : Type 0} → ℕ → Read A → Type 0
-Left n (got a p ws) = length ws ≤ n
-Left n (fault c p) = Unit {0}
+abbrev NoMoreLeft : {A : Type 0} → ℕ → Read A → Type 0
+NoMoreLeft n (got a p ws) = length ws ≤ n
+NoMoreLeft n (fault c p) = Unit {0}
 
 abbrev Upto : {A : Type 0} → ℕ → Reader A → Reader A → Type 0
-Upto n m m′ = (p : ℕ) (ws : List ℕ) → length ws ≤ n → (m p ws ≡ m′ p ws) × Left (length ws) (m p ws)
+Upto n m m′ = (p : ℕ) (ws : List ℕ) → length ws ≤ n → (m p ws ≡ m′ p ws) × NoMoreLeft (length ws) (m p ws)
 
 -- one that never leaves more
 abbrev Shrinks : {A : Type 0} → Reader A → Type 0
 Shrinks m = (n : ℕ) → Upto n m m
 
-weaken : {A : Type 0} (n n′ : ℕ) (o : Read A) → n ≤ n′ → Left n o → Left n′ o
+weaken : {A : Type 0} (n n′ : ℕ) (o : Read A) → n ≤ n′ → NoMoreLeft n o → NoMoreLeft n′ o
 weaken n n′ (got a p ws) h l = omega arith
 weaken n n′ (fault c p) h l = tt
 
-next-upto : {A B : Type 0} (n k : ℕ) (o o′ : Read A) (f f′ : A → Reader B) → k ≤ n → o ≡ o′ → Left k o → ((a : A) → Upto n (f a) (f′ a))
-    → (next o f ≡ next o′ f′) × Left k (next o f)
+next-upto : {A B : Type 0} (n k : ℕ) (o o′ : Read A) (f f′ : A → Reader B) → k ≤ n → o ≡ o′ → NoMoreLeft k o → ((a : A) → Upto n (f a) (f′ a))
+    → (next o f ≡ next o′ f′) × NoMoreLeft k (next o f)
 unfolding next
 next-upto n k (got a p ws) o′ f f′ h e l g =
     let r = g a p ws (omega arith) in
@@ -104,14 +104,14 @@ unfolding oneOf
 oneOf-upto h = word-upto (λ p w. row-upto w p h)
 
 -- on no words, where both say o
-none-upto : {A : Type 0} (m m′ : Reader A) (o : ℕ → Read A) → ((p : ℕ) → Left 0 (o p)) → ((p : ℕ) → m p [] ≡ o p) → ((p : ℕ) → m′ p [] ≡ o p)
+none-upto : {A : Type 0} (m m′ : Reader A) (o : ℕ → Read A) → ((p : ℕ) → NoMoreLeft 0 (o p)) → ((p : ℕ) → m p [] ≡ o p) → ((p : ℕ) → m′ p [] ≡ o p)
     → Upto 0 m m′
 none-upto m m′ o h e e′ p [] l = (e p ∙ sym (e′ p), rw (e p) (h p))
 none-upto m m′ o h e e′ p (w ∷ ws) l = absurd (not-suc-le-zero l)
 
 -- ## A reader to a depth, as it goes from one depth to the next; on no words it says o at each
 
-module _ {A : Type 0} (R : ℕ → Reader A) (o : ℕ → Read A) (few : (p : ℕ) → Left 0 (o p)) (none : (d p : ℕ) → R d p [] ≡ o p)
+module _ {A : Type 0} (R : ℕ → Reader A) (o : ℕ → Read A) (few : (p : ℕ) → NoMoreLeft 0 (o p)) (none : (d p : ℕ) → R d p [] ≡ o p)
     (step : (n d d′ : ℕ) → Upto n (R d) (R d′) → Upto (suc n) (R (suc d)) (R (suc d′))) where
   deep-upto : (n d d′ : ℕ) → n ≤ d → n ≤ d′ → Upto n (R d) (R d′)
   deep-upto zero d d′ h h′ = none-upto (R d) (R d′) o few (none d) (none d′)

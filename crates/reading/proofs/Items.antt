@@ -16,7 +16,7 @@ use Rattle.laws.proofs.Steps.{pick-true, pick-false}
 use Rattle.layout.specs.Places.{CodeAt}
 use Rattle.reading.specs.declared.Item.{Item}
 use Rattle.reading.specs.declared.Item.the-variants.{Past, Fault}
-use Rattle.reading.specs.Items.{from, Inside, FaultIn, WordTo, TyTo, ExprTo, Reads, past, refused, Onward, Then, on, off, NameRead, WithinRead}
+use Rattle.reading.specs.Items.{from, Inside, FaultIn, WordTo, TyTo, ExprTo, Reads, past, refused, Onward, NextRead, on, off, NameRead, WithinRead}
 
 -- ## One word
 
@@ -85,7 +85,7 @@ module _ {q : List ℕ} {e : ℕ} where
 
   -- an item and one more
   pub reads-two : {A B C : Type 0} {S : A → ℕ → Type 0} {S′ : ℕ → B → ℕ → Type 0} {U : C → ℕ → Type 0} {m : Reader B} {r r′ : Item} {o : Read A}
-      (f : A → B → C) → ((a : A) (b : B) (i j : ℕ) → S a i → S′ i b j → U (f a b) j) → Reads q e S r o → Then q e S′ m r r′
+      (f : A → B → C) → ((a : A) (b : B) (i j : ℕ) → S a i → S′ i b j → U (f a b) j) → Reads q e S r o → NextRead q e S′ m r r′
       → Reads q e U r′ (next o (λ a. _>>=_ m (λ b. give (f a b))))
   unfolding next _>>=_
   reads-two f g (past s l) (on x) = reads-map (f _) (λ b j t. g _ b _ j s t) x
@@ -94,8 +94,8 @@ module _ {q : List ℕ} {e : ℕ} where
   -- an item and two more
   pub reads-three : {A B C D : Type 0} {S : A → ℕ → Type 0} {S′ : ℕ → B → ℕ → Type 0} {S″ : ℕ → C → ℕ → Type 0} {U : D → ℕ → Type 0}
       {m : Reader B} {m′ : Reader C} {r r′ r″ : Item} {o : Read A} (f : A → B → C → D)
-      → ((a : A) (b : B) (c : C) (i j k : ℕ) → S a i → S′ i b j → S″ j c k → U (f a b c) k) → Reads q e S r o → Then q e S′ m r r′
-      → Then q e S″ m′ r′ r″ → Reads q e U r″ (next o (λ a. _>>=_ m (λ b. _>>=_ m′ (λ c. give (f a b c)))))
+      → ((a : A) (b : B) (c : C) (i j k : ℕ) → S a i → S′ i b j → S″ j c k → U (f a b c) k) → Reads q e S r o → NextRead q e S′ m r r′
+      → NextRead q e S″ m′ r′ r″ → Reads q e U r″ (next o (λ a. _>>=_ m (λ b. _>>=_ m′ (λ c. give (f a b c)))))
   unfolding next _>>=_
   reads-three f g (past s l) (on x) y = reads-two (f _) (λ b c j k t u. g _ b c _ j k s t u) x y
   reads-three f g (refused b) off off = refused b
@@ -115,7 +115,7 @@ onward i h g (refused b) = (omega arith, tt)
 
 pub onward-two : {A B : Type 0} {q : List ℕ} {p e t : ℕ} {S : A → ℕ → Type 0} {S′ : ℕ → B → ℕ → Type 0} {m : Reader B} {r r′ : Item} {o : Read A}
     → (2 * (e - p) ≡ t) × Inside q p e → p < e → ((a : A) (m : ℕ) → S a m → p + 1 ≤ m) → ((b : B) (m n : ℕ) → S′ m b n → m ≤ n) → Reads q e S r o
-    → Then q e S′ m r r′ → (ahead e r′ < t) × Onward q e r′
+    → NextRead q e S′ m r r′ → (ahead e r′ < t) × Onward q e r′
 onward-two i h g g′ (past s l) (on x) = onward i h (λ b n u. le-trans (g _ _ s) (g′ b _ n u)) x
 onward-two i h g g′ (refused b) off = (omega arith, tt)
 
@@ -123,11 +123,11 @@ pub onward-past : {q : List ℕ} {p e : ℕ} {r : Item} → r ≡ Past p → Onw
 onward-past {e = e} h o = (ap (ahead e) h, rw h at o)
 
 pub then-on : {A : Type 0} {q : List ℕ} {p e : ℕ} {S : ℕ → A → ℕ → Type 0} {m : Reader A} {r r′ : Item} → r ≡ Past p
-    → Reads q e (S p) r′ (m p (from q p e)) → Then q e S m r r′
+    → Reads q e (S p) r′ (m p (from q p e)) → NextRead q e S m r r′
 then-on h x = rw h (on x)
 
 pub then-off : {A : Type 0} {q : List ℕ} {c p e : ℕ} {S : ℕ → A → ℕ → Type 0} {m : Reader A} {r : Item} → r ≡ Fault c p
-    → Then q e S m r (Fault c p)
+    → NextRead q e S m r (Fault c p)
 then-off h = rw h off
 
 -- the next place is inside too

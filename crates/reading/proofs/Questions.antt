@@ -20,9 +20,9 @@ use Rattle.reading.specs.declared.Reading.the-variants.{Asked, Fault}
 use Rattle.reading.specs.Items as items
 use Rattle.reading.specs.Items.{from, Inside, FaultIn}
 use Rattle.reading.specs.Contexts.{none, ListTo, Leaves, past, refused}
-use Rattle.reading.specs.Sections.{Held, section, Stands, nothing-at, entries-at, expr-at, ty-at, etvar-at, SectionRead, SectionThen, on, off}
+use Rattle.reading.specs.Sections.{Content, section, ContentAt, nothing-at, entries-at, expr-at, ty-at, etvar-at, SectionRead, SectionThen, on, off}
 use Rattle.reading.specs.Questions as questions
-use Rattle.reading.specs.Questions.{valueOf, Planned, infers, checks, applies, compares, solves-left, solves-right, runs, ContextAt, AsksAt, infers-at, checks-at, applies-at, compares-at, solves-left-at, solves-right-at, runs-at, judgement, Judged, SectionsRead, ModeIs, plainly, strictly, ReadIs}
+use Rattle.reading.specs.Questions.{valueOf, Planned, infers, checks, applies, compares, solves-left, solves-right, runs, ContextAt, AsksAt, infers-at, checks-at, applies-at, compares-at, solves-left-at, solves-right-at, runs-at, judgement, JudgementRead, SectionsRead, ModeIs, plainly, strictly, ReadIs}
 use Rattle.reading.proofs.Items.{bad, from-end, oneOf-end, oneOf-is, oneOf-none, reads-fault, within-low, within-high, within-is}
 use Rattle.reading.proofs.Sections.{end-more}
 
@@ -40,7 +40,7 @@ last-kind {k} h n =
     rw e runs
 
 -- what a kind's four sections ask
-abbrev pub ask : {k : ℕ} {a b c d : Holds} → Planned k a b c d → Held a → Held b → Held c → Held d → Judgement
+abbrev pub ask : {k : ℕ} {a b c d : Holds} → Planned k a b c d → Content a → Content b → Content c → Content d → Judgement
 ask infers Γ e u v = infer Γ e
 ask checks Γ e u B = check Γ e B
 ask applies Γ e A u = inferApp Γ e A
@@ -65,34 +65,34 @@ row-is runs = refl
 
 -- all four were read, or the last answer is the first fault
 pub data Four (q : List ℕ) {k : ℕ} {a b c d : Holds} (pl : Planned k a b c d) (r r₁ r₂ : Part) : Part → Read Judgement → Type 0 where
-  all : {x : Held a} {y : Held b} {z : Held c} {w : Held d} {i j m n v : ℕ} → Stands q 2 a x (valueOf r) i → Stands q i b y (valueOf r₁) j
-      → Stands q j c z (valueOf r₂) m → Stands q m d w v n → n ≤ length q
+  all : {x : Content a} {y : Content b} {z : Content c} {w : Content d} {i j m n v : ℕ} → ContentAt q 2 a x (valueOf r) i → ContentAt q i b y (valueOf r₁) j
+      → ContentAt q j c z (valueOf r₂) m → ContentAt q m d w v n → n ≤ length q
       → Four q pl r r₁ r₂ (part.Past v n) (got (ask pl x y z w) n (from q n (length q)))
   stopped : {c p : ℕ} → FaultIn (length q) c p → Four q pl r r₁ r₂ (part.Fault c p) (fault c p)
 
 module _ {q : List ℕ} {k : ℕ} {a b c d : Holds} (pl : Planned k a b c d) where
-  four₃ : {x : Held a} {y : Held b} {z : Held c} {i j m : ℕ} {r r₁ r₂ r₃ : Part} {o : Read (Held d)} → Stands q 2 a x (valueOf r) i
-      → Stands q i b y (valueOf r₁) j → Stands q j c z (valueOf r₂) m → Leaves q (length q) (Stands q m d) r₃ o
+  four₃ : {x : Content a} {y : Content b} {z : Content c} {i j m : ℕ} {r r₁ r₂ r₃ : Part} {o : Read (Content d)} → ContentAt q 2 a x (valueOf r) i
+      → ContentAt q i b y (valueOf r₁) j → ContentAt q j c z (valueOf r₂) m → Leaves q (length q) (ContentAt q m d) r₃ o
       → Four q pl r r₁ r₂ r₃ (next o (λ w. give (ask pl x y z w)))
   unfolding next give
   four₃ s t u (past v l) = all s t u v l
   four₃ s t u (refused f) = stopped f
 
-  four₂ : {x : Held a} {y : Held b} {i j : ℕ} {r r₁ r₂ r₃ : Part} {o : Read (Held c)} → Stands q 2 a x (valueOf r) i
-      → Stands q i b y (valueOf r₁) j → Leaves q (length q) (Stands q j c) r₂ o → SectionThen q d r₂ r₃
+  four₂ : {x : Content a} {y : Content b} {i j : ℕ} {r r₁ r₂ r₃ : Part} {o : Read (Content c)} → ContentAt q 2 a x (valueOf r) i
+      → ContentAt q i b y (valueOf r₁) j → Leaves q (length q) (ContentAt q j c) r₂ o → SectionThen q d r₂ r₃
       → Four q pl r r₁ r₂ r₃ (next o (λ z. _>>=_ (section d) (λ w. give (ask pl x y z w))))
   unfolding next _>>=_
   four₂ s t (past u l) (on v) = four₃ s t u v
   four₂ s t (refused f) off = stopped f
 
-  four₁ : {x : Held a} {i : ℕ} {r r₁ r₂ r₃ : Part} {o : Read (Held b)} → Stands q 2 a x (valueOf r) i
-      → Leaves q (length q) (Stands q i b) r₁ o → SectionThen q c r₁ r₂ → SectionThen q d r₂ r₃
+  four₁ : {x : Content a} {i : ℕ} {r r₁ r₂ r₃ : Part} {o : Read (Content b)} → ContentAt q 2 a x (valueOf r) i
+      → Leaves q (length q) (ContentAt q i b) r₁ o → SectionThen q c r₁ r₂ → SectionThen q d r₂ r₃
       → Four q pl r r₁ r₂ r₃ (next o (λ y. _>>=_ (section c) (λ z. _>>=_ (section d) (λ w. give (ask pl x y z w)))))
   unfolding next _>>=_
   four₁ s (past t l) (on u) v = four₂ s t u v
   four₁ s (refused f) off off = stopped f
 
-  four₀ : {r r₁ r₂ r₃ : Part} {o : Read (Held a)} → Leaves q (length q) (Stands q 2 a) r o → SectionThen q b r r₁ → SectionThen q c r₁ r₂
+  four₀ : {r r₁ r₂ r₃ : Part} {o : Read (Content a)} → Leaves q (length q) (ContentAt q 2 a) r o → SectionThen q b r r₁ → SectionThen q c r₁ r₂
       → SectionThen q d r₂ r₃
       → Four q pl r r₁ r₂ r₃ (next o (λ x. _>>=_ (section b) (λ y. _>>=_ (section c) (λ z. _>>=_ (section d) (λ w. give (ask pl x y z w))))))
   unfolding next _>>=_
@@ -109,14 +109,14 @@ module _ {q : List ℕ} {k : ℕ} {a b c d : Holds} (pl : Planned k a b c d) whe
 there : {q : List ℕ} {Γ : Ctx} {m : ℕ} (x : Question) → x .context ≡ 3 → ListTo q 3 Γ (x .entries) m → ContextAt q x Γ
 there {m = m} x at l = record { past = m; list = rw at l }
 
-no-place : {q : List ℕ} {p n v m : ℕ} → Stands q p Nothing n v m → v ≡ 0
+no-place : {q : List ℕ} {p n v m : ℕ} → ContentAt q p Nothing n v m → v ≡ 0
 no-place nothing-at = refl
 
-bare : {q : List ℕ} {n m : ℕ} (x : Question) → Stands q 2 Nothing n (x .entries) m → ContextAt q x []
+bare : {q : List ℕ} {n m : ℕ} (x : Question) → ContentAt q 2 Nothing n (x .entries) m → ContextAt q x []
 bare x s = record { past = x .context; list = record { entries = none; count = no-place s } }
 
-asks : {q : List ℕ} {k : ℕ} {a b c d : Holds} (pl : Planned k a b c d) (x : Question) {f : Held a} {g : Held b} {h : Held c} {e : Held d} {i j m n : ℕ}
-    → x .context ≡ 3 → Stands q 2 a f (x .entries) i → Stands q i b g (x .expr) j → Stands q j c h (x .left) m → Stands q m d e (x .right) n
+asks : {q : List ℕ} {k : ℕ} {a b c d : Holds} (pl : Planned k a b c d) (x : Question) {f : Content a} {g : Content b} {h : Content c} {e : Content d} {i j m n : ℕ}
+    → x .context ≡ 3 → ContentAt q 2 a f (x .entries) i → ContentAt q i b g (x .expr) j → ContentAt q j c h (x .left) m → ContentAt q m d e (x .right) n
     → AsksAt q x k (ask pl f g h e)
 asks infers x at (entries-at l) (expr-at s) t u = infers-at (there x at l) s (no-place t) (no-place u)
 asks checks x at (entries-at l) (expr-at s) t (ty-at u) = checks-at (there x at l) s (no-place t) u
@@ -145,7 +145,7 @@ module _ {q : List ℕ} {k : ℕ} {a b c d : Holds} {pl : Planned k a b c d} {r 
   unfolding _>>=_ next
   sections-refused {c} {p} h = go (rw h at f)
     where
-      go : {o : Read Judgement} → Four q pl r r₁ r₂ (part.Fault c p) o → Judged q k mode (Fault c p) (next o (λ j. _>>=_ end (λ u. give j)))
+      go : {o : Read Judgement} → Four q pl r r₁ r₂ (part.Fault c p) o → JudgementRead q k mode (Fault c p) (next o (λ j. _>>=_ end (λ u. give j)))
       go (stopped b) = questions.refused b
 
   pub sections-more : {v n : ℕ} → r₃ ≡ part.Past v n → n < length q → SectionsRead q k mode (Fault 4 n)
@@ -155,7 +155,7 @@ module _ {q : List ℕ} {k : ℕ} {a b c d : Holds} {pl : Planned k a b c d} {r 
       more : n ≤ length q → FaultIn (length q) 4 n
       more le = record { least = omega arith; most = omega arith; place = le }
 
-      go : {o : Read Judgement} → Four q pl r r₁ r₂ (part.Past v n) o → Judged q k mode (Fault 4 n) (next o (λ j. _>>=_ end (λ u. give j)))
+      go : {o : Read Judgement} → Four q pl r r₁ r₂ (part.Past v n) o → JudgementRead q k mode (Fault 4 n) (next o (λ j. _>>=_ end (λ u. give j)))
       go (all s t u w le) = rw (end-more q n (length q) l (le-refl (length q))) (questions.refused (more le))
 
   ended : (j : Judgement) {n : ℕ} → n ≡ length q → next (end n (from q n (length q))) (λ u. give j) ≡ got j (length q) []
@@ -167,7 +167,7 @@ module _ {q : List ℕ} {k : ℕ} {a b c d : Holds} {pl : Planned k a b c d} {r 
   unfolding _>>=_ next
   sections-asked {v} {n} x h l kind-is mode-is at e₀ e₁ e₂ e₃ = go (rw h at f)
     where
-      go : {o : Read Judgement} → Four q pl r r₁ r₂ (part.Past v n) o → Judged q k mode (Asked x) (next o (λ j. _>>=_ end (λ u. give j)))
+      go : {o : Read Judgement} → Four q pl r r₁ r₂ (part.Past v n) o → JudgementRead q k mode (Asked x) (next o (λ j. _>>=_ end (λ u. give j)))
       go (all {x = y} {y = y₁} {z = y₂} {w = y₃} s t u w le) =
           rw (ended (ask pl y y₁ y₂ y₃) {n = n} (omega arith))
           (questions.asked kind-is mode-is (asks pl x at (rw (← e₀) at s) (rw (← e₁) at t) (rw (← e₂) at u) (rw (← e₃) at w)))
@@ -248,7 +248,7 @@ module _ (q : List ℕ) (some : 1 ≤ length q) (small : length q ≤ 2048) wher
         all-is : readQuestion q ≡ next (judgement k 2 (from q 2 (length q))) (λ j. give (asked k m j))
         all-is = kind-is ∙ rw (mode-is h (sym e) (mode-of w l .1)) (asking-is k m 2 (from q 2 (length q)))
 
-        go : {r : Reading} {o : Read Judgement} → judgement k 2 (from q 2 (length q)) ≡ o → Judged q k w r o → ReadIs q r
+        go : {r : Reading} {o : Read Judgement} → judgement k 2 (from q 2 (length q)) ≡ o → JudgementRead q k w r o → ReadIs q r
         go y (questions.asked {x = a} {j = j} kind-is mode-is s) = record {
           asked = asked k m j;
           is = all-is ∙ ap (λ o. next o (λ j. give (asked k m j))) y;

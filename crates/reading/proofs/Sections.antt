@@ -23,7 +23,7 @@ use Rattle.reading.specs.Items as items
 use Rattle.reading.specs.Items.{from, Inside, Reads, NameRead}
 use Rattle.reading.specs.Contexts.{ContextTo, Leaves, past, refused, ContextRead}
 use Rattle.reading.specs.Sections as sections
-use Rattle.reading.specs.Sections.{UnknownRead, Whole, exact, early, same, Stands, nothing-at, entries-at, expr-at, ty-at, SectionRead, Onwards, SectionThen, on, off}
+use Rattle.reading.specs.Sections.{UnknownRead, Whole, exact, early, same, ContentAt, nothing-at, entries-at, expr-at, ty-at, SectionRead, Onwards, SectionThen, on, off}
 use Rattle.reading.proofs.Items.{bad, from-end, word-end, word-is, oneOf-end, oneOf-is, oneOf-none, reads-at, reads-as, code-at, typeName-read, within-end, within-past, within-high}
 use Rattle.reading.proofs.Contexts.{leaves-at}
 
@@ -120,7 +120,7 @@ module _ {q : List ℕ} {p : ℕ} (i : Inside q p (length q)) where
     unfolding empty
     section-empty h = go (within-past i 0 0 l (omega arith) (omega arith))
       where
-        go : {o : Read ℕ} {S : ℕ → ℕ → Type 0} → Reads q (length q) S (item.Past (p + 1)) o → Leaves q (length q) (Stands q p Nothing) (Past 0 (p + 1)) o
+        go : {o : Read ℕ} {S : ℕ → ℕ → Type 0} → Reads q (length q) S (item.Past (p + 1)) o → Leaves q (length q) (ContentAt q p Nothing) (Past 0 (p + 1)) o
         go (items.past s k) = past nothing-at k
 
     pub section-full : (getD q p 0 ≡ 0 → ⊥) → SectionRead q p Nothing (Fault 4 p)
@@ -176,7 +176,7 @@ module _ {q : List ℕ} {p : ℕ} (i : Inside q p (length q)) where
       unfolding closed next
       section-entries x = leaves-at (counted-is (context written)) (go x)
         where
-          go : {r : Part} {o : Read _} → Leaves q e (ContextTo q (p + 1) e) r o → Leaves q (length q) (Stands q p Entries) r (closed o)
+          go : {r : Part} {o : Read _} → Leaves q e (ContextTo q (p + 1) e) r o → Leaves q (length q) (ContentAt q p Entries) r (closed o)
           go (past {a = Γ} {m = m} t k) = leaves-at (closed-got Γ m (t .whole)) (past (entries-at (t .list)) (omega arith))
           go (refused b) = refused (record { least = b .least; most = b .most; place = le-trans (b .place) fits })
 

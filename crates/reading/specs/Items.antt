@@ -55,9 +55,9 @@ Onward q e (Past p) = Inside q p e
 Onward q e (Fault c p) = Unit {0}
 
 -- the answer after the one before: the next item's where that was read, and the same fault where it was not
-pub data Then {A : Type 0} (q : List ℕ) (e : ℕ) (Stands : ℕ → A → ℕ → Type 0) (m : Reader A) : Item → Item → Type 0 where
-  on : {p : ℕ} {r : Item} → Reads q e (Stands p) r (m p (from q p e)) → Then q e Stands m (Past p) r
-  off : {c p : ℕ} → Then q e Stands m (Fault c p) (Fault c p)
+pub data NextRead {A : Type 0} (q : List ℕ) (e : ℕ) (Stands : ℕ → A → ℕ → Type 0) (m : Reader A) : Item → Item → Type 0 where
+  on : {p : ℕ} {r : Item} → Reads q e (Stands p) r (m p (from q p e)) → NextRead q e Stands m (Past p) r
+  off : {c p : ℕ} → NextRead q e Stands m (Fault c p) (Fault c p)
 
 -- ## Each reader
 
@@ -71,10 +71,10 @@ abbrev pub TypeRead : List ℕ → ℕ → ℕ → Item → Type 0
 TypeRead q p e r = Reads q e (TyTo q p) r (type written p (from q p e))
 
 abbrev pub TypeThen : List ℕ → ℕ → Item → Item → Type 0
-TypeThen q e before r = Then q e (TyTo q) (type written) before r
+TypeThen q e before r = NextRead q e (TyTo q) (type written) before r
 
 abbrev pub ExprRead : List ℕ → ℕ → ℕ → Item → Type 0
 ExprRead q p e r = Reads q e (ExprTo q p) r (expression p (from q p e))
 
 abbrev pub ExprThen : List ℕ → ℕ → Item → Item → Type 0
-ExprThen q e before r = Then q e (ExprTo q) expression before r
+ExprThen q e before r = NextRead q e (ExprTo q) expression before r

@@ -57,12 +57,12 @@ pub data AsksAt (q : List ℕ) (x : Question) : ℕ → Judgement → Type 0 whe
 abbrev pub judgement : ℕ → Reader Judgement
 judgement k = do j ← row k kindRows (badShape 0); u ← end; give j
 
-pub data Judged (q : List ℕ) (kind mode : ℕ) : Reading → Read Judgement → Type 0 where
-  asked : {x : Question} {j : Judgement} → x .kind ≡ kind → x .mode ≡ mode → AsksAt q x kind j → Judged q kind mode (Asked x) (got j (length q) [])
-  refused : {c p : ℕ} → FaultIn (length q) c p → Judged q kind mode (Fault c p) (fault c p)
+pub data JudgementRead (q : List ℕ) (kind mode : ℕ) : Reading → Read Judgement → Type 0 where
+  asked : {x : Question} {j : Judgement} → x .kind ≡ kind → x .mode ≡ mode → AsksAt q x kind j → JudgementRead q kind mode (Asked x) (got j (length q) [])
+  refused : {c p : ℕ} → FaultIn (length q) c p → JudgementRead q kind mode (Fault c p) (fault c p)
 
 abbrev pub SectionsRead : List ℕ → ℕ → ℕ → Reading → Type 0
-SectionsRead q kind mode r = Judged q kind mode r (judgement kind 2 (from q 2 (length q)))
+SectionsRead q kind mode r = JudgementRead q kind mode r (judgement kind 2 (from q 2 (length q)))
 
 -- "Mode is 0 plain or 1 strict."
 pub data ModeIs : ℕ → Mode → Type 0 where

@@ -33,29 +33,29 @@ pub data Whole (p e : ℕ) : Item → Part → Type 0 where
 
 -- ## What a section holds, how it is read, and what stands after its count at p
 
-abbrev pub Held : Holds → Type 0
-Held Nothing = ℕ
-Held Entries = Ctx
-Held Expr = syntax.Expr
-Held Ty = syntax.Ty
-Held ETVar = TyVar
+abbrev pub Content : Holds → Type 0
+Content Nothing = ℕ
+Content Entries = Ctx
+Content Expr = syntax.Expr
+Content Ty = syntax.Ty
+Content ETVar = TyVar
 
-abbrev pub section : (h : Holds) → Reader (Held h)
+abbrev pub section : (h : Holds) → Reader (Content h)
 section Nothing = empty
 section Entries = counted (context written)
 section Expr = counted expression
 section Ty = counted (type written)
 section ETVar = counted unknown
 
-pub data Stands (q : List ℕ) (p : ℕ) : (h : Holds) → Held h → ℕ → ℕ → Type 0 where
-  nothing-at : {n m : ℕ} → Stands q p Nothing n 0 m
-  entries-at : {Γ : Ctx} {v m : ℕ} → ListTo q (p + 1) Γ v m → Stands q p Entries Γ v m
-  expr-at : {f : syntax.Expr} {v m : ℕ} → ExprAt q v f → Stands q p Expr f v m
-  ty-at : {A : syntax.Ty} {v m : ℕ} → TyAt q v A → Stands q p Ty A v m
-  etvar-at : {a : TyVar} {v m : ℕ} → TyAt q v (syntax.etvar a) → Stands q p ETVar a v m
+pub data ContentAt (q : List ℕ) (p : ℕ) : (h : Holds) → Content h → ℕ → ℕ → Type 0 where
+  nothing-at : {n m : ℕ} → ContentAt q p Nothing n 0 m
+  entries-at : {Γ : Ctx} {v m : ℕ} → ListTo q (p + 1) Γ v m → ContentAt q p Entries Γ v m
+  expr-at : {f : syntax.Expr} {v m : ℕ} → ExprAt q v f → ContentAt q p Expr f v m
+  ty-at : {A : syntax.Ty} {v m : ℕ} → TyAt q v A → ContentAt q p Ty A v m
+  etvar-at : {a : TyVar} {v m : ℕ} → TyAt q v (syntax.etvar a) → ContentAt q p ETVar a v m
 
 abbrev pub SectionRead : List ℕ → ℕ → Holds → Part → Type 0
-SectionRead q p h r = Leaves q (length q) (Stands q p h) r (section h p (from q p (length q)))
+SectionRead q p h r = Leaves q (length q) (ContentAt q p h) r (section h p (from q p (length q)))
 
 -- a next section can be read
 abbrev pub Onwards : List ℕ → Part → Type 0

@@ -23,7 +23,7 @@ pub record Replayed (f : Frame) (b out : List ℕ) (z : ℕ) : Type 0 where
 -- ## Inside
 
 -- what main lends
-pub record Lent (b ws s o : List ℕ) : Type 0 where
+pub record LentByMain (b ws s o : List ℕ) : Type 0 where
   pub bytes : length b ≡ 16384
   pub words : length ws ≡ 4096
   pub report : length s ≡ 4096
@@ -37,14 +37,14 @@ pub record Framed (b : List ℕ) (lent : ℕ) (f : Frame) : Type 0 where
   pub count : f .count ≡ wordAt b 3
 
 -- a frame asks for no more than is lent
-pub record Fits (f : Frame) (b ws w s : List ℕ) : Type 0 where
+pub record FrameFits (f : Frame) (b ws w s : List ℕ) : Type 0 where
   pub bytes : 4 * f .count ≤ length b
   pub words : f .count ≤ length ws
   pub work : f .work ≤ length w
   pub report : f .report ≤ length s
 
 -- the report stands in the first words of s′
-pub record Asked (f : Frame) (b s′ : List ℕ) (r : Reply) : Type 0 where
+pub record FrameAnswered (f : Frame) (b s′ : List ℕ) (r : Reply) : Type 0 where
   pub numbers : Numbers (framed f b) r
   pub report : take (writtenOf r) s′ ≡ framed f b .report
   pub fits : writtenOf r ≤ f .report

@@ -3,7 +3,7 @@
 ghost use mathlib.Core.Path.{_≡_};
 ghost use Prim.Native.Nat.{_*_, _≤_, min};
 ghost use lib.ListN.{length};
-ghost use Rattle.replay.specs.Replayed.{Lent, Framed, Fits, Asked, Replayed};
+ghost use Rattle.replay.specs.Replayed.{LentByMain, Framed, FrameFits, FrameAnswered, Replayed};
 use entry::Reply;
 use libc::STDIN_FILENO;
 use libc::STDOUT_FILENO;
@@ -18,8 +18,8 @@ struct Frame {
 
 // The reply to the question in bytes, in the parts that its frame asks for.
 fn ask(f: Frame, bytes: &[u8], words: &mut [u32], work: &mut [u32], report: &mut [u32]) -> Reply
-    requires { ⌜ Fits f (now bytes) (now words) (now work) (now report) ⌝ }
-    ensures { λ r. ⌜ Asked f (now (bytes .entry)) (now (report .exit)) r ⌝ }
+    requires { ⌜ FrameFits f (now bytes) (now words) (now work) (now report) ⌝ }
+    ensures { λ r. ⌜ FrameAnswered f (now (bytes .entry)) (now (report .exit)) r ⌝ }
 {
     let n = f.count;
     let w = f.work;
@@ -37,7 +37,7 @@ fn answer(
     report: &mut [u32],
     out: &mut [u8],
 ) -> usize
-    requires { ⌜ (Fits f (now bytes) (now words) (now work) (now report)) × (length (now report) ≤ 4096) × (length (now out) ≡ 16400) ⌝ }
+    requires { ⌜ (FrameFits f (now bytes) (now words) (now work) (now report)) × (length (now report) ≤ 4096) × (length (now out) ≡ 16400) ⌝ }
     ensures { λ z. ⌜ Replayed f (now (bytes .entry)) (now (out .exit)) z ⌝ }
 {
     let r = ask(f, bytes, words, work, report);
@@ -86,7 +86,7 @@ fn turn(
     report: &mut [u32],
     out: &mut [u8],
 ) -> bool
-    requires { ⌜ Lent (now bytes) (now words) (now report) (now out) ⌝ }
+    requires { ⌜ LentByMain (now bytes) (now words) (now report) (now out) ⌝ }
 {
     if !fill(bytes, 16) {
         return false;
@@ -108,7 +108,7 @@ fn turn(
 // Frame after frame. A proved loop has to end, and nothing says that the input does: the turns are counted down from a number that no run
 // uses up.
 fn all(bytes: &mut [u8], words: &mut [u32], work: &mut [u32], report: &mut [u32], out: &mut [u8])
-    requires { ⌜ Lent (now bytes) (now words) (now report) (now out) ⌝ }
+    requires { ⌜ LentByMain (now bytes) (now words) (now report) (now out) ⌝ }
 {
     let mut turns = u64::MAX;
     while turns > 0 && turn(bytes, words, work, report, out) {

@@ -13,26 +13,26 @@ use Rattle.judging.specs.Asking.{Asks, as-infer, as-check, as-app, as-sub, as-i
 use Rattle.judging.specs.Nodes.{NodesAt, no-nodes, a-node}
 use Rattle.judging.specs.declared.Ask.{Ask}
 use Rattle.judging.proofs.Nodes.{_+++_, nodes-join}
-use Rattle.writing.specs.Spelling.{_Then_, Section}
+use Rattle.writing.specs.Spelling.{_Then_, AfterCount}
 use Rattle.writing.specs.Types.{OfPart}
 use Rattle.writing.specs.Contexts.{OfEntries}
 use Rattle.writing.proofs.Spelling.{join, if-filled, if-unused}
 use Rattle.writing.proofs.After.{span}
 use Rattle.report.specs.declared.Filled.{Filled}
 use Rattle.report.specs.declared.Node.{Node}
-use Rattle.report.specs.Nodes.{fills, NodeRead, Three, Said, saidWords, OfNode, OfNodes, outputAt}
+use Rattle.report.specs.Nodes.{fills, NodeRead, Three, NodeSaid, saidWords, OfNode, OfNodes, outputAt}
 
 -- ## Sections
 
-pub context-section : {q w : List ℕ} {t at n : ℕ} {Γ : Ctx} → Run q w t at n Γ → Section (OfEntries q w t at n) (ctxSection Γ)
+pub context-section : {q w : List ℕ} {t at n : ℕ} {Γ : Ctx} → Run q w t at n Γ → AfterCount (OfEntries q w t at n) (ctxSection Γ)
 unfolding ctxSection
 context-section {Γ = Γ} r = record { inner = ctxWords Γ; spelled = record { it = Γ; stands = r; is = refl }; is = refl }
 
-pub type-section : {q w : List ℕ} {t r : ℕ} {A : Ty} → Den q w t r A → Section (OfPart q w t true r) (tySection A)
+pub type-section : {q w : List ℕ} {t r : ℕ} {A : Ty} → Den q w t r A → AfterCount (OfPart q w t true r) (tySection A)
 unfolding tySection
 type-section {A = A} d = record { inner = tyWords A; spelled = if-filled (tyWords A) (record { it = A; stands = d; is = refl }); is = refl }
 
-pub unused-section : {q w : List ℕ} {t r : ℕ} → Section (OfPart q w t false r) noSection
+pub unused-section : {q w : List ℕ} {t r : ℕ} → AfterCount (OfPart q w t false r) noSection
 unfolding noSection section
 unused-section = record { inner = []; spelled = if-unused; is = refl }
 
@@ -40,14 +40,14 @@ unused-section = record { inner = []; spelled = if-unused; is = refl }
 
 abbrev pub Sections : List ℕ → List ℕ → ℕ → Span → ℕ → ℕ → Span → ℕ → Filled → List ℕ → Type 0
 Sections q w t g l r h ty f =
-    Section (OfEntries q w t (g .at) (g .n))
-    Then Section (OfPart q w t (f .left) l)
-    Then Section (OfPart q w t (f .right) r)
-    Then Section (OfEntries q w t (h .at) (h .n))
-    Then Section (OfPart q w t (f .result) ty)
+    AfterCount (OfEntries q w t (g .at) (g .n))
+    Then AfterCount (OfPart q w t (f .left) l)
+    Then AfterCount (OfPart q w t (f .right) r)
+    Then AfterCount (OfEntries q w t (h .at) (h .n))
+    Then AfterCount (OfPart q w t (f .result) ty)
 
-abbrev pub Parts : List ℕ → List ℕ → ℕ → Node → List ℕ → Type 0
-Parts q w t n = Three (n .rule) (n .kids) (n .place) Then Sections q w t (n .input) (n .left) (n .right) (n .output) (n .result) (n .filled)
+abbrev pub NodeParts : List ℕ → List ℕ → ℕ → Node → List ℕ → Type 0
+NodeParts q w t n = Three (n .rule) (n .kids) (n .place) Then Sections q w t (n .input) (n .left) (n .right) (n .output) (n .result) (n .filled)
 
 -- what a judgement's node says after rule and number of children
 record SaidOf (q w : List ℕ) (t : ℕ) (g : Span) (a : Ask) (h : Span) (ty : ℕ) (ws : List ℕ) : Type 0 where
@@ -56,9 +56,9 @@ record SaidOf (q w : List ℕ) (t : ℕ) (g : Span) (a : Ask) (h : Span) (ty : �
   is : ws ≡ a .ex ∷ rest
 
 module _ {q w : List ℕ} {t ty : ℕ} {g h : Span} {k : Ask} where
-  said-by : {p : ℕ} {a b c d e : List ℕ} (n : ℕ) → k .kind ≡ n → p ≡ k .ex → Section (OfEntries q w t (g .at) (g .n)) a
-      → Section (OfPart q w t (fills n .left) (k .left)) b → Section (OfPart q w t (fills n .right) (k .right)) c
-      → Section (OfEntries q w t (h .at) (h .n)) d → Section (OfPart q w t (fills n .result) ty) e → SaidOf q w t g k h ty (p ∷ sections a b c d e)
+  said-by : {p : ℕ} {a b c d e : List ℕ} (n : ℕ) → k .kind ≡ n → p ≡ k .ex → AfterCount (OfEntries q w t (g .at) (g .n)) a
+      → AfterCount (OfPart q w t (fills n .left) (k .left)) b → AfterCount (OfPart q w t (fills n .right) (k .right)) c
+      → AfterCount (OfEntries q w t (h .at) (h .n)) d → AfterCount (OfPart q w t (fills n .result) ty) e → SaidOf q w t g k h ty (p ∷ sections a b c d e)
   unfolding sections
   said-by {a = a} {b = b} {c = c} {d = d} {e = e} n f i x y z u v = record {
     rest = a ++ (b ++ (c ++ (d ++ e)));
@@ -76,7 +76,7 @@ module _ {q w : List ℕ} {t ty : ℕ} {g h : Span} {k : Ask} where
   said-of (as-inst-l f z r d e) o c = said-by 5 f (sym z) (context-section r) (type-section d) (type-section e) (context-section o) unused-section
   said-of (as-inst-r f z r d e) o c = said-by 6 f (sym z) (context-section r) (type-section d) (type-section e) (context-section o) unused-section
 
-pub node-parts : {q w : List ℕ} {t m : ℕ} {n : Node} → NodeRead w m n → (ws : List ℕ) → OfNode q w t m ws → Parts q w t n ws
+pub node-parts : {q w : List ℕ} {t m : ℕ} {n : Node} → NodeRead w m n → (ws : List ℕ) → OfNode q w t m ws → NodeParts q w t n ws
 node-parts {q} {w} {t} {m} {n} y ws x =
     let a = x .stands .node in
     let k = a .words in
@@ -107,7 +107,7 @@ nodes-first {q} {w} {t} {lo} {hi} l ws x = rw (x .is) (go (x .stands .nodes) (x 
     go (no-nodes e) b = absurd (omega arith)
     go (a-node {mid = mid} {m = m} {r = r} {j = j} {C = C} {Δ = Δ} {ts = ts} {us = us} e o n k u v) b =
         let h : hi - 12 ≡ m = omega arith in
-        let said : Said = record { rule = r; kids = children ts; judgement = j; type = C; context = Δ } in
+        let said : NodeSaid = record { rule = r; kids = children ts; judgement = j; type = C; context = Δ } in
         rw (h, append-assoc (saidWords said) (treesWords ts) (treesWords us), ← trees-append ts us)
         (join (saidWords said) (treesWords (ts +++ us))
         (record { it = said; stands = record { node = n; within = omega arith }; is = refl })

@@ -13,26 +13,26 @@ use Rattle.layout.specs.Denotes.{Den}
 use Rattle.judging.specs.Ending.{ShownAt, no-type, one-type, two-types}
 use Rattle.judging.specs.declared.Answer.{Answer}
 use Rattle.judging.specs.declared.Shown as program
-use Rattle.writing.specs.Spelling.{Spells, Section, Long, Spelled, Room, Writable, Writes}
+use Rattle.writing.specs.Spelling.{Spells, AfterCount, Long, Spelled, RoomAt, Writable, Writes}
 use Rattle.writing.specs.Types.{OfPart}
 use Rattle.writing.proofs.Spelling.{join}
 use Rattle.report.specs.declared.Slots.{Slots}
 use Rattle.report.specs.declared.Report.{Report}
 use Rattle.report.specs.declared.Report.the-variants.{Written, NoRoom}
 use Rattle.report.specs.Nodes.{OfNodes}
-use Rattle.report.specs.Reports.{ResultAt, OfResult, ResultParts, slotsOf, ErrorParts, Told, fits, too-long, Reported, reported, no-room, Reports}
+use Rattle.report.specs.Reports.{ResultAt, OfResult, ResultParts, slotsOf, ErrorParts, ByLength, fits, too-long, Reported, reported, no-room, Reports}
 use Rattle.report.proofs.Nodes.{context-section, type-section, unused-section}
 
 -- ## A result: three sections
 
 -- a type's section, where a type is given
-given-section : {q w : List ℕ} {t r : ℕ} {A : Ty} (b : Bool) → Den q w t r A → Section (OfPart q w t b r) (pick b (tySection A) noSection)
+given-section : {q w : List ℕ} {t r : ℕ} {A : Ty} (b : Bool) → Den q w t r A → AfterCount (OfPart q w t b r) (pick b (tySection A) noSection)
 unfolding pick
 given-section true d = type-section d
 given-section false d = unused-section
 
 tree-section : {q w : List ℕ} {a : Answer} {high : ℕ} {r : Result} → ResultAt q w a high r
-    → Section (OfNodes q w (a .st .top) (a .st .low) high) (section (treeWords (r .2)))
+    → AfterCount (OfNodes q w (a .st .top) (a .st .low) high) (section (treeWords (r .2)))
 unfolding treeWords
 tree-section {r = r} x = record {
   inner = treeWords (r .2);
@@ -68,24 +68,24 @@ unlike : {z : Report} {m n : ℕ} → z ≡ Written m → z ≡ NoRoom n → ⊥
 unlike e f = let z : _≡_ {A = ℕ} 0 1 = cc in omega arith
 
 module _ {S : List ℕ → Type 0} {n : ℕ} (l : Long (2 ^ 32) S n) {s : List ℕ} where
-  pub refused : {z : Report} {m : ℕ} → Told n (length s) z → z ≡ NoRoom m → Reports S s s z
+  pub refused : {z : Report} {m : ℕ} → ByLength n (length s) z → z ≡ NoRoom m → Reports S s s z
   refused (fits a b) e = absurd (unlike refl e)
   refused (too-long {m = m} f g) e = record {
     is = λ ws x. let k = l .is ws x in no-room {n = m} (λ a b. omega (arith, f (omega arith))) (omega arith) refl;
   }
 
-  pub has-room : {z : Report} {m : ℕ} → Told n (length s) z → z ≡ Written m → (ws : List ℕ) → S ws → Room s 0 ws
+  pub has-room : {z : Report} {m : ℕ} → ByLength n (length s) z → z ≡ Written m → (ws : List ℕ) → S ws → RoomAt s 0 ws
   has-room (fits a b) e ws x = let k = l .is ws x in record { room = omega arith; small = omega arith }
   has-room (too-long f g) e ws x = absurd (unlike e refl)
 
-  pub writable : {q w : List ℕ} {t : ℕ} {z : Report} {m : ℕ} → Spelled q w t S → Told n (length s) z → z ≡ Written m → Writable q w t S s 0
+  pub writable : {q w : List ℕ} {t : ℕ} {z : Report} {m : ℕ} → Spelled q w t S → ByLength n (length s) z → z ≡ Written m → Writable q w t S s 0
   writable x o e = record { spelled = x; room = has-room o e (x .words) (x .says) }
 
-  pub written : {s′ : List ℕ} {y : ℕ} {z : Report} {m : ℕ} → Told n (length s) z → z ≡ Written m → Writes S s s′ 0 y → Reports S s s′ z
+  pub written : {s′ : List ℕ} {y : ℕ} {z : Report} {m : ℕ} → ByLength n (length s) z → z ≡ Written m → Writes S s s′ 0 y → Reports S s s′ z
   written (too-long f g) e k = absurd (unlike e refl)
   written {s′} (fits a b) e k = record { is = λ ws x. go ws x (has-room (fits a b) e ws x) }
     where
-      go : (ws : List ℕ) → S ws → Room s 0 ws → Reported s s′ ws (Written n)
+      go : (ws : List ℕ) → S ws → RoomAt s 0 ws → Reported s s′ ws (Written n)
       go ws x r =
           let i = l .is ws x in
           let h : 0 + length ws ≤ length s = r .room in

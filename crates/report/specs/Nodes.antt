@@ -43,17 +43,17 @@ pub record WordsFit (s : List ℕ) (p a b c : ℕ) : Type 0 where
   pub small : (a < 2 ^ 32) × (b < 2 ^ 32) × (c < 2 ^ 32)
 
 -- what a node says
-pub record Said : Type 0 where
+pub record NodeSaid : Type 0 where
   pub rule : Rule
   pub kids : ℕ
   pub judgement : Judgement
   pub type : Ty
   pub context : Ctx
 
-abbrev pub saidWords : Said → List ℕ
+abbrev pub saidWords : NodeSaid → List ℕ
 saidWords n = ruleNumber (n .rule) ∷ n .kids ∷ judgementWords (n .judgement) (n .type) (n .context)
 
-pub record NodeIn (q w : List ℕ) (t m : ℕ) (n : Said) : Type 0 where
+pub record NodeIn (q w : List ℕ) (t m : ℕ) (n : NodeSaid) : Type 0 where
   pub node : NodeAt q w t m (n .rule) (n .kids) (n .judgement) (n .type) (n .context)
   pub within : m + 12 ≤ length w
 

@@ -14,7 +14,7 @@ use Rattle.judging.specs.declared.Answer.{Answer}
 use Rattle.judging.specs.declared.Bad.{Bad}
 use Rattle.judging.specs.declared.Shown.{Shown}
 use Rattle.judging.specs.declared.Shown.the-variants.{NoType, OneType, TwoTypes}
-use Rattle.writing.specs.Spelling.{Spells, _Then_, Section}
+use Rattle.writing.specs.Spelling.{Spells, _Then_, AfterCount}
 use Rattle.writing.specs.Types.{OfPart}
 use Rattle.writing.specs.Contexts.{OfContext}
 use Rattle.report.specs.declared.Slot.{Slot}
@@ -38,9 +38,9 @@ OfResult q w kind a high = Spells (ResultAt q w a high) (resultWords kind)
 -- its three sections
 abbrev pub ResultParts : List ℕ → List ℕ → Bool → Answer → ℕ → List ℕ → Type 0
 ResultParts q w gives a high =
-    Section (OfPart q w (a .st .top) gives (a .ty))
-    Then Section (OfContext q w (a .st .top) (a .g))
-    Then Section (OfNodes q w (a .st .top) (a .st .low) high)
+    AfterCount (OfPart q w (a .st .top) gives (a .ty))
+    Then AfterCount (OfContext q w (a .st .top) (a .g))
+    Then AfterCount (OfNodes q w (a .st .top) (a .st .low) high)
 
 -- ## A type error: the types that it shows
 
@@ -54,7 +54,7 @@ slotsOf (OneType l) = ((true, l), (false, 0))
 slotsOf (TwoTypes l r) = ((true, l), (true, r))
 
 abbrev pub OfSlot : List ℕ → List ℕ → ℕ → Slot → List ℕ → Type 0
-OfSlot q w t s = Section (OfPart q w t (s .0) (s .1))
+OfSlot q w t s = AfterCount (OfPart q w t (s .0) (s .1))
 
 -- the two sections
 abbrev pub ErrorParts : List ℕ → List ℕ → ℕ → Slots → List ℕ → Type 0
@@ -63,9 +63,9 @@ ErrorParts q w t s = OfSlot q w t (s .0) Then OfSlot q w t (s .1)
 -- ## What becomes of a report
 
 -- by its length, which stops past the longest
-pub data Told (n room : ℕ) : Report → Type 0 where
-  fits : n ≤ most → n ≤ room → Told n room (Written n)
-  too-long : {m : ℕ} → (n ≤ most → room < n) → m ≡ min n most → Told n room (NoRoom m)
+pub data ByLength (n room : ℕ) : Report → Type 0 where
+  fits : n ≤ most → n ≤ room → ByLength n room (Written n)
+  too-long : {m : ℕ} → (n ≤ most → room < n) → m ≡ min n most → ByLength n room (NoRoom m)
 
 -- the words ws are written, and the slice past them is unchanged; or nothing is
 pub data Reported (s s′ ws : List ℕ) : Report → Type 0 where

@@ -19,10 +19,10 @@ ghost use mathlib.Core.Path.{_≡_};
 ghost use Prim.Native.Nat.{_+_, _≤_, _^_};
 ghost use lib.ListN.{length};
 ghost use Rattle.definition.specs.Reply.{givesType};
-ghost use Rattle.writing.specs.Spelling.{Section, Long, Spelled, Writable, Writes};
+ghost use Rattle.writing.specs.Spelling.{AfterCount, Long, Spelled, Writable, Writes};
 ghost use Rattle.writing.specs.After.{Measures, Stands};
 ghost use Rattle.report.specs.Nodes.{fills, NodeRead, WordsFit, Three, OfNode, OfNodes, NodeLong, WritesNode};
-ghost use Rattle.report.specs.Reports.{OfResult, ResultParts, OfError, slotsOf, ErrorParts, Told, Reports};
+ghost use Rattle.report.specs.Reports.{OfResult, ResultParts, OfError, slotsOf, ErrorParts, ByLength, Reports};
 
 // What became of a report: its length; or the slice is too short for it, and the length that is needed (at most MOST).
 pub enum Report {
@@ -196,8 +196,8 @@ fn tree_length(
     high: usize,
     context: Known,
 ) -> usize
-    requires { ⌜ (Spelled (now q) (now work) top (Section (OfNodes (now q) (now work) top low high))) × Measures (now q) (now work) top (context .g) context ⌝ }
-    ensures { λ n. ⌜ Long (2 ^ 32) (Section (OfNodes (now (q .entry)) (now (work .entry)) top low high)) n ⌝ }
+    requires { ⌜ (Spelled (now q) (now work) top (AfterCount (OfNodes (now q) (now work) top low high))) × Measures (now q) (now work) top (context .g) context ⌝ }
+    ensures { λ n. ⌜ Long (2 ^ 32) (AfterCount (OfNodes (now (q .entry)) (now (work .entry)) top low high)) n ⌝ }
 {
     let mut total: usize = 0;
     let mut m = high;
@@ -222,8 +222,8 @@ fn write_tree<'a>(
     at: usize,
     context: Standing,
 ) -> usize
-    requires { ⌜ (Writable (now q) (now work) top (Section (OfNodes (now q) (now work) top low high)) (now report) at) × Stands (now q) (now work) top (now report) at context ⌝ }
-    ensures { λ z. ⌜ Writes (Section (OfNodes (now (q .entry)) (now (work .entry)) top low high)) (now (report .entry)) (now (report .exit)) at z ⌝ }
+    requires { ⌜ (Writable (now q) (now work) top (AfterCount (OfNodes (now q) (now work) top low high)) (now report) at) × Stands (now q) (now work) top (now report) at context ⌝ }
+    ensures { λ z. ⌜ Writes (AfterCount (OfNodes (now (q .entry)) (now (work .entry)) top low high)) (now (report .entry)) (now (report .exit)) at z ⌝ }
 {
     let first = at + 1;
     let mut next = first;
@@ -337,7 +337,7 @@ fn write_error<'a>(q: &'a [u32], work: &'a [u32], top: usize, s: Slots, report: 
 
 // What becomes of a report of length n in a slice of so many words.
 fn outcome(n: usize, room: usize) -> Report
-    ensures { λ z. ⌜ Told n room z ⌝ }
+    ensures { λ z. ⌜ ByLength n room z ⌝ }
 {
     if MOST < n {
         return Report::NoRoom(MOST);

@@ -32,10 +32,10 @@ use Rattle.judging.specs.Ending.{Failed, one-type, two-types}
 use Rattle.judging.proofs.Chain.{room-within}
 use Rattle.rules.specs.declared.Mid.{Mid}
 use Rattle.rules.specs.declared.Mid.the-variants.{On, End}
-use Rattle.rules.specs.Going.{Two, TwoIn, Passes, goes, fails, stops, Compared, AppliedBoth, Instantiated}
+use Rattle.rules.specs.Going.{Two, TwoIn, GoesOrEnds, goes, fails, stops, Compared, AppliedBoth, Instantiated}
 
 -- what the definition says in other words
-says : {X : Type 0} {q w w′ : List ℕ} {s : State} {D : X → ℕ → ℕ → ℕ → Type 0} {z : Mid} {O O′ : Out X} → O ≡ O′ → Passes q w w′ s D z O′ → Passes q w w′ s D z O
+says : {X : Type 0} {q w w′ : List ℕ} {s : State} {D : X → ℕ → ℕ → ℕ → Type 0} {z : Mid} {O O′ : Out X} → O ≡ O′ → GoesOrEnds q w w′ s D z O′ → GoesOrEnds q w w′ s D z O
 says e p = rw e p
 
 -- ## The context applied to one of the two

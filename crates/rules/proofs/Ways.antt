@@ -36,7 +36,7 @@ use Rattle.judging.proofs.Chain.{Sofar, begin, built, stopped, refuses, fires, 
 use Rattle.rules.proofs.Standing.{ref-small}
 use Rattle.rules.specs.declared.Mid.{Mid}
 use Rattle.rules.specs.declared.Mid.the-variants.{On, End}
-use Rattle.rules.specs.Going.{Passes, goes, fails, stops, Finished}
+use Rattle.rules.specs.Going.{GoesOrEnds, goes, fails, stops, Finished}
 
 -- from a rule's start at w and s to w₁ and s₁: the trees so far, room for k words, and K to be done, all that the rule's outcome R is
 pub record Way (q w w₁ : List ℕ) (s s₁ : State) (ts : Trees) (k : ℕ) (R : Out Fired) (K : M Fired) : Type 0 where
@@ -84,11 +84,11 @@ pub record Got {X : Type 0} (w w′ : List ℕ) (s : State) (D : X → ℕ → �
   pub passed : Passed w w′ s s₂ 0
   pub says : D x (s₂ .top) a b
 
-pub got : {X : Type 0} {q w w′ : List ℕ} {s : State} {D : X → ℕ → ℕ → ℕ → Type 0} {O : Out X} {z : Mid} {s₂ : State} {a b : ℕ} → Passes q w w′ s D z O
+pub got : {X : Type 0} {q w w′ : List ℕ} {s : State} {D : X → ℕ → ℕ → ℕ → Type 0} {O : Out X} {z : Mid} {s₂ : State} {a b : ℕ} → GoesOrEnds q w w′ s D z O
     → z ≡ On s₂ a b → Got w w′ s D O s₂ a b
 got {X} {q} {w} {w′} {s} {D} {O} {z} {s₂} {a} {b} h e = go (rw e at h)
   where
-    go : {U : Out X} → Passes q w w′ s D (On s₂ a b) U → Got w w′ s D U s₂ a b
+    go : {U : Out X} → GoesOrEnds q w w′ s D (On s₂ a b) U → Got w w′ s D U s₂ a b
     go (goes {x = x} p d) = record { x = x; is = refl; passed = p; says = d }
 
 module _ {q w w₁ : List ℕ} {s s₁ : State} {ts : Trees} {k : ℕ} {R : Out Fired} where
@@ -219,7 +219,7 @@ module _ {q w w₁ : List ℕ} {s s₁ : State} {ts : Trees} {k : ℕ} {R : Out 
 
   -- types were made or compared, as the definition's n says
   module _ {X : Type 0} (D : X → ℕ → ℕ → ℕ → Type 0) (n : M X) (f : X → M Fired) (y : Way q w w₁ s s₁ ts k R (n >>= f)) where
-    pub record Onward (w₂ : List ℕ) (s₂ : State) (a b : ℕ) : Type 0 where
+    pub record WayOn (w₂ : List ℕ) (s₂ : State) (a b : ℕ) : Type 0 where
       pub x : X
       pub says : D x (s₂ .top) a b
       pub way : Way q w w₂ s s₂ ts k R (f x)
@@ -227,17 +227,17 @@ module _ {q w w₁ : List ℕ} {s s₁ : State} {ts : Trees} {k : ℕ} {R : Out 
       pub up : s₁ .top ≤ s₂ .top
       pub less : s₂ .left ≤ s₁ .left
 
-    pub onward : {w₂ : List ℕ} {z : Mid} {s₂ : State} {a b : ℕ} → Passes q w₁ w₂ s₁ D z (n (s₁ .left) (s₁ .fresh)) → z ≡ On s₂ a b → Onward w₂ s₂ a b
+    pub onward : {w₂ : List ℕ} {z : Mid} {s₂ : State} {a b : ℕ} → GoesOrEnds q w₁ w₂ s₁ D z (n (s₁ .left) (s₁ .fresh)) → z ≡ On s₂ a b → WayOn w₂ s₂ a b
     onward {s₂ = s₂} h e =
         let o = got h e in
         let p = o .passed in
         record { x = o .x; says = o .says; way = passed n f y s₂ k p (omega arith) (o .is); keep = p .keep; up = p .up; less = omega (arith, p .paid) }
 
     -- the rule ends there
-    pub there : {w₂ : List ℕ} {z : Mid} {e : Step} → Passes q w₁ w₂ s₁ D z (n (s₁ .left) (s₁ .fresh)) → z ≡ End e → RunsR q w w₂ s e R
+    pub there : {w₂ : List ℕ} {z : Mid} {e : Step} → GoesOrEnds q w₁ w₂ s₁ D z (n (s₁ .left) (s₁ .fresh)) → z ≡ End e → RunsR q w w₂ s e R
     there {w₂} {z} {e} h i = go refl (rw i at h)
       where
-        go : {O : Out X} {v : Step} → n (s₁ .left) (s₁ .fresh) ≡ O → Passes q w₁ w₂ s₁ D (End v) O → RunsR q w w₂ s v R
+        go : {O : Out X} {v : Step} → n (s₁ .left) (s₁ .fresh) ≡ O → GoesOrEnds q w₁ w₂ s₁ D (End v) O → RunsR q w w₂ s v R
         go o (fails kp x) = refuses (built s₁ (y .so) kp (le-refl _) refl (le-refl _)) x R (y .is ∙ bind-fail n f _ _ o)
         go o (stops kp) = spends n f y kp o
 

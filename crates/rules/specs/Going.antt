@@ -69,10 +69,10 @@ pub record TwoIn (q w : List ℕ) (s : State) (g : Span) (a b : ℕ) : Type 0 wh
   pub run : Run q w (s .top) (g .at) (g .n) Γ
 
 -- from w and s a step that the definition says came to an x, of which D says what the two references are
-pub data Passes {X : Type 0} (q w w′ : List ℕ) (s : State) (D : X → ℕ → ℕ → ℕ → Type 0) : Mid → Out X → Type 0 where
-  goes : {s′ : State} {a b : ℕ} {x : X} → Passed w w′ s s′ 0 → D x (s′ .top) a b → Passes q w w′ s D (On s′ a b) (done x (s′ .left) (s .fresh))
-  fails : {b : Bad} {e : TypeError} {l : ℕ} → Keep (s .top) (s .low) w w′ → Failed q w′ b e l → Passes q w w′ s D (End (Fail b)) (fail e l)
-  stops : Keep (s .top) (s .low) w w′ → Passes q w w′ s D (End Spent) stop
+pub data GoesOrEnds {X : Type 0} (q w w′ : List ℕ) (s : State) (D : X → ℕ → ℕ → ℕ → Type 0) : Mid → Out X → Type 0 where
+  goes : {s′ : State} {a b : ℕ} {x : X} → Passed w w′ s s′ 0 → D x (s′ .top) a b → GoesOrEnds q w w′ s D (On s′ a b) (done x (s′ .left) (s .fresh))
+  fails : {b : Bad} {e : TypeError} {l : ℕ} → Keep (s .top) (s .low) w w′ → Failed q w′ b e l → GoesOrEnds q w w′ s D (End (Fail b)) (fail e l)
+  stops : Keep (s .top) (s .low) w w′ → GoesOrEnds q w w′ s D (End Spent) stop
 
 -- strict mode's parameter: the comparison gives nothing
 abbrev pub Nothing : Unit {0} → ℕ → ℕ → ℕ → Type 0
@@ -80,7 +80,7 @@ Nothing u t a b = Unit {0}
 
 pub record Compared (h : Here) (q w w′ : List ℕ) (s : State) (g : Span) (a p : ℕ) (z : Mid) : Type 0 where
   pub passes : (Γ : Ctx) (A P : Ty) → Run q w (s .top) (g .at) (g .n) Γ → Den q w (s .top) a A → Den q w (s .top) p P
-      → Passes q w w′ s Nothing z (parameter (h .manner .«compares_parameter») Γ A P (s .left) (s .fresh))
+      → GoesOrEnds q w w′ s Nothing z (parameter (h .manner .«compares_parameter») Γ A P (s .left) (s .fresh))
 
 -- two types with the context applied, the first first; or as they are
 abbrev pub Dens : List ℕ → List ℕ → Ty × Ty → ℕ → ℕ → ℕ → Type 0
@@ -91,7 +91,7 @@ applyBoth b Γ A B = branch b Γ A >>= λ A′. branch b Γ B >>= λ B′. give 
 
 pub record AppliedBoth (applies : Bool) (q w w′ : List ℕ) (s : State) (g : Span) (a b : ℕ) (z : Mid) : Type 0 where
   pub passes : (Γ : Ctx) (A B : Ty) → Run q w (s .top) (g .at) (g .n) Γ → Den q w (s .top) a A → Den q w (s .top) b B
-      → Passes q w w′ s (Dens q w′) z (applyBoth applies Γ A B (s .left) (s .fresh))
+      → GoesOrEnds q w w′ s (Dens q w′) z (applyBoth applies Γ A B (s .left) (s .fresh))
 
 -- a type for the name that a Forall binds
 abbrev pub DenOne : List ℕ → List ℕ → Ty → ℕ → ℕ → ℕ → Type 0
@@ -99,7 +99,7 @@ DenOne q w T t a b = Den q w t a T
 
 pub record Instantiated (q w w′ : List ℕ) (s : State) (ty by : ℕ) (z : Mid) : Type 0 where
   pub passes : (A B : Ty) → Den q w (s .top) ty A → Den q w (s .top) by B
-      → Passes q w w′ s (DenOne q w′) z (instantiate B A (s .left) (s .fresh))
+      → GoesOrEnds q w w′ s (DenOne q w′) z (instantiate B A (s .left) (s .fresh))
 
 -- ## The end: from the context Γ and the type A that came back to F Γ and G A, with some words more
 

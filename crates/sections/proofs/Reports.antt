@@ -17,10 +17,10 @@ use Rattle.laws.proofs.Steps.{pick-true, pick-false}
 use Rattle.entry.specs.declared.Reply as entry
 use Rattle.entry.specs.Entry.{Replied}
 use Rattle.laws.proofs.Codes.{error, not-seven}
-use Rattle.sized.proofs.Lengths.{Measured, replies}
+use Rattle.sized.proofs.Lengths.{LengthTold, replies}
 use Rattle.sections.specs.declared.Section.{Section}
 use Rattle.sections.specs.declared.Section.the-variants.{Ty, Context, Tree, First, Second}
-use Rattle.sections.specs.Sections.{boundsAt, boundsOf, sectionOf, isError, has, placeOf, partOf, sections-compute}
+use Rattle.sections.specs.Sections.{boundsAt, boundsOf, sectionOf, isError, hasSection, orderOf, partOf, sections-compute}
 use Rattle.sections.specs.Outcomes.{ofResult, firstOf, secondOf, ofError, ofOutcome, handed}
 use Rattle.sections.proofs.Sections.{bounds-there, words-there}
 
@@ -71,10 +71,10 @@ none-of k = rw (drop-nil, take-nil)
 
 nothing-in : (x : Section) (c : ℕ) → partOf x c [] ≡ []
 unfolding partOf pick
-nothing-in x c = go (has x c)
+nothing-in x c = go (hasSection x c)
   where
-    go : (b : Bool) → pick b (sectionOf (placeOf x) []) [] ≡ []
-    go true = none-of (placeOf x)
+    go : (b : Bool) → pick b (sectionOf (orderOf x) []) [] ≡ []
+    go true = none-of (orderOf x)
     go false = refl
 
 -- NoRoom's length is the needed one: nothing of what stands in the slice is handed out
@@ -98,10 +98,10 @@ written-only x c n ws = go (eqb c 7) (eqb-true c 7)
 -- a section is no longer than the slice
 pub part-short : (x : Section) (c n : ℕ) (ws : List ℕ) → length (partOf x c (take n ws)) ≤ length ws
 unfolding partOf sectionOf pick
-part-short x c n ws = go (has x c)
+part-short x c n ws = go (hasSection x c)
   where
     b : ℕ × ℕ
-    b = boundsOf (placeOf x) (take n ws)
+    b = boundsOf (orderOf x) (take n ws)
 
     go : (h : Bool) → length (pick h (take (b .1 - b .0) (drop (b .0) (take n ws))) []) ≤ length ws
     go true = simp (length-take, length-drop) (omega arith)
@@ -109,7 +109,7 @@ part-short x c n ws = go (has x c)
 
 -- ## What stood in the slice before never shows
 
-of-report : {room : ℕ} {R : Reply} → Measured room R → (x : Section) (s : List ℕ) → handed x R s ≡ partOf x (R .code) (R .report)
+of-report : {room : ℕ} {R : Reply} → LengthTold room R → (x : Section) (s : List ℕ) → handed x R s ≡ partOf x (R .code) (R .report)
 unfolding reportAfter
 of-report {R = R} m x s = written-only x (R .code) (R .len) _ ∙ ap (partOf x (R .code)) (take-at (R .report) _ _ (m .many))
 

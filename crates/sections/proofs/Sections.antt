@@ -13,7 +13,7 @@ use Rattle.laws.proofs.Steps.{pick-true, pick-false}
 use Rattle.entry.specs.declared.Reply.{Reply}
 use Rattle.sections.specs.declared.Bounds.{Bounds}
 use Rattle.sections.specs.declared.Section.{Section}
-use Rattle.sections.specs.Sections.{boundsAt, boundsOf, sectionOf, has, placeOf, boundsIn, partOf, Part, PartOf}
+use Rattle.sections.specs.Sections.{boundsAt, boundsOf, sectionOf, hasSection, orderOf, boundsIn, partOf, PlacedPart, PartOf}
 
 -- ## One section
 
@@ -91,8 +91,8 @@ first-of ws h = h
 
 -- ## By the reply's code
 
-module _ {ws : List ℕ} {r : Reply} {s : Section} {t : Bool} (is : t ≡ has s (r .code)) where
-  pub some-part : {k : ℕ} {b : Bounds} → t ≡ true → k ≡ placeOf s → PartOf ws (r .len) k b → Part ws r s b
+module _ {ws : List ℕ} {r : Reply} {s : Section} {t : Bool} (is : t ≡ hasSection s (r .code)) where
+  pub some-part : {k : ℕ} {b : Bounds} → t ≡ true → k ≡ orderOf s → PartOf ws (r .len) k b → PlacedPart ws r s b
   unfolding boundsIn partOf
   some-part h e p = record {
     place = pick-true _ _ (sym is ∙ h) ∙ rw e at (p .place);
@@ -101,6 +101,6 @@ module _ {ws : List ℕ} {r : Reply} {s : Section} {t : Bool} (is : t ≡ has s 
     within = p .within;
   }
 
-  pub no-part : t ≡ false → Part ws r s (record { from = 0; to = 0 })
+  pub no-part : t ≡ false → PlacedPart ws r s (record { from = 0; to = 0 })
   unfolding boundsIn partOf
   no-part h = record { place = pick-false _ _ (sym is ∙ h); is = sym (pick-false _ _ (sym is ∙ h)); order = omega arith; within = omega arith }

@@ -34,28 +34,28 @@ abbrev pub isError : ℕ → Bool
 isError code = leb 11 code && leb code 17
 
 -- "On 0 the report has three sections", "A type error's report is two type sections"; a reply with another code has none
-abbrev pub has : Section → ℕ → Bool
-has Ty code = eqb code 0
-has Context code = eqb code 0
-has Tree code = eqb code 0
-has First code = isError code
-has Second code = isError code
+abbrev pub hasSection : Section → ℕ → Bool
+hasSection Ty code = eqb code 0
+hasSection Context code = eqb code 0
+hasSection Tree code = eqb code 0
+hasSection First code = isError code
+hasSection Second code = isError code
 
 -- "type (count 0 for kinds 2, 4, 5, 6), context, tree"; "actual or ty in the first, or left and right"
-abbrev pub placeOf : Section → ℕ
-placeOf Ty = 0
-placeOf Context = 1
-placeOf Tree = 2
-placeOf First = 0
-placeOf Second = 1
+abbrev pub orderOf : Section → ℕ
+orderOf Ty = 0
+orderOf Context = 1
+orderOf Tree = 2
+orderOf First = 0
+orderOf Second = 1
 
 -- from and to of the words of a section; both 0 where the reply has none
 unfoldable pub boundsIn : Section → ℕ → List ℕ → ℕ × ℕ
-boundsIn s code ws = pick (has s code) (boundsOf (placeOf s) ws) (0, 0)
+boundsIn s code ws = pick (hasSection s code) (boundsOf (orderOf s) ws) (0, 0)
 
 -- "empty where there is none"
 unfoldable pub partOf : Section → ℕ → List ℕ → List ℕ
-partOf s code ws = pick (has s code) (sectionOf (placeOf s) ws) []
+partOf s code ws = pick (hasSection s code) (sectionOf (orderOf s) ws) []
 
 -- `unfolding sections-compute` opens every definition above
 unfoldable pub sections-compute : Unit {0}
@@ -63,7 +63,7 @@ unfolding pick boundsAt boundsOf sectionOf boundsIn partOf
 sections-compute = tt
 
 -- where a section stands in the report slice ws of a reply, and what stands there
-pub record Part (ws : List ℕ) (r : Reply) (s : Section) (b : Bounds) : Type 0 where
+pub record PlacedPart (ws : List ℕ) (r : Reply) (s : Section) (b : Bounds) : Type 0 where
   pub place : boundsIn s (r .code) (take (r .len) ws) ≡ (b .from, b .to)
   pub is : take (b .to - b .from) (drop (b .from) ws) ≡ partOf s (r .code) (take (r .len) ws)
   pub order : b .from ≤ b .to

@@ -2,7 +2,7 @@
 ghost use mathlib.Core.Path.{_≡_};
 ghost use Prim.Native.Nat.{_≤_};
 ghost use lib.ListN.{length, take};
-ghost use Rattle.sections.specs.Sections.{isError, has, placeOf, partOf, Part, PartAt, PartOf};
+ghost use Rattle.sections.specs.Sections.{isError, hasSection, orderOf, partOf, PlacedPart, PartAt, PartOf};
 ghost use Rattle.sections.specs.Nodes.{wholeAt, nodeIn};
 use entry::Reply;
 
@@ -85,7 +85,7 @@ fn is_error(code: u32) -> bool
 
 // Whether the report of a reply with this code has the section.
 fn has_section(s: Section, code: u32) -> bool
-    ensures { λ b. ⌜ b ≡ has s code ⌝ }
+    ensures { λ b. ⌜ b ≡ hasSection s code ⌝ }
 {
     let error = is_error(code);
     match s {
@@ -99,7 +99,7 @@ fn has_section(s: Section, code: u32) -> bool
 
 // How many sections stand before it.
 fn place_of(s: Section) -> usize
-    ensures { λ k. ⌜ k ≡ placeOf s ⌝ }
+    ensures { λ k. ⌜ k ≡ orderOf s ⌝ }
 {
     match s {
         Section::Ty => 0,
@@ -112,7 +112,7 @@ fn place_of(s: Section) -> usize
 
 // Where the section of a reply's report stands: a caller whose report is lent as `&mut` takes `&mut report[from..to]`.
 pub fn bounds_of(report: &[u32], r: Reply, s: Section) -> Bounds
-    ensures { λ b. ⌜ Part (now (report .entry)) r s b ⌝ }
+    ensures { λ b. ⌜ PlacedPart (now (report .entry)) r s b ⌝ }
 {
     let code = r.code;
     if has_section(s, code) {

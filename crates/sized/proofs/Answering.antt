@@ -19,13 +19,13 @@ use Rattle.entry.specs.declared.Reply as entry
 use Rattle.entry.specs.Entry.{Numbers, Replied}
 use Rattle.entry.proofs.Refusing.{too-long}
 use Rattle.wire.proofs.Bytes.{length-words}
-use Rattle.sized.specs.Sized.{Answered, Told, writtenOf}
-use Rattle.sized.proofs.Lengths.{Measured, in-bytes, length-written}
+use Rattle.sized.specs.Sized.{BytesAnswered, Told, writtenOf}
+use Rattle.sized.proofs.Lengths.{LengthTold, in-bytes, length-written}
 
 -- ## BadLength
 
 -- nothing is written
-pub refused : {b s : List ℕ} → byteReply (length s) b ≡ refusal 3 0 0 → Answered b s s (record { code = 3; at = 0; len = 0; units = 0 })
+pub refused : {b s : List ℕ} → byteReply (length s) b ≡ refusal 3 0 0 → BytesAnswered b s s (record { code = 3; at = 0; len = 0; units = 0 })
 unfolding refusal reportAfter
 refused e = record { numbers = record { code = rw e; at = rw e; len = rw e; units = rw e }; report = rw e }
 
@@ -55,7 +55,7 @@ whole room b k = rw k (pick-true _ _ refl)
 
 -- words held what was read, then what they held before
 pub asked : {b w w′ s s′ : List ℕ} (ws rest : List ℕ) {r : entry.Reply} → 4 * (length b / 4) ≡ length b → length w ≡ 16384 → length s ≤ 4096
-    → ws ≡ wordsOf b (length b / 4) ++ rest → Replied 384 (take (length b / 4 - 0) (drop 0 ws)) w w′ s s′ r → Answered b s s′ r
+    → ws ≡ wordsOf b (length b / 4) ++ rest → Replied 384 (take (length b / 4 - 0) (drop 0 ws)) w w′ s s′ r → BytesAnswered b s s′ r
 unfolding call
 asked {b} {w} {w′} {s} {s′} ws rest h l m e x =
     let q : take (length b / 4 - 0) (drop 0 ws) ≡ wordsOf b (length b / 4) = rw (sub-zero, e) (take-at (wordsOf b (length b / 4)) rest (length b / 4) (length-words b (length b / 4))) in
@@ -67,7 +67,7 @@ asked {b} {w} {w′} {s} {s′} ws rest h l m e x =
 -- ## The report's first words
 
 -- they are the report, in a slice that goes on after the part that was lent
-pub first-words : {R : Reply} {t : List ℕ} {r : entry.Reply} {room : ℕ} (part rest : List ℕ) → Measured room R → Numbers R r → t ≡ reportAfter R part
+pub first-words : {R : Reply} {t : List ℕ} {r : entry.Reply} {room : ℕ} (part rest : List ℕ) → LengthTold room R → Numbers R r → t ≡ reportAfter R part
     → take (writtenOf r) (t ++ rest) ≡ R .report
 unfolding reportAfter
 first-words {R} {t} {r} part rest k n e =
@@ -75,10 +75,10 @@ first-words {R} {t} {r} part rest k n e =
     ∙ take-at (R .report) _ (writtenOf r) (length-written k n))
 
 pub within : {b part t : List ℕ} {r : entry.Reply} (room : ℕ) (rest : List ℕ) → length part ≡ room → room ≤ 4096
-    → Answered b part t r → Told b room (t ++ rest) r
+    → BytesAnswered b part t r → Told b room (t ++ rest) r
 within {b} {part} {t} {r} room rest l h a =
     let R : Reply = byteReply room b in
     let n : Numbers R r = rw l at (a .numbers) in
     let e : t ≡ reportAfter R part = rw l at (a .report) in
-    let k : Measured (min room 4096) R = in-bytes room b in
+    let k : LengthTold (min room 4096) R = in-bytes room b in
     record { numbers = n; report = first-words part rest k n e; fits = omega (arith, length-written k n, k .within) }

@@ -20,16 +20,16 @@ use Rattle.entry.specs.Entry.{Numbers}
 use Rattle.laws.proofs.Codes.{error, not-seven}
 use Rattle.sized.specs.Sized.{writtenOf}
 
-pub record Measured (room : ℕ) (R : Reply) : Type 0 where
+pub record LengthTold (room : ℕ) (R : Reply) : Type 0 where
   pub many : length (R .report) ≡ pick (eqb (R .code) 7) 0 (R .len)
   pub within : length (R .report) ≤ room
 
-either : (b : Bool) {room : ℕ} {R S : Reply} → Measured room R → Measured room S → Measured room (pick b R S)
+either : (b : Bool) {room : ℕ} {R S : Reply} → LengthTold room R → LengthTold room S → LengthTold room (pick b R S)
 unfolding pick
 either true h k = h
 either false h k = k
 
-refused : (room c p u : ℕ) → Measured room (refusal c p u)
+refused : (room c p u : ℕ) → LengthTold room (refusal c p u)
 unfolding refusal pick
 refused room c p u = record { many = go (eqb c 7); within = omega arith }
   where
@@ -37,34 +37,34 @@ refused room c p u = record { many = go (eqb c 7); within = omega arith }
     go true = refl
     go false = refl
 
-reports : (room c p u : ℕ) (ws : List ℕ) → eqb c 7 ≡ false → Measured room (reported room c p u ws)
+reports : (room c p u : ℕ) (ws : List ℕ) → eqb c 7 ≡ false → LengthTold room (reported room c p u ws)
 unfolding reported pick
 reports room c p u ws e = go (leb (length ws) room) (leb (length ws) most) (leb→le (length ws) room)
   where
-    go : (a b : Bool) → (T a → length ws ≤ room) → Measured room (pick (a && b) (record { code = c; at = p; len = length ws; units = u; report = ws }) (record { code = 7; at = 0; len = min (length ws) most; units = u; report = [] }))
+    go : (a b : Bool) → (T a → length ws ≤ room) → LengthTold room (pick (a && b) (record { code = c; at = p; len = length ws; units = u; report = ws }) (record { code = 7; at = 0; len = min (length ws) most; units = u; report = [] }))
     go true true h = record { many = rw e; within = h tt }
     go true false h = record { many = refl; within = omega arith }
     go false b h = record { many = refl; within = omega arith }
 
-outs : (k budget room : ℕ) (o : Out Result) → Measured room (outReply k budget room o)
+outs : (k budget room : ℕ) (o : Out Result) → LengthTold room (outReply k budget room o)
 unfolding outReply
 outs k budget room (done r l n) = reports room 0 0 (budget - l) _ refl
 outs k budget room (fail e l) = reports room (errorCode (e .error)) _ (budget - l) _ (not-seven (error (e .error)))
 outs k budget room stop = refused room 6 0 budget
 
-reads : (budget room : ℕ) (x : Read Question) → Measured room (readReply budget room x)
+reads : (budget room : ℕ) (x : Read Question) → LengthTold room (readReply budget room x)
 unfolding readReply
 reads budget room (fault c p) = refused room c p 0
 reads budget room (got q p ws) = outs (q .kind) budget room _
 
-pub replies : (budget work room : ℕ) (ws : List ℕ) → Measured room (reply budget work room ws)
+pub replies : (budget work room : ℕ) (ws : List ℕ) → LengthTold room (reply budget work room ws)
 unfolding reply
 replies budget work room ws =
     either (eqb budget 0 || ltb 8192 budget) (refused room 1 0 0)
     (either (ltb work (workWords budget)) (refused room 2 0 0)
     (either (eqb (length ws) 0 || ltb 2048 (length ws)) (refused room 3 0 0) (reads budget room (readQuestion ws))))
 
-pub in-bytes : (room : ℕ) (b : List ℕ) → Measured (min room 4096) (byteReply room b)
+pub in-bytes : (room : ℕ) (b : List ℕ) → LengthTold (min room 4096) (byteReply room b)
 unfolding byteReply deskReply
 in-bytes room b = either (eqb (length b % 4) 0) (replies 384 16384 (min room 4096) (wordsOf b (length b / 4))) (refused (min room 4096) 3 0 0)
 
@@ -76,5 +76,5 @@ none r e = sym (pick-true 0 (r .len) (eq-eqb (r .code) 7 e))
 pub some : (r : entry.Reply) → r .code ≢ 7 → r .len ≡ writtenOf r
 some r p = sym (pick-false 0 (r .len) (ne-eqb (r .code) 7 p))
 
-pub length-written : {room : ℕ} {R : Reply} {r : entry.Reply} → Measured room R → Numbers R r → length (R .report) ≡ writtenOf r
+pub length-written : {room : ℕ} {R : Reply} {r : entry.Reply} → LengthTold room R → Numbers R r → length (R .report) ≡ writtenOf r
 length-written t n = rw (n .code, n .len) (t .many)

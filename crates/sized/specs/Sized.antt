@@ -34,6 +34,6 @@ pub record Fit (ws w s : List ℕ) : Type 0 where
   pub room : length s ≤ 4096
 
 -- the question's bytes b, the report slice s before and s′ after
-pub record Answered (b s s′ : List ℕ) (r : Reply) : Type 0 where
+pub record BytesAnswered (b s s′ : List ℕ) (r : Reply) : Type 0 where
   pub numbers : Numbers (byteReply (length s) b) r
   pub report : s′ ≡ reportAfter (byteReply (length s) b) s

@@ -1,7 +1,7 @@
 // The entry asked in bytes, with the desk program's sizes: what the desk program and the telephone host share.
 ghost use mathlib.Core.Path.{_≡_};
 ghost use Prim.Native.Nat.{_≤_};
-ghost use Rattle.sized.specs.Sized.{Fit, Answered, Lent, Told, writtenOf};
+ghost use Rattle.sized.specs.Sized.{Fit, BytesAnswered, Lent, Told, writtenOf};
 use entry::Reply;
 
 const BUDGET: u32 = 384;
@@ -21,7 +21,7 @@ fn bad_length() -> Reply
 // Answers a question of little-endian words; the report slice is as long as there is room.
 fn answer_words(question: &[u8], words: &mut [u32], work: &mut [u32], report: &mut [u32]) -> Reply
     requires { ⌜ Fit (now words) (now work) (now report) ⌝ }
-    ensures { λ r. ⌜ Answered (now (question .entry)) (now (report .entry)) (now (report .exit)) r ⌝ }
+    ensures { λ r. ⌜ BytesAnswered (now (question .entry)) (now (report .entry)) (now (report .exit)) r ⌝ }
 {
     let n = question.len() / 4;
     if 2048 < n {

@@ -14,13 +14,13 @@ use Rattle.laws.proofs.Depth.{apply-eq}
 
 -- ## A run that pays one unit first
 
-pub record Paid (m m′ : M Ty) : Type 0 where
+pub record PaysFirst (m m′ : M Ty) : Type 0 where
   pub is : (l n : ℕ) → m l n ≡ (charge 1 >>= λ u. m′) l n
 
-pub once-paid : {m m′ : M Ty} (l n : ℕ) → Paid m m′ → 1 ≤ l → m l n ≡ m′ (l - 1) n
+pub once-paid : {m m′ : M Ty} (l n : ℕ) → PaysFirst m m′ → 1 ≤ l → m l n ≡ m′ (l - 1) n
 once-paid l n e h = e .is l n ∙ bind-done (charge 1) _ l n (charge-yes 1 l n h)
 
-pub unpaid : {m m′ : M Ty} (l n : ℕ) → Paid m m′ → l ≡ 0 → m l n ≡ stop
+pub unpaid : {m m′ : M Ty} (l n : ℕ) → PaysFirst m m′ → l ≡ 0 → m l n ≡ stop
 unpaid l n e h = e .is l n ∙ bind-stop (charge 1) _ l n (charge-no 1 l n (omega arith))
 
 -- ## What is done to the parts
@@ -31,7 +31,7 @@ onArrow m A B = do A′ ← m A; B′ ← m B; give (arrow A′ B′)
 abbrev pub onForall : (Ty → M Ty) → TyVar → Ty → M Ty
 onForall m b A = do A′ ← m A; give (forall b A′)
 
-module _ (f : Ty → M Ty) (A B : Ty) {m : M Ty} (l n : ℕ) (eq : Paid m (onArrow f A B)) (some : 1 ≤ l) where
+module _ (f : Ty → M Ty) (A B : Ty) {m : M Ty} (l n : ℕ) (eq : PaysFirst m (onArrow f A B)) (some : 1 ≤ l) where
   pub arrow-stop : f A (l - 1) n ≡ stop → m l n ≡ stop
   arrow-stop e = once-paid l n eq some ∙ bind-stop (f A) _ (l - 1) n e
 
@@ -43,7 +43,7 @@ module _ (f : Ty → M Ty) (A B : Ty) {m : M Ty} (l n : ℕ) (eq : Paid m (onArr
     unfolding give
     arrow-done e₁ = once-paid l n eq some ∙ bind-done (f A) _ (l - 1) n e ∙ bind-done (f B) _ l₁ n (rw no at e₁)
 
-module _ (f : Ty → M Ty) (b : TyVar) (A : Ty) {m : M Ty} (l n : ℕ) (eq : Paid m (onForall f b A)) (some : 1 ≤ l) where
+module _ (f : Ty → M Ty) (b : TyVar) (A : Ty) {m : M Ty} (l n : ℕ) (eq : PaysFirst m (onForall f b A)) (some : 1 ≤ l) where
   pub forall-stop : f A (l - 1) n ≡ stop → m l n ≡ stop
   forall-stop e = once-paid l n eq some ∙ bind-stop (f A) _ (l - 1) n e
 
@@ -62,7 +62,7 @@ module _ (a : TyVar) (R : Ty) where
   substStep (arrow A B) = onArrow (subst a R) A B
   substStep (forall b A) = pick (sameName b a) (give (forall b A)) (onForall (subst a R) b A)
 
-  pub subst-eq : (T : Ty) → Paid (subst a R T) (substStep T)
+  pub subst-eq : (T : Ty) → PaysFirst (subst a R T) (substStep T)
   unfolding subst
   subst-eq int = record { is = λ l n. refl }
   subst-eq bool = record { is = λ l n. refl }
@@ -71,7 +71,7 @@ module _ (a : TyVar) (R : Ty) where
   subst-eq (arrow A B) = record { is = λ l n. refl }
   subst-eq (forall b A) = record { is = λ l n. refl }
 
-  pub subst-plain : (T : Ty) → tyCode T < 3 → Paid (subst a R T) (give T)
+  pub subst-plain : (T : Ty) → tyCode T < 3 → PaysFirst (subst a R T) (give T)
   unfolding tyCode
   subst-plain int h = subst-eq int
   subst-plain bool h = subst-eq bool
@@ -80,21 +80,21 @@ module _ (a : TyVar) (R : Ty) where
   subst-plain (arrow A B) h = absurd (omega arith)
   subst-plain (forall b A) h = absurd (omega arith)
 
-  pub subst-shadowed : (b : TyVar) (A : Ty) → sameName b a ≡ true → Paid (subst a R (forall b A)) (give (forall b A))
+  pub subst-shadowed : (b : TyVar) (A : Ty) → sameName b a ≡ true → PaysFirst (subst a R (forall b A)) (give (forall b A))
   unfolding pick
   subst-shadowed b A e = rw e at (subst-eq (forall b A))
 
-  pub subst-forall : (b : TyVar) (A : Ty) → sameName b a ≡ false → Paid (subst a R (forall b A)) (onForall (subst a R) b A)
+  pub subst-forall : (b : TyVar) (A : Ty) → sameName b a ≡ false → PaysFirst (subst a R (forall b A)) (onForall (subst a R) b A)
   unfolding pick
   subst-forall b A e = rw e at (subst-eq (forall b A))
 
 -- ## Application
 
 module _ (Γ : Ctx) where
-  pub apply-paid : (T : Ty) → Paid (apply Γ T) (applyStep Γ (apply Γ) T)
+  pub apply-paid : (T : Ty) → PaysFirst (apply Γ T) (applyStep Γ (apply Γ) T)
   apply-paid T = record { is = apply-eq Γ T }
 
-  pub apply-plain : (T : Ty) → (tyCode T ≡ 4 → ⊥) → (tyCode T ≡ 5 → ⊥) → (tyCode T ≡ 6 → ⊥) → Paid (apply Γ T) (give T)
+  pub apply-plain : (T : Ty) → (tyCode T ≡ 4 → ⊥) → (tyCode T ≡ 5 → ⊥) → (tyCode T ≡ 6 → ⊥) → PaysFirst (apply Γ T) (give T)
   unfolding tyCode applyStep
   apply-plain int f g h = apply-paid int
   apply-plain bool f g h = apply-paid bool
@@ -103,18 +103,18 @@ module _ (Γ : Ctx) where
   apply-plain (arrow A B) f g h = absurd (g refl)
   apply-plain (forall b A) f g h = absurd (h refl)
 
-  pub apply-unsolved : (a : TyVar) → find (kSETVar a) Γ ≡ none → Paid (apply Γ (etvar a)) (give (etvar a))
+  pub apply-unsolved : (a : TyVar) → find (kSETVar a) Γ ≡ none → PaysFirst (apply Γ (etvar a)) (give (etvar a))
   unfolding applyStep solutionOr
   apply-unsolved a e = rw e at (apply-paid (etvar a))
 
-  pub apply-solved : (a : TyVar) (B : Ty) → find (kSETVar a) Γ ≡ some B → Paid (apply Γ (etvar a)) (apply Γ B)
+  pub apply-solved : (a : TyVar) (B : Ty) → find (kSETVar a) Γ ≡ some B → PaysFirst (apply Γ (etvar a)) (apply Γ B)
   unfolding applyStep solutionOr
   apply-solved a B e = rw e at (apply-paid (etvar a))
 
-  pub apply-arrow : (A B : Ty) → Paid (apply Γ (arrow A B)) (onArrow (apply Γ) A B)
+  pub apply-arrow : (A B : Ty) → PaysFirst (apply Γ (arrow A B)) (onArrow (apply Γ) A B)
   unfolding applyStep
   apply-arrow A B = apply-paid (arrow A B)
 
-  pub apply-forall : (b : TyVar) (A : Ty) → Paid (apply Γ (forall b A)) (onForall (apply Γ) b A)
+  pub apply-forall : (b : TyVar) (A : Ty) → PaysFirst (apply Γ (forall b A)) (onForall (apply Γ) b A)
   unfolding applyStep
   apply-forall b A = apply-paid (forall b A)

@@ -24,7 +24,7 @@ use Rattle.walks.proofs.Names.{names}
 use Rattle.rules.proofs.Choices.{no-arrow, no-forall}
 use Rattle.rules.specs.declared.Side.the-variants as side
 use Rattle.rules.proofs.TypeForms.{IsETVar, is-etvar, is-arrow, is-forall}
-use Rattle.subtyping.specs.Arms.{Comes, NotAlike, AlikeBy, by-rule, by-none, Alike, Absent, Formed, both-arrows, right-forall, left-forall, no-form, ByUnknown, left-unknown, right-unknown, no-unknown, Fits, fits-refl, fits-arr, fits-all, fits-inst, fits-none, Chosen}
+use Rattle.subtyping.specs.Arms.{Comes, NotAlike, AlikeBy, by-rule, by-none, AlikeTypes, Absent, Formed, both-arrows, right-forall, left-forall, no-form, ByUnknown, left-unknown, right-unknown, no-unknown, ArmFits, fits-refl, fits-arr, fits-all, fits-inst, fits-none, ArmChosen}
 use Rattle.subtyping.specs.declared.Arm.{Arm}
 use Rattle.subtyping.specs.declared.Arm.the-variants as arm
 use Rattle.subtyping.proofs.Arm as ArmT
@@ -112,17 +112,17 @@ unfolding tyCode subtypeRule sameBase same asVar asETVar when pick _orElse_
 etvars-alike u v e h judge Γ = rw e
 
 module _ {q w : List ℕ} {t a b k m : ℕ} (tk : Tagged q w t a k) (tm : Tagged q w t b m) where
-  pub alike-apart : (k ≡ m → ⊥) → Alike q w t a b 0
+  pub alike-apart : (k ≡ m → ⊥) → AlikeTypes q w t a b 0
   alike-apart h = record { is = λ A B d e. by-none refl (apart A B (λ f. h (tk .is A d ∙ f ∙ sym (tm .is B e)))) }
 
   module _ (eq : k ≡ m) where
     codes : (A B : Ty) → Den q w t a A → Den q w t b B → tyCode A ≡ tyCode B
     codes A B d e = sym (tk .is A d) ∙ eq ∙ tm .is B e
 
-    pub alike-large : 5 ≤ k → Alike q w t a b 0
+    pub alike-large : 5 ≤ k → AlikeTypes q w t a b 0
     alike-large h = record { is = λ A B d e. by-none refl (large A B (omega (arith, tk .is A d))) }
 
-    pub alike-base : k < 3 → Alike q w t a b 22
+    pub alike-base : k < 3 → AlikeTypes q w t a b 22
     unfolding ruleNumber
     alike-base h = record {
       is = λ A B d e. by-rule Syntax.SubRefl (omega arith) refl (base-alike A B (omega (arith, tk .is A d)) (codes A B d e));
@@ -132,7 +132,7 @@ module _ {q w : List ℕ} {t a b k m : ℕ} (tk : Tagged q w t a k) (tm : Tagged
       shape : (A B : Ty) → Den q w t a A → Den q w t b B → SameNamed A B
       shape A B d e = same-named A B (omega (arith, tk .is A d)) (omega (arith, tk .is A d)) (codes A B d e)
 
-      pub alike-named : x .0 ≡ y .0 → Alike q w t a b (20 + k)
+      pub alike-named : x .0 ≡ y .0 → AlikeTypes q w t a b (20 + k)
       unfolding tyCode ruleNumber
       alike-named f = record { is = λ A B d e. go A B d e (shape A B d e) }
         where
@@ -146,7 +146,7 @@ module _ {q w : List ℕ} {t a b k m : ℕ} (tk : Tagged q w t a k) (tm : Tagged
               by-rule Syntax.SubReflETVar (omega arith) (omega arith)
               (etvars-alike u v (sym (names x y u v (nx .of-etvar u d) (ny .of-etvar v e)) ∙ eq-eqb _ _ f))
 
-      pub alike-other : (x .0 ≡ y .0 → ⊥) → Alike q w t a b 0
+      pub alike-other : (x .0 ≡ y .0 → ⊥) → AlikeTypes q w t a b 0
       unfolding tyCode sameBase same asVar asETVar
       alike-other f = record { is = λ A B d e. by-none refl (go A B d e (shape A B d e)) }
         where
@@ -257,14 +257,14 @@ NotNeither z = OneOf (0 ∷ 1 ∷ 2 ∷ 3 ∷ []) (Declared.tagOf ArmT.the-type 
 is-neither : NotNeither arm.Neither → ⊥
 is-neither h = ⊎-elim (λ e. omega arith) (λ h. ⊎-elim (λ e. omega arith) (λ h. ⊎-elim (λ e. omega arith) (λ e. omega arith) h) h) h
 
-pub chosen-refl : {q w : List ℕ} {t a b n : ℕ} → Alike q w t a b n → (n ≡ 0 → ⊥) → Chosen q w t a b (arm.Refl n)
+pub chosen-refl : {q w : List ℕ} {t a b n : ℕ} → AlikeTypes q w t a b n → (n ≡ 0 → ⊥) → ArmChosen q w t a b (arm.Refl n)
 chosen-refl {n = n} al h = record { is = λ A B d e. go (al .is A B d e) }
   where
-    go : {A B : Ty} → AlikeBy A B n → Fits A B (arm.Refl n)
+    go : {A B : Ty} → AlikeBy A B n → ArmFits A B (arm.Refl n)
     go (by-rule R l e f) = fits-refl R e f
     go (by-none e f) = absurd (h e)
 
-module _ {q w : List ℕ} {t a b n k m : ℕ} (al : Alike q w t a b n) (is-0 : n ≡ 0) (tk : Tagged q w t a k) (tm : Tagged q w t b m) where
+module _ {q w : List ℕ} {t a b n k m : ℕ} (al : AlikeTypes q w t a b n) (is-0 : n ≡ 0) (tk : Tagged q w t a k) (tm : Tagged q w t b m) where
   unlike : (A B : Ty) → Den q w t a A → Den q w t b B → NotAlike A B
   unlike A B d e = go (al .is A B d e)
     where
@@ -273,7 +273,7 @@ module _ {q w : List ℕ} {t a b n k m : ℕ} (al : Alike q w t a b n) (is-0 : n
       go (by-none e f) = f
 
   -- by the codes
-  pub chosen-form : {z : Arm} → NotNeither z → Formed k m z → Chosen q w t a b z
+  pub chosen-form : {z : Arm} → NotNeither z → Formed k m z → ArmChosen q w t a b z
   chosen-form h (both-arrows f g) = record {
     is = λ A B d e.
         let u = is-arrow A (sym (tk .is A d) ∙ f) in
@@ -292,7 +292,7 @@ module _ {q w : List ℕ} {t a b n k m : ℕ} (al : Alike q w t a b n) (is-0 : n
 
   -- by an unknown
   module _ (not-55 : k ≡ 5 → m ≡ 5 → ⊥) (not-6 : m ≡ 6 → ⊥) (not-6′ : k ≡ 6 → ⊥) where
-    chosen-by : {y : Arm} → ByUnknown q w t a b y → Chosen q w t a b y
+    chosen-by : {y : Arm} → ByUnknown q w t a b y → ArmChosen q w t a b y
     chosen-by (left-unknown ab) = record {
       is = λ A B d e.
           let u = ab .yes refl A B d e in
@@ -311,8 +311,8 @@ module _ {q w : List ℕ} {t a b n k m : ℕ} (al : Alike q w t a b n) (is-0 : n
           (λ f g. not-55 (tk .is A d ∙ f) (tm .is B e ∙ g)) (ab′ .no refl B A e d));
     }
 
-  pub chosen-unknown : {z y : Arm} → z ≡ arm.Neither → Formed k m z → ByUnknown q w t a b y → Chosen q w t a b y
+  pub chosen-unknown : {z y : Arm} → z ≡ arm.Neither → Formed k m z → ByUnknown q w t a b y → ArmChosen q w t a b y
   chosen-unknown {y = y} e f u = go (rw e at f)
     where
-      go : Formed k m arm.Neither → Chosen q w t a b y
+      go : Formed k m arm.Neither → ArmChosen q w t a b y
       go (no-form f g i) = chosen-by f g i u

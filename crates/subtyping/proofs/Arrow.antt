@@ -25,9 +25,9 @@ use Rattle.rules.proofs.Standing.{held-is}
 use Rattle.rules.proofs.Premises.{else-fires, then-done, through-ends}
 use Rattle.rules.specs.declared.Mid.{Mid}
 use Rattle.rules.specs.declared.Mid.the-variants.{On, End}
-use Rattle.rules.specs.Going.{PlainOut, TwoIn, Passes, Dens, applyBoth, AppliedBoth}
-use Rattle.rules.proofs.Ways.{Way, asks-sub, Onward, onward, there}
-use Rattle.subtyping.specs.Arms.{Comes, Fits, fits-arr, ArmPre}
+use Rattle.rules.specs.Going.{PlainOut, TwoIn, GoesOrEnds, Dens, applyBoth, AppliedBoth}
+use Rattle.rules.proofs.Ways.{Way, asks-sub, WayOn, onward, there}
+use Rattle.subtyping.specs.Arms.{Comes, ArmFits, fits-arr, ArmPre}
 use Rattle.subtyping.specs.declared.Arm.the-variants as arm
 use Rattle.subtyping.proofs.Rules.{askd, fits, comes}
 
@@ -42,7 +42,7 @@ record Halves (A B : Ty) : Type 0 where
   right : B ≡ arrow B₁ B₂
   comes-to : Comes A B (λ h judge Γ. subArr h judge Γ (A₁, A₂) (B₁, B₂))
 
-halves : {A B : Ty} → Fits A B arm.Arr → Halves A B
+halves : {A B : Ty} → ArmFits A B arm.Arr → Halves A B
 halves (fits-arr {A₁ = A₁} {A₂ = A₂} {B₁ = B₁} {B₂ = B₂} e f c) =
     record { A₁ = A₁; A₂ = A₂; B₁ = B₁; B₂ = B₂; left = e; right = f; comes-to = c }
 
@@ -169,7 +169,7 @@ module _ {t : ℕ} (c : Lefts t) where
   way k = record { so = so k; room = came k .land .room; is = says₁ (c .on) k ∙ then-done _ (came k .is) }
 
   module _ {w₂ : List ℕ} {v : Mid} (mid : AppliedBoth false (c .on .q) (c .w) w₂ (c .r .st) (c .r .g) (c .on .a₂) (c .on .b₂) v) where
-    passes : {j : Judgement} (k : At (c .on) j) → Passes (c .on .q) (c .w) w₂ (c .r .st) (Dens (c .on .q) w₂) v
+    passes : {j : Judgement} (k : At (c .on) j) → GoesOrEnds (c .on .q) (c .w) w₂ (c .r .st) (Dens (c .on .q) w₂) v
         (applyBoth false (came k .Δ) (parts (c .on) k .A₂) (parts (c .on) k .B₂) (c .r .st .left) (c .r .st .fresh))
     passes k = mid .passes _ _ _ (came k .land .run) (left₂ k) (right₂ k)
 
@@ -181,7 +181,7 @@ module _ {t : ℕ} (b : Between t) where
   abbrev asked : Halved t
   asked = b .on .on
 
-  next : {j : Judgement} (k : At asked j) → Onward (Dens (asked .q) (b .w)) _ _ (way (b .on) k) (b .w) (b .s) (b .a) (b .b)
+  next : {j : Judgement} (k : At asked j) → WayOn (Dens (asked .q) (b .w)) _ _ (way (b .on) k) (b .w) (b .s) (b .a) (b .b)
   next k = onward (Dens (asked .q) (b .w)) _ _ (way (b .on) k) (passes (b .on) (b .call) k) (b .done)
 
   asks₂ : {j : Judgement} (k : At asked j)

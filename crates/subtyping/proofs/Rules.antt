@@ -28,7 +28,7 @@ use Rattle.rules.specs.Sides.{side}
 use Rattle.rules.specs.declared.Side as program
 use Rattle.rules.proofs.Standing.{room-less}
 use Rattle.rules.proofs.Premises.{inst-pre, else-fires, ends, through-ends}
-use Rattle.subtyping.specs.Arms.{oneOf, ruleInst, BothHeld, Comes, Fits, fits-refl, fits-inst, fits-none, Chosen, ArmPre}
+use Rattle.subtyping.specs.Arms.{onSide, ruleInst, BothHeld, Comes, ArmFits, fits-refl, fits-inst, fits-none, ArmChosen, ArmPre}
 use Rattle.subtyping.specs.declared.Arm.{Arm}
 use Rattle.subtyping.specs.declared.Arm.the-variants as arm
 
@@ -41,17 +41,17 @@ both-held {a = a} {b = b} pre =
 
 -- ## By the side
 
-pub one-den : {q w : List ℕ} {t a b : ℕ} {A B : Ty} (sd : Side) → Den q w t a A → Den q w t b B → Den q w t (oneOf sd a b) (oneOf sd A B)
+pub one-den : {q w : List ℕ} {t a b : ℕ} {A B : Ty} (sd : Side) → Den q w t a A → Den q w t b B → Den q w t (onSide sd a b) (onSide sd A B)
 one-den onL d e = d
 one-den onR d e = e
 
-pub one-small : {a b n : ℕ} (sd : Side) → a < n → b < n → oneOf sd a b < n
+pub one-small : {a b n : ℕ} (sd : Side) → a < n → b < n → onSide sd a b < n
 one-small onL h k = h
 one-small onR h k = k
 
 -- ## What the rule comes to
 
-pub arm-pre : {q w : List ℕ} {s : State} {g : Span} {a b : ℕ} {x z : Arm} → RulePre q w s g (subAsk a b) → Chosen q w (s .top) a b x → x ≡ z
+pub arm-pre : {q w : List ℕ} {s : State} {g : Span} {a b : ℕ} {x z : Arm} → RulePre q w s g (subAsk a b) → ArmChosen q w (s .top) a b x → x ≡ z
     → ArmPre q w s g a b z
 arm-pre pre c e = record { pre = pre; chosen = rw e at c }
 
@@ -59,7 +59,7 @@ module _ {q w : List ℕ} {s : State} {g : Span} {a b : ℕ} {z : Arm} (pre : Ar
   pub askd : {j : Judgement} → Asks q w (s .top) g (subAsk a b) j → SubAsked q w (s .top) g a b j
   askd k = sub-asked a b k
 
-  pub fits : {j : Judgement} (k : Asks q w (s .top) g (subAsk a b) j) → Fits (askd k .A) (askd k .B) z
+  pub fits : {j : Judgement} (k : Asks q w (s .top) g (subAsk a b) j) → ArmFits (askd k .A) (askd k .B) z
   fits k = pre .chosen .is (askd k .A) (askd k .B) (askd k .left) (askd k .right)
 
   pub comes : (m : Here) {j : Judgement} (k : Asks q w (s .top) g (subAsk a b) j) {K : definition.Here → Judge → Ctx → M Fired}
@@ -77,7 +77,7 @@ record ReflFits (A B : Ty) (n : ℕ) : Type 0 where
   number : n ≡ ruleNumber R
   comes-to : Comes A B (λ h judge Γ. closes R Γ)
 
-refl-fits : {A B : Ty} {n : ℕ} → Fits A B (arm.Refl n) → ReflFits A B n
+refl-fits : {A B : Ty} {n : ℕ} → ArmFits A B (arm.Refl n) → ReflFits A B n
 refl-fits (fits-refl R e c) = record { R = R; number = e; comes-to = c }
 
 pub refl-fires : {m : Here} {q w : List ℕ} {s : State} {g : Span} {a b n : ℕ} → ArmPre q w s g a b (arm.Refl n)
@@ -89,7 +89,7 @@ refl-fires {m} {s = s} {g = g} pre = record {
       ends s g (f .R) (f .number) refl (omega arith) begin (room-less (pre .pre .room) 4 (omega arith)) (askd pre k .run) _ (comes pre m k (f .comes-to));
 }
 
-none-fits : {A B : Ty} → Fits A B arm.Neither → Comes A B (λ h judge Γ. refuse (subtypingError A B))
+none-fits : {A B : Ty} → ArmFits A B arm.Neither → Comes A B (λ h judge Γ. refuse (subtypingError A B))
 none-fits (fits-none c) = c
 
 pub none-fires : {m : Here} {q w : List ℕ} {s : State} {g : Span} {a b : ℕ} → ArmPre q w s g a b arm.Neither
@@ -105,37 +105,37 @@ none-fires {m} {q} {w} {s} {g} {a} {b} pre = record {
 
 -- ## SubInstL and SubInstR: one instantiation, of the unknown u by the type t
 
-record Unknown (sd : Side) (A B : Ty) : Type 0 where
+record UnknownOn (sd : Side) (A B : Ty) : Type 0 where
   x : TyVar
-  is : oneOf sd A B ≡ etvar x
-  comes-to : Comes A B (λ h judge Γ. subInst h judge (ruleInst sd) sd Γ (oneOf sd B A) x)
+  is : onSide sd A B ≡ etvar x
+  comes-to : Comes A B (λ h judge Γ. subInst h judge (ruleInst sd) sd Γ (onSide sd B A) x)
 
-unknown-fits : {A B : Ty} {z : program.Side} → Fits A B (arm.Inst z) → Unknown (side z) A B
+unknown-fits : {A B : Ty} {z : program.Side} → ArmFits A B (arm.Inst z) → UnknownOn (side z) A B
 unknown-fits (fits-inst {x = x} e c) = record { x = x; is = e; comes-to = c }
 
-inst-number : (sd : Side) → oneOf sd 28 29 ≡ ruleNumber (ruleInst sd)
+inst-number : (sd : Side) → onSide sd 28 29 ≡ ruleNumber (ruleInst sd)
 unfolding ruleNumber
 inst-number onL = refl
 inst-number onR = refl
 
 module _ {q w : List ℕ} {s : State} {g : Span} {a b : ℕ} {z : program.Side} (pre : ArmPre q w s g a b (arm.Inst z)) where
-  unknown : {j : Judgement} (k : Asks q w (s .top) g (subAsk a b) j) → Unknown (side z) (askd pre k .A) (askd pre k .B)
+  unknown : {j : Judgement} (k : Asks q w (s .top) g (subAsk a b) j) → UnknownOn (side z) (askd pre k .A) (askd pre k .B)
   unknown k = unknown-fits (fits pre k)
 
   -- what is asked
   abbrev way : {j : Judgement} → Asks q w (s .top) g (subAsk a b) j → Judgement
-  way k = inst (side z) (askd pre k .Γ) (unknown k .x) (oneOf (side z) (askd pre k .B) (askd pre k .A))
+  way k = inst (side z) (askd pre k .Γ) (unknown k .x) (onSide (side z) (askd pre k .B) (askd pre k .A))
 
   says : (m : Here) {j : Judgement} (k : Asks q w (s .top) g (subAsk a b) j) → rule (here m) (judge (here m)) j (s .left) (s .fresh)
       ≡ andThen (judge (here m) (way k) (s .left) (s .fresh)) (λ v. give (ruleInst (side z), int, v .1, v .2 & leaf))
   unfolding subInst _>>=_
   says m k = comes pre m k (unknown k .comes-to)
 
-  module _ {u t : ℕ} (eu : u ≡ oneOf (side z) a b) (et : t ≡ oneOf (side z) b a) where
+  module _ {u t : ℕ} (eu : u ≡ onSide (side z) a b) (et : t ≡ onSide (side z) b a) where
     unknown-den : {j : Judgement} (k : Asks q w (s .top) g (subAsk a b) j) → Den q w (s .top) u (etvar (unknown k .x))
     unknown-den k = rw eu (rw (unknown k .is) at (one-den (side z) (askd pre k .left) (askd pre k .right)))
 
-    type-den : {j : Judgement} (k : Asks q w (s .top) g (subAsk a b) j) → Den q w (s .top) t (oneOf (side z) (askd pre k .B) (askd pre k .A))
+    type-den : {j : Judgement} (k : Asks q w (s .top) g (subAsk a b) j) → Den q w (s .top) t (onSide (side z) (askd pre k .B) (askd pre k .A))
     type-den k = rw et (one-den (side z) (askd pre k .right) (askd pre k .left))
 
     pub inst-first : JudgePre q w s g (instAsk (side z) u t)
@@ -148,7 +148,7 @@ module _ {q w : List ℕ} {s : State} {g : Span} {a b : ℕ} {z : program.Side} 
       pub inst-else : NotDone y → Fires m q w w₁ s g (subAsk a b) y
       inst-else nd = else-fires (λ j k. record { ts = leaf; so = begin; i = _; asks = asks₁ k; next = _; says = says m k }) call nd
 
-      pub inst-done : {r : Answer} {n : ℕ} {o : Step} → y ≡ Done r → n ≡ oneOf (side z) 28 29 → PlainOut (r .st) (r .g) 2048 n 1 o → Fires m q w w₁ s g (subAsk a b) o
+      pub inst-done : {r : Answer} {n : ℕ} {o : Step} → y ≡ Done r → n ≡ onSide (side z) 28 29 → PlainOut (r .st) (r .g) 2048 n 1 o → Fires m q w w₁ s g (subAsk a b) o
       unfolding children
       inst-done d en th = record {
         run = λ j k.

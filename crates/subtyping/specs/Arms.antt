@@ -22,9 +22,9 @@ use Rattle.subtyping.specs.declared.Arm.the-variants as arm
 -- ## By the side
 
 -- the one of the two that stands on it
-abbrev pub oneOf : {X : Type 0} → Side → X → X → X
-oneOf onL x y = x
-oneOf onR x y = y
+abbrev pub onSide : {X : Type 0} → Side → X → X → X
+onSide onL x y = x
+onSide onR x y = y
 
 -- SubAllL or SubAllR, SubInstL or SubInstR
 abbrev pub subAll : Side → Here → Judge → Ctx → Ty → TyVar × Ty → M Fired
@@ -57,7 +57,7 @@ pub data AlikeBy (A B : Ty) (n : ℕ) : Type 0 where
   by-rule : (R : Rule) → 22 ≤ n → n ≡ ruleNumber R → Comes A B (λ h judge Γ. closes R Γ) → AlikeBy A B n
   by-none : n ≡ 0 → NotAlike A B → AlikeBy A B n
 
-pub record Alike (q w : List ℕ) (t a b n : ℕ) : Type 0 where
+pub record AlikeTypes (q w : List ℕ) (t a b n : ℕ) : Type 0 where
   pub is : (A B : Ty) → Den q w t a A → Den q w t b B → AlikeBy A B n
 
 -- A is an unknown that does not occur in B
@@ -84,19 +84,19 @@ pub data ByUnknown (q w : List ℕ) (t a b : ℕ) : Arm → Type 0 where
   no-unknown : Absent q w t a b false → Absent q w t b a false → ByUnknown q w t a b arm.Neither
 
 -- the first arm that is there, with the types' parts that it asks for
-pub data Fits (A B : Ty) : Arm → Type 0 where
-  fits-refl : {n : ℕ} (R : Rule) → n ≡ ruleNumber R → Comes A B (λ h judge Γ. closes R Γ) → Fits A B (arm.Refl n)
-  fits-arr : {A₁ A₂ B₁ B₂ : Ty} → A ≡ arrow A₁ A₂ → B ≡ arrow B₁ B₂ → Comes A B (λ h judge Γ. subArr h judge Γ (A₁, A₂) (B₁, B₂)) → Fits A B arm.Arr
-  fits-all : {s : program.Side} {x : TyVar} {T : Ty} → oneOf (side s) A B ≡ forall x T
-      → Comes A B (λ h judge Γ. subAll (side s) h judge Γ (oneOf (side s) B A) (x, T)) → Fits A B (arm.All s)
-  fits-inst : {s : program.Side} {x : TyVar} → oneOf (side s) A B ≡ etvar x
-      → Comes A B (λ h judge Γ. subInst h judge (ruleInst (side s)) (side s) Γ (oneOf (side s) B A) x) → Fits A B (arm.Inst s)
-  fits-none : Comes A B (λ h judge Γ. refuse (subtypingError A B)) → Fits A B arm.Neither
+pub data ArmFits (A B : Ty) : Arm → Type 0 where
+  fits-refl : {n : ℕ} (R : Rule) → n ≡ ruleNumber R → Comes A B (λ h judge Γ. closes R Γ) → ArmFits A B (arm.Refl n)
+  fits-arr : {A₁ A₂ B₁ B₂ : Ty} → A ≡ arrow A₁ A₂ → B ≡ arrow B₁ B₂ → Comes A B (λ h judge Γ. subArr h judge Γ (A₁, A₂) (B₁, B₂)) → ArmFits A B arm.Arr
+  fits-all : {s : program.Side} {x : TyVar} {T : Ty} → onSide (side s) A B ≡ forall x T
+      → Comes A B (λ h judge Γ. subAll (side s) h judge Γ (onSide (side s) B A) (x, T)) → ArmFits A B (arm.All s)
+  fits-inst : {s : program.Side} {x : TyVar} → onSide (side s) A B ≡ etvar x
+      → Comes A B (λ h judge Γ. subInst h judge (ruleInst (side s)) (side s) Γ (onSide (side s) B A) x) → ArmFits A B (arm.Inst s)
+  fits-none : Comes A B (λ h judge Γ. refuse (subtypingError A B)) → ArmFits A B arm.Neither
 
-pub record Chosen (q w : List ℕ) (t a b : ℕ) (z : Arm) : Type 0 where
-  pub is : (A B : Ty) → Den q w t a A → Den q w t b B → Fits A B z
+pub record ArmChosen (q w : List ℕ) (t a b : ℕ) (z : Arm) : Type 0 where
+  pub is : (A B : Ty) → Den q w t a A → Den q w t b B → ArmFits A B z
 
 -- what the rule in an arm requires
 pub record ArmPre (q w : List ℕ) (s : State) (g : Span) (a b : ℕ) (z : Arm) : Type 0 where
   pub pre : RulePre q w s g (subAsk a b)
-  pub chosen : Chosen q w (s .top) a b z
+  pub chosen : ArmChosen q w (s .top) a b z

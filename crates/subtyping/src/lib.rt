@@ -16,7 +16,7 @@ ghost use mathlib.Core.Path.{_≡_};
 ghost use Rattle.judging.specs.Asking.{subAsk, JudgePre, RulePre};
 ghost use Rattle.judging.specs.Ending.{Judged, Fires};
 ghost use Rattle.rules.specs.Sides.{side};
-ghost use Rattle.subtyping.specs.Arms.{oneOf, BothHeld, Alike, Absent, Formed, ByUnknown, Chosen, ArmPre};
+ghost use Rattle.subtyping.specs.Arms.{onSide, BothHeld, AlikeTypes, Absent, Formed, ByUnknown, ArmChosen, ArmPre};
 ghost use Rattle.subtyping.specs.declared.Arm.the-variants as arm;
 
 // 000's arms: the same Int, Bool, Var or ETVar (with the rule's number), Arrows, a Forall on a side, an unknown on a side that does not
@@ -31,7 +31,7 @@ pub enum Arm {
 
 // The one of the two that stands on side s.
 fn one(s: Side, left: usize, right: usize) -> usize
-    ensures { λ n. ⌜ n ≡ oneOf (side s) left right ⌝ }
+    ensures { λ n. ⌜ n ≡ onSide (side s) left right ⌝ }
 {
     match s {
         Side::L => left,
@@ -42,7 +42,7 @@ fn one(s: Side, left: usize, right: usize) -> usize
 // SubRefl (22), SubReflTVar (23), SubReflETVar (24): the rule by which two types without parts are the same, or 0.
 fn alike(q: &[u32], work: &[u32], top: usize, a: usize, b: usize) -> usize
     requires { ⌜ BothHeld (now q) (now work) top a b ⌝ }
-    ensures { λ n. ⌜ Alike (now (q .entry)) (now (work .entry)) top a b n ⌝ }
+    ensures { λ n. ⌜ AlikeTypes (now (q .entry)) (now (work .entry)) top a b n ⌝ }
 {
     let k = types::tag(q, work, top, a);
     let m = types::tag(q, work, top, b);
@@ -114,7 +114,7 @@ fn by_unknown(q: &[u32], work: &[u32], top: usize, a: usize, b: usize) -> Arm
 // The first arm that is there, in 000's order.
 fn choose(q: &[u32], work: &[u32], top: usize, a: usize, b: usize) -> Arm
     requires { ⌜ BothHeld (now q) (now work) top a b ⌝ }
-    ensures { λ z. ⌜ Chosen (now (q .entry)) (now (work .entry)) top a b z ⌝ }
+    ensures { λ z. ⌜ ArmChosen (now (q .entry)) (now (work .entry)) top a b z ⌝ }
 {
     let rule = alike(q, work, top, a, b);
     if rule != 0 {

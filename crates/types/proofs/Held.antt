@@ -7,7 +7,7 @@ use Rattle.definition.specs.Syntax.{Ty}
 use Rattle.layout.specs.Denotes.{Den}
 use Rattle.layout.specs.Room.{Room}
 use Rattle.layout.specs.declared.State.{State}
-use Rattle.types.specs.Reading.{Held, HeldAs, HeldNamed, Tagged, rank, Part, LeftOf, RightOf, BodyOf}
+use Rattle.types.specs.Reading.{Held, HeldAs, HeldNamed, Tagged, rank, PartBelow, LeftOf, RightOf, BodyOf}
 use Rattle.types.proofs.Reading.{arrow-held, forall-held}
 
 -- ## In a run
@@ -31,7 +31,7 @@ module _ {q w : List ℕ} {t r : ℕ} where
 
   -- ## Parts: each is held, and ranks below its whole
 
-  part-below : {k n : ℕ} {A : Ty} → rank r ≡ n → Held q w t r → Part q w t r k A → (rank k < n) × Held q w t k
+  part-below : {k n : ℕ} {A : Ty} → rank r ≡ n → Held q w t r → PartBelow q w t r k A → (rank k < n) × Held q w t k
   part-below e h p = (omega (arith, p .less), held-by h (p .den))
 
   module _ {k n : ℕ} (e : rank r ≡ n) where

@@ -12,7 +12,7 @@ use Rattle.layout.specs.Denotes.{capped, Base, Den, written}
 use Rattle.layout.specs.declared.TyVar.{TyVar}
 use Rattle.layout.proofs.Places.{ty-code, ty-within}
 use Rattle.layout.proofs.Denotes.{den-written}
-use Rattle.types.specs.Reading.{Held, HeldAs, Tagged, Named, Part, LeftOf, RightOf, BodyOf, LengthOf, recordSize, RecordLength, WordsOf}
+use Rattle.types.specs.Reading.{Held, HeldAs, Tagged, Named, PartBelow, LeftOf, RightOf, BodyOf, LengthOf, recordSize, RecordLength, WordsOf}
 use Rattle.types.proofs.Codes.{arrow-case, forall-case, Naming, var-names, etvar-names, forall-names, sizes, two-words, leaf-size}
 use Rattle.types.proofs.Records.{made-record, made-length, made-name, made-left, made-right, made-body}
 
@@ -38,13 +38,13 @@ forall-held {q} {w} {t} {r} h =
 
 -- ## A type in the question
 
-written-left : {q w : List ℕ} {t r : ℕ} {A B : Ty} → TyAt q r (arrow A B) → Part q w t r (r + 1) A
+written-left : {q w : List ℕ} {t r : ℕ} {A B : Ty} → TyAt q r (arrow A B) → PartBelow q w t r (r + 1) A
 written-left (arrow-at c d e f) = record { den = written d; less = omega (arith, ty-code d .inside) }
 
-written-right : {q w : List ℕ} {t r : ℕ} {A B : Ty} → TyAt q r (arrow A B) → Part q w t r (r + 1 + size A) B
+written-right : {q w : List ℕ} {t r : ℕ} {A B : Ty} → TyAt q r (arrow A B) → PartBelow q w t r (r + 1 + size A) B
 written-right (arrow-at c d e f) = rw e (record { den = written f; less = omega (arith, ty-code f .inside) })
 
-written-body : {q w : List ℕ} {t r : ℕ} {a : syntax.TyVar} {A : Ty} → TyAt q r (forall a A) → Part q w t r (r + 2) A
+written-body : {q w : List ℕ} {t r : ℕ} {a : syntax.TyVar} {A : Ty} → TyAt q r (forall a A) → PartBelow q w t r (r + 2) A
 written-body (forall-at c n d) = record { den = written d; less = omega (arith, ty-code d .inside) }
 
 left-inside : {q : List ℕ} {r : ℕ} {A B : Ty} → TyAt q r (arrow A B) → r + 1 < 2048

@@ -9,7 +9,7 @@ use Rattle.definition.specs.Rules.{tyCode}
 use Rattle.layout.specs.Places.{size, TyAt}
 use Rattle.layout.specs.Denotes.{capped, MadeAt, Den, written, int-made, bool-made, etvar-made, arrow-made, forall-made}
 use Rattle.layout.proofs.Places.{ty-code}
-use Rattle.types.specs.Reading.{recordSize, Part}
+use Rattle.types.specs.Reading.{recordSize, PartBelow}
 use Rattle.types.proofs.Codes.{Naming, etvar-names, forall-names}
 
 -- a record of n words that begins with the code k stands at place i
@@ -50,17 +50,17 @@ module _ {q w : List ℕ} {t r : ℕ} (h : 2048 ≤ r) where
   made-name etvar-names (etvar-made m n) = rw (place-is m) n
   made-name forall-names (forall-made m y n g s d) = rw (place-is m) n
 
-  part-before : {m k : ℕ} {A : Ty} → k ≡ m → m < r → Den q w t m A → Part q w t r k A
+  part-before : {m k : ℕ} {A : Ty} → k ≡ m → m < r → Den q w t m A → PartBelow q w t r k A
   part-before e l d = rw e (record { den = d; less = omega arith })
 
-  pub made-left : {A B : Ty} → Den q w t r (arrow A B) → Part q w t r (getD w (r - 2048 + 1) 0) A
+  pub made-left : {A B : Ty} → Den q w t r (arrow A B) → PartBelow q w t r (getD w (r - 2048 + 1) 0) A
   made-left (written d) = absurd (not-written h d)
   made-left (arrow-made m x y f g s d e) = rw (place-is m) (part-before f x d)
 
-  pub made-right : {A B : Ty} → Den q w t r (arrow A B) → Part q w t r (getD w (r - 2048 + 2) 0) B
+  pub made-right : {A B : Ty} → Den q w t r (arrow A B) → PartBelow q w t r (getD w (r - 2048 + 2) 0) B
   made-right (written d) = absurd (not-written h d)
   made-right (arrow-made m x y f g s d e) = rw (place-is m) (part-before g y e)
 
-  pub made-body : {a : TyVar} {A : Ty} → Den q w t r (forall a A) → Part q w t r (getD w (r - 2048 + 2) 0) A
+  pub made-body : {a : TyVar} {A : Ty} → Den q w t r (forall a A) → PartBelow q w t r (getD w (r - 2048 + 2) 0) A
   made-body (written d) = absurd (not-written h d)
   made-body (forall-made m y n g s d) = rw (place-is m) (part-before g y d)

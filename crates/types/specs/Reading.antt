@@ -49,18 +49,18 @@ abbrev pub rank : ℕ → ℕ
 rank r = (2048 - r) + 4096 * (r - 2047)
 
 -- k denotes A, a part of what r denotes
-pub record Part (q w : List ℕ) (t r k : ℕ) (A : Ty) : Type 0 where
+pub record PartBelow (q w : List ℕ) (t r k : ℕ) (A : Ty) : Type 0 where
   pub den : Den q w t k A
   pub less : rank k < rank r
 
 pub record LeftOf (q w : List ℕ) (t r k : ℕ) : Type 0 where
-  pub is : (A B : Ty) → Den q w t r (arrow A B) → Part q w t r k A
+  pub is : (A B : Ty) → Den q w t r (arrow A B) → PartBelow q w t r k A
 
 pub record RightOf (q w : List ℕ) (t r k : ℕ) : Type 0 where
-  pub is : (A B : Ty) → Den q w t r (arrow A B) → Part q w t r k B
+  pub is : (A B : Ty) → Den q w t r (arrow A B) → PartBelow q w t r k B
 
 pub record BodyOf (q w : List ℕ) (t r k : ℕ) : Type 0 where
-  pub is : (a : syntax.TyVar) (A : Ty) → Den q w t r (forall a A) → Part q w t r k A
+  pub is : (a : syntax.TyVar) (A : Ty) → Den q w t r (forall a A) → PartBelow q w t r k A
 
 -- ## Lengths and words
 

@@ -12,7 +12,7 @@ use Rattle.layout.specs.declared.Span.{Span}
 use Rattle.layout.proofs.Words.{keep-refl}
 use Rattle.writing.specs.declared.Known.{Known}
 use Rattle.writing.specs.declared.Standing.{Standing}
-use Rattle.writing.specs.Spelling.{Section, Room, Writable, Writes}
+use Rattle.writing.specs.Spelling.{AfterCount, RoomAt, Writable, Writes}
 use Rattle.writing.specs.Contexts.{OfContext}
 use Rattle.writing.specs.After.{Measures, Stands, WritesAfter}
 use Rattle.writing.proofs.Placing.{keep-sets, sets-read, put-same}
@@ -56,21 +56,21 @@ module _ {q w : List ℕ} {t : ℕ} {k : Standing} where
       stands-keep (omega (arith, a .next)) (rw (sym (a .is)) at (keep-sets ws s p z (a .next))) x
 
 -- a section stands where it was written
-pub stands-written : {q w : List ℕ} {t : ℕ} {g : Span} {s s′ : List ℕ} {p z : ℕ} → Writable q w t (Section (OfContext q w t g)) s p
-    → Writes (Section (OfContext q w t g)) s s′ p z → Stands q w t s′ z (record { g = g; at = p; end = z })
+pub stands-written : {q w : List ℕ} {t : ℕ} {g : Span} {s s′ : List ℕ} {p z : ℕ} → Writable q w t (AfterCount (OfContext q w t g)) s p
+    → Writes (AfterCount (OfContext q w t g)) s s′ p z → Stands q w t s′ z (record { g = g; at = p; end = z })
 stands-written {s = s} {p = p} v u =
     let a = u .past _ (v .spelled .says) (v .room) in
     record {
       below = (omega (arith, a .next), omega arith);
       reads = λ ws y r.
-          let o : Room s p ws = record { room = omega (arith, r .room, past-length a); small = r .small } in
+          let o : RoomAt s p ws = record { room = omega (arith, r .room, past-length a); small = r .small } in
           let b = u .past ws y o in
           record { end-is = b .next; same = λ i j. ap (λ (x : List ℕ). getD x (p + i) 0) (b .is) ∙ sets-read ws s p (o .room) i j };
     }
 
 -- ## Copied, or written
 
-module _ {q w : List ℕ} {t : ℕ} {g : Span} {s : List ℕ} {p : ℕ} {k : Standing} (v : Writable q w t (Section (OfContext q w t g)) s p) where
+module _ {q w : List ℕ} {t : ℕ} {g : Span} {s : List ℕ} {p : ℕ} {k : Standing} (v : Writable q w t (AfterCount (OfContext q w t g)) s p) where
   pub after-room : g ≡ k .g → Stands q w t s p k → (p + (k .end - k .at) ≤ length s) × (p + (k .end - k .at) ≤ 4294967295)
   after-room e x =
       let a = x .reads _ (rw e at (v .spelled .says)) (record { room = omega (arith, v .room .room, x .below); small = omega (arith, v .room .small, x .below) }) in
@@ -80,7 +80,7 @@ module _ {q w : List ℕ} {t : ℕ} {g : Span} {s : List ℕ} {p : ℕ} {k : Sta
       → WritesAfter q w t g s s′ p (record { g = g; at = p; end = p + (k .end - k .at) })
   after-copied {s′} e x c = record { span = refl; place = refl; writes = writes; stands = stands-written v writes }
     where
-      writes : Writes (Section (OfContext q w t g)) s s′ p (p + (k .end - k .at))
+      writes : Writes (AfterCount (OfContext q w t g)) s s′ p (p + (k .end - k .at))
       writes = record {
         past = λ ws y r.
             let a = x .reads ws (rw e at y) (record { room = omega (arith, r .room, x .below); small = omega (arith, r .small, x .below) }) in
@@ -90,8 +90,8 @@ module _ {q w : List ℕ} {t : ℕ} {g : Span} {s : List ℕ} {p : ℕ} {k : Sta
             };
       }
 
-pub after-written : {q w : List ℕ} {t : ℕ} {g : Span} {s s′ : List ℕ} {p z : ℕ} → Writable q w t (Section (OfContext q w t g)) s p
-    → Writes (Section (OfContext q w t g)) s s′ p z → WritesAfter q w t g s s′ p (record { g = g; at = p; end = z })
+pub after-written : {q w : List ℕ} {t : ℕ} {g : Span} {s s′ : List ℕ} {p z : ℕ} → Writable q w t (AfterCount (OfContext q w t g)) s p
+    → Writes (AfterCount (OfContext q w t g)) s s′ p z → WritesAfter q w t g s s′ p (record { g = g; at = p; end = z })
 after-written v u = record { span = refl; place = refl; writes = u; stands = stands-written v u }
 
 pub measures-same : {q w : List ℕ} {t : ℕ} {g : Span} {k : Known} → g ≡ k .g → Measures q w t (k .g) k → Measures q w t g k

@@ -9,7 +9,7 @@ use lib.Seq.{length-take-le, take-suc, take-all, sets, length-sets}
 use Rattle.layout.proofs.Denotes.{den-written}
 use Rattle.types.specs.Reading.{Tagged, WordsOf}
 use Rattle.types.proofs.Words.{ty-words}
-use Rattle.writing.specs.Spelling.{Room, Past, Writes}
+use Rattle.writing.specs.Spelling.{RoomAt, PutWords, Writes}
 use Rattle.writing.specs.Types.{OfType}
 use Rattle.writing.proofs.Placing.{sets-append}
 use Rattle.writing.proofs.Steps.{base-words}
@@ -17,7 +17,7 @@ use Rattle.writing.proofs.Steps.{base-words}
 -- ## Int and Bool
 
 module _ {q w : List ℕ} {t r k : ℕ} (c : Tagged q w t r k) (h : k < 3) where
-  pub base-room : {s : List ℕ} {p : ℕ} {ws : List ℕ} → OfType q w t r ws → Room s p ws → p < length s
+  pub base-room : {s : List ℕ} {p : ℕ} {ws : List ℕ} → OfType q w t r ws → RoomAt s p ws → p < length s
   base-room x o = omega (arith, o .room, ap length (x .is ∙ base-words c h (x .it) (x .stands)))
 
   pub writes-base : {s s′ : List ℕ} {p : ℕ} → s′ ≡ set s p k → Writes (OfType q w t r) s s′ p (p + 1)
@@ -49,7 +49,7 @@ module _ {src s₀ s : List ℕ} {at i : ℕ} (c : PutFirst src s₀ s at i) whe
         some = omega arith;
       }
 
-  pub first-all : length src ≤ i → Past s₀ s at src (at + length src)
+  pub first-all : length src ≤ i → PutWords s₀ s at src (at + length src)
   first-all l = record { is = c .is ∙ ap (λ (x : List ℕ). sets s₀ at x) (take-all i src l); next = refl }
 
 -- ## A type in the question
@@ -59,8 +59,8 @@ module _ {q w : List ℕ} {t r : ℕ} {vs : List ℕ} (l : WordsOf q w t r vs) (
   words-are : {ws : List ℕ} → OfType q w t r ws → vs ≡ ws
   words-are x = l .in-question h (x .it) (x .stands) ∙ ty-words (den-written h (x .stands)) ∙ sym (x .is)
 
-  pub copy-room : {s : List ℕ} {p : ℕ} {ws : List ℕ} → OfType q w t r ws → Room s p ws → p + length vs ≤ length s
+  pub copy-room : {s : List ℕ} {p : ℕ} {ws : List ℕ} → OfType q w t r ws → RoomAt s p ws → p + length vs ≤ length s
   copy-room x o = omega (arith, ap length (words-are x), o .room)
 
-  pub writes-copied : {s s′ : List ℕ} {p z : ℕ} → Past s s′ p vs z → Writes (OfType q w t r) s s′ p z
+  pub writes-copied : {s s′ : List ℕ} {p z : ℕ} → PutWords s s′ p vs z → Writes (OfType q w t r) s s′ p z
   writes-copied c = record { past = λ ws x o. rw (words-are x) at c }

@@ -7,27 +7,27 @@ use native.Mathlib.Omega.{arith}
 use lib.ListN.{length, set, length-set, length-append}
 use lib.Seq.{sets, length-sets}
 use Rattle.definition.specs.Syntax.{section}
-use Rattle.writing.specs.Spelling.{Just, _Then_, Section, If, Long, Spelled, Room, Past, Writable, Writes}
+use Rattle.writing.specs.Spelling.{Just, _Then_, AfterCount, OrNone, Long, Spelled, RoomAt, PutWords, Writable, Writes}
 use Rattle.writing.proofs.Placing.{sets-append, sets-cons, set-before}
 
 -- ## Words at a place
 
-pub past-none : (s : List ℕ) (p : ℕ) → Past s s p [] p
+pub past-none : (s : List ℕ) (p : ℕ) → PutWords s s p [] p
 past-none s p = record { is = refl; next = omega arith }
 
-pub past-length : {s s′ : List ℕ} {p z : ℕ} {ws : List ℕ} → Past s s′ p ws z → length s′ ≡ length s
+pub past-length : {s s′ : List ℕ} {p z : ℕ} {ws : List ℕ} → PutWords s s′ p ws z → length s′ ≡ length s
 past-length {s} {p = p} {ws = ws} k = ap length (k .is) ∙ length-sets s p ws
 
-past-append : {s s′ s″ : List ℕ} {p z y : ℕ} {us vs : List ℕ} → Past s s′ p us z → Past s′ s″ z vs y → Past s s″ p (us ++ vs) y
+past-append : {s s′ s″ : List ℕ} {p z y : ℕ} {us vs : List ℕ} → PutWords s s′ p us z → PutWords s′ s″ z vs y → PutWords s s″ p (us ++ vs) y
 past-append {s} {p = p} {z = z} {us = us} {vs = vs} a b = record {
   is = b .is ∙ ap (λ (x : List ℕ). sets x z vs) (a .is) ∙ sym (sets-append us vs s p (a .next));
   next = omega (arith, a .next, b .next, length-append us vs);
 }
 
-room-first : {s : List ℕ} {p : ℕ} (us vs : List ℕ) → Room s p (us ++ vs) → Room s p us
+room-first : {s : List ℕ} {p : ℕ} (us vs : List ℕ) → RoomAt s p (us ++ vs) → RoomAt s p us
 room-first us vs r = record { room = omega (arith, r .room, length-append us vs); small = omega (arith, r .small, length-append us vs) }
 
-room-next : {s s′ : List ℕ} {p z : ℕ} (us vs : List ℕ) → Room s p (us ++ vs) → Past s s′ p us z → Room s′ z vs
+room-next : {s s′ : List ℕ} {p z : ℕ} (us vs : List ℕ) → RoomAt s p (us ++ vs) → PutWords s s′ p us z → RoomAt s′ z vs
 room-next us vs r k = record {
   room = omega (arith, r .room, k .next, past-length k, length-append us vs);
   small = omega (arith, r .small, k .next, length-append us vs);
@@ -79,7 +79,7 @@ module _ {S S′ : List ℕ → Type 0} where
   pub writes-then : {s s′ s″ : List ℕ} {p z y : ℕ} → Writes S s s′ p z → Writes S′ s′ s″ z y → Writes (S Then S′) s s″ p y
   writes-then {s} {s″ = s″} {p = p} {y = y} k l = record { past = λ ws x r. go ws x (rw (x .is) at r) }
     where
-      go : (ws : List ℕ) (x : (S Then S′) ws) → Room s p (x .us ++ x .vs) → Past s s″ p ws y
+      go : (ws : List ℕ) (x : (S Then S′) ws) → RoomAt s p (x .us ++ x .vs) → PutWords s s″ p ws y
       go ws x r =
           let a = k .past (x .us) (x .first) (room-first (x .us) (x .vs) r) in
           rw (x .is) (past-append a (l .past (x .vs) (x .second) (room-next (x .us) (x .vs) r a)))
@@ -97,7 +97,7 @@ module _ {S S′ : List ℕ → Type 0} where
 
 -- ## A section: its words are written past the place of their count, and then the count
 
-pub writable-inner : {S : List ℕ → Type 0} {q w : List ℕ} {t : ℕ} {s : List ℕ} {p : ℕ} → Writable q w t (Section S) s p → Writable q w t S s (p + 1)
+pub writable-inner : {S : List ℕ → Type 0} {q w : List ℕ} {t : ℕ} {s : List ℕ} {p : ℕ} → Writable q w t (AfterCount S) s p → Writable q w t S s (p + 1)
 unfolding section
 writable-inner x = let y = x .spelled .says in record {
   spelled = record { ground = x .spelled .ground; words = y .inner; says = y .spelled };
@@ -111,7 +111,7 @@ pub record Counted (s s₁ : List ℕ) (p z : ℕ) : Type 0 where
   pub place : p < length s₁
   pub small : z ≤ 4294967295
 
-pub counted : {S : List ℕ → Type 0} {q w : List ℕ} {t : ℕ} {s s₁ : List ℕ} {p z : ℕ} → Writable q w t (Section S) s p → Writes S s s₁ (p + 1) z
+pub counted : {S : List ℕ → Type 0} {q w : List ℕ} {t : ℕ} {s s₁ : List ℕ} {p z : ℕ} → Writable q w t (AfterCount S) s p → Writes S s s₁ (p + 1) z
     → Counted s s₁ p z
 unfolding writable-inner
 counted x k =
@@ -124,7 +124,7 @@ counted x k =
       small = omega (arith, a .next, y .room .small);
     }
 
-section-past : {s s₁ s′ : List ℕ} {p z : ℕ} {ws : List ℕ} → Past s s₁ (p + 1) ws z → s′ ≡ set s₁ p (z - (p + 1)) → Past s s′ p (section ws) z
+section-past : {s s₁ s′ : List ℕ} {p z : ℕ} {ws : List ℕ} → PutWords s s₁ (p + 1) ws z → s′ ≡ set s₁ p (z - (p + 1)) → PutWords s s′ p (section ws) z
 unfolding section
 section-past {s} {p = p} {z = z} {ws = ws} k e =
     let n : z - (p + 1) ≡ length ws = omega (arith, k .next) in
@@ -132,7 +132,7 @@ section-past {s} {p = p} {z = z} {ws = ws} k e =
     record { is = rw n at (sets-cons s p (z - (p + 1)) (p + 1) ws refl refl f); next = omega (arith, k .next) }
 
 pub writes-section : {S : List ℕ → Type 0} {s s₁ s′ : List ℕ} {p z : ℕ} → Writes S s s₁ (p + 1) z → s′ ≡ set s₁ p (z - (p + 1))
-    → Writes (Section S) s s′ p z
+    → Writes (AfterCount S) s s′ p z
 unfolding section
 writes-section k e = record {
   past = λ ws x r.
@@ -143,36 +143,36 @@ writes-section k e = record {
       e);
 }
 
-pub spelled-inner : {S : List ℕ → Type 0} {q w : List ℕ} {t : ℕ} → Spelled q w t (Section S) → Spelled q w t S
+pub spelled-inner : {S : List ℕ → Type 0} {q w : List ℕ} {t : ℕ} → Spelled q w t (AfterCount S) → Spelled q w t S
 spelled-inner x = record { ground = x .ground; words = x .says .inner; says = x .says .spelled }
 
 -- a length that stops at 2 ^ 32, from one that stops there or one before
-pub long-section : {S : List ℕ → Type 0} {limit n k : ℕ} → Long limit S n → 2 ^ 32 ≤ limit + 1 → k ≡ min (1 + n) (2 ^ 32) → Long (2 ^ 32) (Section S) k
+pub long-section : {S : List ℕ → Type 0} {limit n k : ℕ} → Long limit S n → 2 ^ 32 ≤ limit + 1 → k ≡ min (1 + n) (2 ^ 32) → Long (2 ^ 32) (AfterCount S) k
 unfolding section
 long-section f l e = record { is = λ ws x. omega (arith, ap length (x .is), f .is (x .inner) (x .spelled)) }
 
 -- ## Words or none
 
 module _ {S : List ℕ → Type 0} where
-  pub if-filled : (ws : List ℕ) → S ws → If true S ws
+  pub if-filled : (ws : List ℕ) → S ws → OrNone true S ws
   if-filled ws x = record { filled = λ e. x; unused = λ e. absurd (true≢false e) }
 
-  pub if-unused : If false S []
+  pub if-unused : OrNone false S []
   if-unused = record { filled = λ e. absurd (false≢true e); unused = λ e. refl }
 
   module _ {b : Bool} (e : b ≡ true) where
-    pub then-filled : (ws : List ℕ) → If b S ws → S ws
+    pub then-filled : (ws : List ℕ) → OrNone b S ws → S ws
     then-filled ws x = x .filled e
 
-  pub writes-unused : {b : Bool} (s : List ℕ) (p : ℕ) → b ≡ false → Writes (If b S) s s p p
+  pub writes-unused : {b : Bool} (s : List ℕ) (p : ℕ) → b ≡ false → Writes (OrNone b S) s s p p
   writes-unused s p e = record { past = λ ws x r. rw (x .unused e) (past-none s p) }
 
-  pub long-unused : {b : Bool} (limit : ℕ) → b ≡ false → Long limit (If b S) 0
+  pub long-unused : {b : Bool} (limit : ℕ) → b ≡ false → Long limit (OrNone b S) 0
   long-unused limit e = record { is = λ ws x. omega (arith, ap length (x .unused e)) }
 
 -- ## Words that are known
 
-pub just-room : {q w : List ℕ} {t : ℕ} {vs s : List ℕ} {p : ℕ} → Writable q w t (Just vs) s p → Room s p vs
+pub just-room : {q w : List ℕ} {t : ℕ} {vs s : List ℕ} {p : ℕ} → Writable q w t (Just vs) s p → RoomAt s p vs
 just-room x = rw (x .spelled .says .is) at (x .room)
 
 pub writes-none : (s : List ℕ) (p : ℕ) → Writes (Just []) s s p p
@@ -183,7 +183,7 @@ writes-word {s} {s₁} {s′} {vs} {p} {m} {z} {a} e f k = record {
   past = λ ws x r. go ws (x .is) (record { room = omega (arith, r .room, ap length (x .is), ap length e, length-set s p a); small = omega (arith, r .small, ap length (x .is)) });
 }
   where
-    go : (ws : List ℕ) → ws ≡ a ∷ vs → Room s₁ m vs → Past s s′ p ws z
+    go : (ws : List ℕ) → ws ≡ a ∷ vs → RoomAt s₁ m vs → PutWords s s′ p ws z
     go ws g r =
         let y = k .past vs (record { is = refl }) r in
         rw g

@@ -13,7 +13,7 @@ use Rattle.layout.specs.Denotes.{Den}
 use Rattle.layout.proofs.Words.{keep-trans, keep-less, keep-set}
 use Rattle.layout.proofs.Places.{size-is, size-some}
 use Rattle.types.specs.Reading.{Held, LengthOf}
-use Rattle.writing.specs.Spelling.{Long, Ground, Spelled, Room, Writes}
+use Rattle.writing.specs.Spelling.{Long, Ground, Spelled, RoomAt, Writes}
 use Rattle.writing.specs.Types.{OfType, Waiting, Waits, no-more, more, Stepped, Steps}
 use Rattle.writing.specs.declared.Pen.{Pen}
 use Rattle.writing.proofs.Placing.{sets-append, keep-sets, keep-both, keep-same}
@@ -76,7 +76,7 @@ going-end {s₀ = s₀} {at = at} {end = end} {ws = ws} {p = p} g l =
     sym (rw e (keep-same (rw p-end at (g .keep))))
 
 -- the reference that is taken next
-pub record Next (q w : List ℕ) (t : ℕ) (s : List ℕ) (end : ℕ) (rest : List ℕ) (p low : ℕ) : Type 0 where
+pub record TakenNext (q w : List ℕ) (t : ℕ) (s : List ℕ) (end : ℕ) (rest : List ℕ) (p low : ℕ) : Type 0 where
   pub T : Ty
   pub vs : List ℕ
   pub den : Den q w t (getD s low 0) T
@@ -85,10 +85,10 @@ pub record Next (q w : List ℕ) (t : ℕ) (s : List ℕ) (end : ℕ) (rest : Li
   pub room : p + size T ≤ low + 1
 
 going-next : {q w : List ℕ} {t : ℕ} {s₀ s : List ℕ} {at end : ℕ} {ws : List ℕ} {p low : ℕ} (g : Going q w t s₀ s at end ws p low) → low < end
-    → Next q w t s end (g .rest) p low
+    → TakenNext q w t s end (g .rest) p low
 going-next {q} {w} {t} {s₀} {s} {at} {end} {ws} {p} {low} g l = go (g .rest) (g .is) (g .waits)
   where
-    go : (rest : List ℕ) → ws ≡ g .done ++ rest → Waits q w t s low end rest → Next q w t s end rest p low
+    go : (rest : List ℕ) → ws ≡ g .done ++ rest → Waits q w t s low end rest → TakenNext q w t s end rest p low
     go rest i (no-more e) = absurd (omega arith)
     go rest i (more {T = T} {vs = vs} d k e) = record {
       T = T;
@@ -103,7 +103,7 @@ regroup : (a b c d : List ℕ) → a ++ ((b ++ c) ++ d) ≡ (a ++ b) ++ (c ++ d)
 regroup a b c d = simp append-assoc
 
 going-step : {q w : List ℕ} {t : ℕ} {s₀ s s′ : List ℕ} {at end : ℕ} {ws : List ℕ} {p low : ℕ} {z : Pen} (g : Going q w t s₀ s at end ws p low)
-    (n : Next q w t s end (g .rest) p low) → Stepped q w t s s′ p low (n .T) z → Going q w t s₀ s′ at end ws (z .at) (z .low)
+    (n : TakenNext q w t s end (g .rest) p low) → Stepped q w t s s′ p low (n .T) z → Going q w t s₀ s′ at end ws (z .at) (z .low)
 going-step {s₀ = s₀} {s = s} {s′ = s′} {at = at} {end = end} {ws = ws} {p = p} {low = low} {z = z} g n k =
     let low-end : low + 1 ≤ end = waits-room (n .waits) .0 in
     let next : p + length (k .head) ≤ low + 1 =
@@ -136,7 +136,7 @@ long-type l = record { is = λ ws x. omega (arith, l .is (x .it) (x .stands), si
 -- the loop's invariant, for every slice that differs from the one at its start in the type's own place alone
 abbrev pub Writing : List ℕ → List ℕ → ℕ → ℕ → ℕ → ℕ → List ℕ → List ℕ → ℕ → ℕ → Type 0
 Writing q w t r p end s₀ s′ pen low =
-    (s ws : List ℕ) → Keep p end s s₀ → OfType q w t r ws → Room s p ws → Going q w t s s′ p end ws pen low
+    (s ws : List ℕ) → Keep p end s s₀ → OfType q w t r ws → RoomAt s p ws → Going q w t s s′ p end ws pen low
 
 pub writing-again : {q w : List ℕ} {t r p end pen low : ℕ} {s₀ s s′ : List ℕ} {z : Pen} → Writing q w t r p end s₀ s pen low → low < end
     → Steps q w t s s′ pen low z → Writing q w t r p end s₀ s′ (z .at) (z .low)
@@ -160,7 +160,7 @@ going-waiting {p = p} {s₀ = s₀} b g l =
 
 -- where its words have room, a type's length is exact, and its reference can wait at its far end
 module _ {q w : List ℕ} {t r n : ℕ} (l : LengthOf q w t r n) where
-  pub far-end : {s : List ℕ} {p : ℕ} {ws : List ℕ} → OfType q w t r ws → Room s p ws
+  pub far-end : {s : List ℕ} {p : ℕ} {ws : List ℕ} → OfType q w t r ws → RoomAt s p ws
       → (n ≡ length ws) × (1 ≤ p + n) × (p ≤ p + n - 1) × (p + n - 1 < length s)
   far-end x o =
       let e = long-type l .is _ x in
@@ -176,7 +176,7 @@ module _ {q w : List ℕ} {t r n : ℕ} (l : LengthOf q w t r n) where
       going-first k (omega (arith, f .0, o .room)) (omega (arith, f .0)) (omega (arith, f .1)) (x .is) d
 
   module _ (s : List ℕ) {s₀ s′ : List ℕ} {p pen low : ℕ} (e : s₀ ≡ set s (p + n - 1) r) (i : Writing q w t r p (p + n) s₀ s′ pen low) where
-    pub writing-now : {ws : List ℕ} → OfType q w t r ws → Room s p ws → Going q w t s s′ p (p + n) ws pen low
+    pub writing-now : {ws : List ℕ} → OfType q w t r ws → RoomAt s p ws → Going q w t s s′ p (p + n) ws pen low
     writing-now x o =
         let f = far-end x o in
         i s _ (rw e (keep-set p (p + n) s (p + n - 1) r (f .2) (omega (arith, f .1)))) x o

@@ -33,13 +33,13 @@ pub record _Then_ (S S′ : List ℕ → Type 0) (ws : List ℕ) : Type 0 where
   pub is : ws ≡ us ++ vs
 
 -- a section: words after their count
-pub record Section (S : List ℕ → Type 0) (ws : List ℕ) : Type 0 where
+pub record AfterCount (S : List ℕ → Type 0) (ws : List ℕ) : Type 0 where
   pub inner : List ℕ
   pub spelled : S inner
   pub is : ws ≡ section inner
 
 -- words or none
-pub record If (b : Bool) (S : List ℕ → Type 0) (ws : List ℕ) : Type 0 where
+pub record OrNone (b : Bool) (S : List ℕ → Type 0) (ws : List ℕ) : Type 0 where
   pub filled : b ≡ true → S ws
   pub unused : b ≡ false → ws ≡ []
 
@@ -61,18 +61,18 @@ pub record Spelled (q w : List ℕ) (t : ℕ) (S : List ℕ → Type 0) : Type 0
 
 -- ## Writing at a place of the report slice
 
-pub record Room (s : List ℕ) (p : ℕ) (ws : List ℕ) : Type 0 where
+pub record RoomAt (s : List ℕ) (p : ℕ) (ws : List ℕ) : Type 0 where
   pub room : p + length ws ≤ length s
   pub small : p + length ws ≤ 4294967295
 
 -- the words were put at p, nothing else changed, and z is the place past them
-pub record Past (s s′ : List ℕ) (p : ℕ) (ws : List ℕ) (z : ℕ) : Type 0 where
+pub record PutWords (s s′ : List ℕ) (p : ℕ) (ws : List ℕ) (z : ℕ) : Type 0 where
   pub is : s′ ≡ sets s p ws
   pub next : z ≡ p + length ws
 
 pub record Writable (q w : List ℕ) (t : ℕ) (S : List ℕ → Type 0) (s : List ℕ) (p : ℕ) : Type 0 where
   pub spelled : Spelled q w t S
-  pub room : Room s p (spelled .words)
+  pub room : RoomAt s p (spelled .words)
 
 pub record Writes (S : List ℕ → Type 0) (s s′ : List ℕ) (p z : ℕ) : Type 0 where
-  pub past : (ws : List ℕ) → S ws → Room s p ws → Past s s′ p ws z
+  pub past : (ws : List ℕ) → S ws → RoomAt s p ws → PutWords s s′ p ws z

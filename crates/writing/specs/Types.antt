@@ -9,7 +9,7 @@ use Rattle.definition.specs.Syntax.{Ty, tyWords}
 use Rattle.layout.specs.Places.{size}
 use Rattle.layout.specs.Words.{Keep}
 use Rattle.layout.specs.Denotes.{Den}
-use Rattle.writing.specs.Spelling.{Spells, If, Ground}
+use Rattle.writing.specs.Spelling.{Spells, OrNone, Ground}
 use Rattle.writing.specs.declared.Pen.{Pen}
 
 abbrev pub OfType : List ℕ → List ℕ → ℕ → ℕ → List ℕ → Type 0
@@ -17,7 +17,7 @@ OfType q w t r = Spells (Den q w t r) tyWords
 
 -- a type, or a part that is not used
 abbrev pub OfPart : List ℕ → List ℕ → ℕ → Bool → ℕ → List ℕ → Type 0
-OfPart q w t b r = If b (OfType q w t r)
+OfPart q w t b r = OrNone b (OfType q w t r)
 
 -- references wait in s from low to end for the types whose words are ws
 pub data Waits (q w : List ℕ) (t : ℕ) (s : List ℕ) : ℕ → ℕ → List ℕ → Type 0 where

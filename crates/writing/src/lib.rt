@@ -16,7 +16,7 @@ ghost use mathlib.Core.Bool.{_&&_};
 ghost use Prim.Native.Nat.{_+_, _≤_, _^_, min};
 ghost use lib.Dec.{eqb};
 ghost use lib.ListN.{length};
-ghost use Rattle.writing.specs.Spelling.{Section, Long, Spelled, Past, Writable, Writes};
+ghost use Rattle.writing.specs.Spelling.{AfterCount, Long, Spelled, PutWords, Writable, Writes};
 ghost use Rattle.writing.specs.Types.{OfType, OfPart, Waiting, Steps};
 ghost use Rattle.writing.specs.Contexts.{holdsType, OfEntry, OfContext};
 ghost use Rattle.writing.specs.After.{Measures, Stands, WritesAfter};
@@ -93,7 +93,7 @@ fn walk_type(q: &[u32], work: &[u32], top: usize, r: usize, report: &mut [u32], 
 // Writes the words of a slice as they are.
 fn copy_words(src: &[u32], report: &mut [u32], at: usize) -> usize
     requires { ⌜ at + length (now src) ≤ length (now report) ⌝ }
-    ensures { λ z. ⌜ Past (now (report .entry)) (now (report .exit)) at (now (src .entry)) z ⌝ }
+    ensures { λ z. ⌜ PutWords (now (report .entry)) (now (report .exit)) at (now (src .entry)) z ⌝ }
 {
     let n = src.len();
     let mut i = 0;
@@ -176,8 +176,8 @@ fn write_part<'a>(
 
 // How long a type's section is.
 pub fn section_length(q: &[u32], work: &[u32], top: usize, filled: bool, r: usize) -> usize
-    requires { ⌜ Spelled (now q) (now work) top (Section (OfPart (now q) (now work) top filled r)) ⌝ }
-    ensures { λ n. ⌜ Long (2 ^ 32) (Section (OfPart (now (q .entry)) (now (work .entry)) top filled r)) n ⌝ }
+    requires { ⌜ Spelled (now q) (now work) top (AfterCount (OfPart (now q) (now work) top filled r)) ⌝ }
+    ensures { λ n. ⌜ Long (2 ^ 32) (AfterCount (OfPart (now (q .entry)) (now (work .entry)) top filled r)) n ⌝ }
 {
     let n = part_length(q, work, top, filled, r);
     sum(1, n)
@@ -193,8 +193,8 @@ pub fn write_section<'a>(
     report: &mut [u32],
     at: usize,
 ) -> usize
-    requires { ⌜ Writable (now q) (now work) top (Section (OfPart (now q) (now work) top filled r)) (now report) at ⌝ }
-    ensures { λ z. ⌜ Writes (Section (OfPart (now (q .entry)) (now (work .entry)) top filled r)) (now (report .entry)) (now (report .exit)) at z ⌝ }
+    requires { ⌜ Writable (now q) (now work) top (AfterCount (OfPart (now q) (now work) top filled r)) (now report) at ⌝ }
+    ensures { λ z. ⌜ Writes (AfterCount (OfPart (now (q .entry)) (now (work .entry)) top filled r)) (now (report .entry)) (now (report .exit)) at z ⌝ }
 {
     let first = at + 1;
     let next = write_part(q, work, top, filled, r, report, first);
@@ -251,8 +251,8 @@ fn write_entry<'a>(
 
 // How long a context's section is.
 pub fn context_length(q: &[u32], work: &[u32], top: usize, g: Span) -> usize
-    requires { ⌜ Spelled (now q) (now work) top (Section (OfContext (now q) (now work) top g)) ⌝ }
-    ensures { λ n. ⌜ Long (2 ^ 32) (Section (OfContext (now (q .entry)) (now (work .entry)) top g)) n ⌝ }
+    requires { ⌜ Spelled (now q) (now work) top (AfterCount (OfContext (now q) (now work) top g)) ⌝ }
+    ensures { λ n. ⌜ Long (2 ^ 32) (AfterCount (OfContext (now (q .entry)) (now (work .entry)) top g)) n ⌝ }
 {
     let mut total: usize = 0;
     let mut i = g.at;
@@ -275,8 +275,8 @@ pub fn write_context<'a>(
     report: &mut [u32],
     at: usize,
 ) -> usize
-    requires { ⌜ Writable (now q) (now work) top (Section (OfContext (now q) (now work) top g)) (now report) at ⌝ }
-    ensures { λ z. ⌜ Writes (Section (OfContext (now (q .entry)) (now (work .entry)) top g)) (now (report .entry)) (now (report .exit)) at z ⌝ }
+    requires { ⌜ Writable (now q) (now work) top (AfterCount (OfContext (now q) (now work) top g)) (now report) at ⌝ }
+    ensures { λ z. ⌜ Writes (AfterCount (OfContext (now (q .entry)) (now (work .entry)) top g)) (now (report .entry)) (now (report .exit)) at z ⌝ }
 {
     let first = at + 1;
     let mut next = first;
@@ -317,7 +317,7 @@ fn same(g: Span, h: Span) -> bool
 
 // How long a context's section is, after another: most nodes have the context of the node before.
 pub fn length_after(q: &[u32], work: &[u32], top: usize, g: Span, last: Known) -> Known
-    requires { ⌜ (Spelled (now q) (now work) top (Section (OfContext (now q) (now work) top g))) × Measures (now q) (now work) top (last .g) last ⌝ }
+    requires { ⌜ (Spelled (now q) (now work) top (AfterCount (OfContext (now q) (now work) top g))) × Measures (now q) (now work) top (last .g) last ⌝ }
     ensures { λ k. ⌜ Measures (now (q .entry)) (now (work .entry)) top g k ⌝ }
 {
     let again = same(g, last.g);
@@ -338,7 +338,7 @@ pub fn write_after<'a>(
     at: usize,
     last: Standing,
 ) -> Standing
-    requires { ⌜ (Writable (now q) (now work) top (Section (OfContext (now q) (now work) top g)) (now report) at) × Stands (now q) (now work) top (now report) at last ⌝ }
+    requires { ⌜ (Writable (now q) (now work) top (AfterCount (OfContext (now q) (now work) top g)) (now report) at) × Stands (now q) (now work) top (now report) at last ⌝ }
     ensures { λ z. ⌜ WritesAfter (now (q .entry)) (now (work .entry)) top g (now (report .entry)) (now (report .exit)) at z ⌝ }
 {
     let again = same(g, last.g);

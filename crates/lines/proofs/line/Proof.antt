@@ -5,7 +5,7 @@ use mathlib.Core.Path.{_≡_}
 use mathlib.Core.List.{List, []}
 use Prim.Native.Nat.{ℕ, _+_, _-_, _*_, _≤_}
 use lib.ListN.{length, drop}
-use Rattle.lines.specs.Lines.{lineOf, Wrote}
+use Rattle.lines.specs.Lines.{lineOf, PutBytes}
 use Rattle.lines.proofs.Lines.{wrote-byte, wrote-none, line-none, line-more, line-last}
 use Rattle.lines.proofs.line.Statement.{statement}
 use Rattle.lines.proofs.line.Tie as tie
@@ -13,7 +13,7 @@ use Rattle.lines.proofs.line.Tie as tie
 abbrev Inv-loop : tie.InvT-loop
 Inv-loop out₀ from ws last at₀ i₀ out at i =
     (i ≤ last) × (length ws ≡ last + 1) × (at ≤ from + 11 * i) × (length out ≡ length out₀)
-    × ((s : List ℕ) (z : ℕ) → Wrote out s at (lineOf (drop i ws)) z → Wrote out₀ s from (lineOf ws) z)
+    × ((s : List ℕ) (z : ℕ) → PutBytes out s at (lineOf (drop i ws)) z → PutBytes out₀ s from (lineOf ws) z)
 
 abbrev μ-loop : tie.MeasureT-loop
 μ-loop out₀ from ws last at₀ i₀ out at i = last - i

@@ -6,7 +6,7 @@ use borrow.Author.Needs.{needs}
 use borrow.Fn.Kinds.{In}
 use borrow.Fn.PlainCycle.{Measures, is, falls, and}
 use Rattle.substitution.proofs.Equations.{apply-forall}
-use Rattle.substitution.proofs.Arms.{begin, held, spent-at-once, Call, gone, fewer, coded, named, given-at-once, Led, follows, followed, Arrow, Left, Both, halves, left-asks, left-spent, left-fewer, right-asks, right-spent, arrow-asks, arrow-does, Forall, Under, body, body-asks, body-spent, forall-asks, forall-does}
+use Rattle.substitution.proofs.Arms.{begin, held, spent-at-once, PaidCall, gone, fewer, coded, named, given-at-once, Led, follows, followed, Arrow, LeftMade, BothMade, halves, left-asks, left-spent, left-fewer, right-asks, right-spent, arrow-asks, arrow-does, Forall, BodyMade, body, body-asks, body-spent, forall-asks, forall-does}
 use Rattle.substitution.proofs.Ways.{apply-asks, apply-pre, apply-does, applied, apply-way, plain-applied, unsolved-applied, solved-applied}
 use Rattle.contexts.proofs.find.Reads as find-reads
 use Rattle.contexts.proofs.type_at.Reads as type-at-reads
@@ -61,7 +61,7 @@ claims t = (
 
 module _ (t : ℕ) where
   -- what is known once the call has begun
-  abbrev call : lts.After-paid (claims t) (asked t) own.Post → Call Ctx t
+  abbrev call : lts.After-paid (claims t) (asked t) own.Post → PaidCall Ctx t
   call c = let at-begin = c .before .before in let at-start = at-begin .before .before .before .before in
       begin (apply-way _ (at-start .args .g)) (apply-asks (at-start .pre .1)) (at-start .pre .0) (at-begin .begin .ensures) (c .paid .given .1)
 
@@ -79,10 +79,10 @@ module _ (t : ℕ) where
   arrow c = let i = call (search) in
       record { on = i; l = _; u = _; parts = halves (i .began .tag) (search) (c .before .before .left-of .ensures) (c .right-of .ensures) }
 
-  abbrev left : lts.After-st1 (claims t) (asked t) own.Post → Left Ctx t
+  abbrev left : lts.After-st1 (claims t) (asked t) own.Post → LeftMade Ctx t
   left c = record { on = arrow (search); made = gone (apply-does (c .before .before .before .before .apply-ctx-type2 .ensures)) (c .st1 .given .1) }
 
-  abbrev both : lts.After-st2 (claims t) (asked t) own.Post → Both Ctx t
+  abbrev both : lts.After-st2 (claims t) (asked t) own.Post → BothMade Ctx t
   both c = record { on = left (search); made = gone (apply-does (c .before .before .before .before .apply-ctx-type3 .ensures)) (c .st2 .given .1) }
 
   -- of a Forall: its body is read, and is made
@@ -95,7 +95,7 @@ module _ (t : ℕ) where
     opens = λ Γ. apply-forall Γ _;
   }
 
-  abbrev under : lts.After-st12 (claims t) (asked t) own.Post → Under Ctx t
+  abbrev under : lts.After-st12 (claims t) (asked t) own.Post → BodyMade Ctx t
   under c = let b = c .before .before .before .before in
       record { on = forall (search); made = gone (apply-does (b .apply-ctx-type4 .ensures)) (c .st12 .given .1) }
 

@@ -5,7 +5,7 @@ use Rattle.definition.specs.Syntax.{Ty}
 use borrow.Author.Needs.{needs}
 use borrow.Fn.Kinds.{In}
 use borrow.Fn.PlainCycle.{Measures, is, falls, and}
-use Rattle.substitution.proofs.Arms.{begin, held, spent-at-once, Call, gone, fewer, coded, named, given-at-once, Arrow, Left, Both, halves, left-asks, left-spent, left-fewer, right-asks, right-spent, arrow-asks, arrow-does, Forall, Under, body, body-asks, body-spent, forall-asks, forall-does}
+use Rattle.substitution.proofs.Arms.{begin, held, spent-at-once, PaidCall, gone, fewer, coded, named, given-at-once, Arrow, LeftMade, BothMade, halves, left-asks, left-spent, left-fewer, right-asks, right-spent, arrow-asks, arrow-does, Forall, BodyMade, body, body-asks, body-spent, forall-asks, forall-does}
 use Rattle.substitution.proofs.Ways.{subst-asks, subst-pre, subst-does, substed, subst-way, no-parts, plain-substed, name-substed, shadowed-substed, forall-substed}
 use Rattle.substitution.proofs.anew.Reads as anew-reads
 use Rattle.substitution.proofs.arrow_made.Reads as arrow-made-reads
@@ -57,7 +57,7 @@ claims t = (
 
 module _ (t : ℕ) where
   -- what is known once the call has begun
-  abbrev call : lts.After-paid (claims t) (asked t) own.Post → Call Ty t
+  abbrev call : lts.After-paid (claims t) (asked t) own.Post → PaidCall Ty t
   call c = let at-begin = c .before .before in let at-start = at-begin .before .before .before .before in
       begin (subst-way _ (at-start .args .a) _) (subst-asks (at-start .pre .1)) (at-start .pre .0) (at-begin .begin .ensures) (c .paid .given .1)
 
@@ -66,10 +66,10 @@ module _ (t : ℕ) where
   arrow c = let i = call (search) in
       record { on = i; l = _; u = _; parts = halves (i .began .tag) (search) (c .before .before .left-of .ensures) (c .right-of .ensures) }
 
-  abbrev left : lts.After-st1 (claims t) (asked t) own.Post → Left Ty t
+  abbrev left : lts.After-st1 (claims t) (asked t) own.Post → LeftMade Ty t
   left c = record { on = arrow (search); made = gone (subst-does (c .before .before .before .before .subst-type .ensures)) (c .st1 .given .1) }
 
-  abbrev both : lts.After-st2 (claims t) (asked t) own.Post → Both Ty t
+  abbrev both : lts.After-st2 (claims t) (asked t) own.Post → BothMade Ty t
   both c = record { on = left (search); made = gone (subst-does (c .before .before .before .before .subst-type2 .ensures)) (c .st2 .given .1) }
 
   -- of a Forall that does not shadow the name: its body is read, and is made
@@ -82,7 +82,7 @@ module _ (t : ℕ) where
     opens = forall-substed (at-if1 .if1 .left);
   }
 
-  abbrev under : lts.After-st12 (claims t) (asked t) own.Post → Under Ty t
+  abbrev under : lts.After-st12 (claims t) (asked t) own.Post → BodyMade Ty t
   under c = record { on = forall (search); made = gone (subst-does (c .before .before .before .before .subst-type3 .ensures)) (c .st12 .given .1) }
 
 returns-4 : (t : ℕ) → lts.Need-returns-4 (claims t) (asked t) own.Post

@@ -5,14 +5,14 @@ use Rattle.expressions.specs.Forms.{AppOf}
 use Rattle.rules.proofs.Standing.{infer-shaped}
 use Rattle.inference.proofs.InferTwo.{Function, Headed, app-apply, app-spent, app-done, app-asks, app-asks₂}
 use Rattle.judging.proofs.Chain.{as-long}
-use Rattle.inference.proofs.Premise.{Begun, unless, may-ask}
+use Rattle.inference.proofs.Premise.{RuleAsked, unless, may-ask}
 use Rattle.inference.proofs.infer_application.Reads as infer-application
 use Rattle.inference.proofs.+app_arr+app_etvar+app_rule+check+chk_all+chk_lam+chk_rule+chk_sub+inf_rule+infer+infer_abs+infer_ann+infer_app+infer_application+infer_binop+infer_if+infer_let+infer_tabs+infer_tapp.Lts-infer_application as infer-application-lts
 use Rattle.inference.proofs.+app_arr+app_etvar+app_rule+check+chk_all+chk_lam+chk_rule+chk_sub+inf_rule+infer+infer_abs+infer_ann+infer_app+infer_application+infer_binop+infer_if+infer_let+infer_tabs+infer_tapp.Proof.Base.{infer-application-at, infer-application-claims}
 
 module _ (t : ℕ) where
   -- what is known as the function is asked, past it, and where the argument is asked
-  abbrev begun : infer-application-lts.After-app-of (infer-application-claims t) (infer-application-at t) infer-application.Post → Begun AppOf t
+  abbrev begun : infer-application-lts.After-app-of (infer-application-claims t) (infer-application-at t) infer-application.Post → RuleAsked AppOf t
   begun c = let at-start = c .before .before .before .before in
       record { m = at-start .args .h; q = _; w = _; s = _; g = _; ex = _; rule = at-start .pre .1 .rule; falls = at-start .pre .0; p = _; parts = c .app-of .ensures }
 

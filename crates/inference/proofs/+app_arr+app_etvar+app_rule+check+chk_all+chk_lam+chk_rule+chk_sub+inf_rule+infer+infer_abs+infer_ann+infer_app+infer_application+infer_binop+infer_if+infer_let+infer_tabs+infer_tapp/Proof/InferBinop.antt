@@ -5,16 +5,16 @@ use mathlib.Core.Logic.{⊎-elim, inl, inr}
 use Rattle.definition.specs.Syntax.{pick}
 use Rattle.expressions.specs.Forms.{BinOpOf}
 use Rattle.rules.proofs.Standing.{infer-shaped}
-use Rattle.inference.proofs.InferTwo.{Operator, Sided, Left, Aimed, op-done, op-asks, op-asks₂}
+use Rattle.inference.proofs.InferTwo.{Operator, Sided, LeftBack, Aimed, op-done, op-asks, op-asks₂}
 use Rattle.judging.proofs.Chain.{as-long}
-use Rattle.inference.proofs.Premise.{Begun, unless, may-ask}
+use Rattle.inference.proofs.Premise.{RuleAsked, unless, may-ask}
 use Rattle.inference.proofs.infer_binop.Reads as infer-binop
 use Rattle.inference.proofs.+app_arr+app_etvar+app_rule+check+chk_all+chk_lam+chk_rule+chk_sub+inf_rule+infer+infer_abs+infer_ann+infer_app+infer_application+infer_binop+infer_if+infer_let+infer_tabs+infer_tapp.Lts-infer_binop as infer-binop-lts
 use Rattle.inference.proofs.+app_arr+app_etvar+app_rule+check+chk_all+chk_lam+chk_rule+chk_sub+inf_rule+infer+infer_abs+infer_ann+infer_app+infer_application+infer_binop+infer_if+infer_let+infer_tabs+infer_tapp.Proof.Base.{infer-binop-at, infer-binop-claims}
 
 module _ (t : ℕ) where
   -- what is known of its parts, and where the left side is asked
-  abbrev begun : infer-binop-lts.After-binop-of (infer-binop-claims t) (infer-binop-at t) infer-binop.Post → Begun BinOpOf t
+  abbrev begun : infer-binop-lts.After-binop-of (infer-binop-claims t) (infer-binop-at t) infer-binop.Post → RuleAsked BinOpOf t
   begun c = let at-start = c .before .before .before .before in
       record { m = at-start .args .h; q = _; w = _; s = _; g = _; ex = _; rule = at-start .pre .1 .rule; falls = at-start .pre .0; p = _; parts = c .binop-of .ensures }
 
@@ -28,7 +28,7 @@ module _ (t : ℕ) where
   sided c = ⊎-elim (λ u. rw (u .0 .taken, u .5, u .6) (u .2 .ensures)) (λ u. rw (u .0 .left, u .5, u .6) (u .2 .ensures)) (c .if1 .came)
 
   -- what is known past it, and where the right side is asked
-  abbrev left : infer-binop-lts.After-z (infer-binop-claims t) (infer-binop-at t) infer-binop.Post → Left t
+  abbrev left : infer-binop-lts.After-z (infer-binop-claims t) (infer-binop-at t) infer-binop.Post → LeftBack t
   left c = record { on = operator (search); w = _; z = _; r = _; call = sided (search); done = c .z .given .1 }
 
   abbrev aimed : infer-binop-lts.Joined2 (infer-binop-claims t) (infer-binop-at t) infer-binop.Post → Aimed t

@@ -3,20 +3,20 @@ use borrow.Author.Needs.{needs}
 use Prim.Native.Nat.{ℕ}
 use Rattle.expressions.specs.Forms.{IfOf}
 use Rattle.rules.proofs.Standing.{infer-shaped}
-use Rattle.inference.proofs.InferIf.{Checked, Inferred, Both, asked, if-asks, if-asks₂, if-asks₃, if-two, if-else₄, if-done}
+use Rattle.inference.proofs.InferIf.{ConditionChecked, Inferred, Both, asked, if-asks, if-asks₂, if-asks₃, if-two, if-else₄, if-done}
 use Rattle.judging.proofs.Chain.{as-long}
-use Rattle.inference.proofs.Premise.{Begun, unless, may-ask}
+use Rattle.inference.proofs.Premise.{RuleAsked, unless, may-ask}
 use Rattle.inference.proofs.infer_if.Reads as infer-if
 use Rattle.inference.proofs.+app_arr+app_etvar+app_rule+check+chk_all+chk_lam+chk_rule+chk_sub+inf_rule+infer+infer_abs+infer_ann+infer_app+infer_application+infer_binop+infer_if+infer_let+infer_tabs+infer_tapp.Lts-infer_if as infer-if-lts
 use Rattle.inference.proofs.+app_arr+app_etvar+app_rule+check+chk_all+chk_lam+chk_rule+chk_sub+inf_rule+infer+infer_abs+infer_ann+infer_app+infer_application+infer_binop+infer_if+infer_let+infer_tabs+infer_tapp.Proof.Base.{infer-if-at, infer-if-claims}
 
 module _ (t : ℕ) where
   -- what is known where the condition is asked, the first branch, the second, and past them
-  abbrev begun : infer-if-lts.After-if-of (infer-if-claims t) (infer-if-at t) infer-if.Post → Begun IfOf t
+  abbrev begun : infer-if-lts.After-if-of (infer-if-claims t) (infer-if-at t) infer-if.Post → RuleAsked IfOf t
   begun c = let at-start = c .before .before .before .before in
       record { m = at-start .args .h; q = _; w = _; s = _; g = _; ex = _; rule = at-start .pre .1 .rule; falls = at-start .pre .0; p = _; parts = c .if-of .ensures }
 
-  abbrev checked : infer-if-lts.After-z (infer-if-claims t) (infer-if-at t) infer-if.Post → Checked t
+  abbrev checked : infer-if-lts.After-z (infer-if-claims t) (infer-if-at t) infer-if.Post → ConditionChecked t
   checked c = record { on = begun (search); w = _; z = _; r = _; call = c .before .before .before .before .check .ensures; done = c .z .given .1 }
 
   abbrev inferred : infer-if-lts.After-y (infer-if-claims t) (infer-if-at t) infer-if.Post → Inferred t

@@ -5,14 +5,14 @@ use Rattle.expressions.specs.Forms.{LetOf}
 use Rattle.rules.proofs.Standing.{infer-shaped}
 use Rattle.inference.proofs.InferTwo.{Value, Bound, let-space, let-done, let-asks, let-asks₂}
 use Rattle.judging.proofs.Chain.{as-long}
-use Rattle.inference.proofs.Premise.{Begun, may-ask, unless, space-back}
+use Rattle.inference.proofs.Premise.{RuleAsked, may-ask, unless, space-back}
 use Rattle.inference.proofs.infer_let.Reads as infer-let
 use Rattle.inference.proofs.+app_arr+app_etvar+app_rule+check+chk_all+chk_lam+chk_rule+chk_sub+inf_rule+infer+infer_abs+infer_ann+infer_app+infer_application+infer_binop+infer_if+infer_let+infer_tabs+infer_tapp.Lts-infer_let as infer-let-lts
 use Rattle.inference.proofs.+app_arr+app_etvar+app_rule+check+chk_all+chk_lam+chk_rule+chk_sub+inf_rule+infer+infer_abs+infer_ann+infer_app+infer_application+infer_binop+infer_if+infer_let+infer_tabs+infer_tapp.Proof.Base.{infer-let-at, infer-let-claims}
 
 module _ (t : ℕ) where
   -- what is known as the value is asked, past it, and where the body is asked
-  abbrev begun : infer-let-lts.After-let-of (infer-let-claims t) (infer-let-at t) infer-let.Post → Begun LetOf t
+  abbrev begun : infer-let-lts.After-let-of (infer-let-claims t) (infer-let-at t) infer-let.Post → RuleAsked LetOf t
   begun c = let at-start = c .before .before .before .before in
       record { m = at-start .args .h; q = _; w = _; s = _; g = _; ex = _; rule = at-start .pre .1 .rule; falls = at-start .pre .0; p = _; parts = c .let-of .ensures }
 

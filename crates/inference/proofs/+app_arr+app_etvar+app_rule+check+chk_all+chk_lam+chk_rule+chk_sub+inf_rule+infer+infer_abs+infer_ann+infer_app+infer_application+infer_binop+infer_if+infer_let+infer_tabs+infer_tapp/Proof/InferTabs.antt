@@ -5,14 +5,14 @@ use Prim.Native.Nat.{ℕ}
 use Rattle.expressions.specs.Forms.{TAbsOf}
 use Rattle.rules.proofs.Standing.{infer-shaped}
 use Rattle.inference.proofs.InferOne.{TAbsOpened, TAbsInferred, TAbsApplied, tabs-space, tabs-apply, tabs-spent, tabs-pre, tabs-done, tabs-asks}
-use Rattle.inference.proofs.Premise.{Begun, unless, may-ask}
+use Rattle.inference.proofs.Premise.{RuleAsked, unless, may-ask}
 use Rattle.inference.proofs.infer_tabs.Reads as infer-tabs
 use Rattle.inference.proofs.+app_arr+app_etvar+app_rule+check+chk_all+chk_lam+chk_rule+chk_sub+inf_rule+infer+infer_abs+infer_ann+infer_app+infer_application+infer_binop+infer_if+infer_let+infer_tabs+infer_tapp.Lts-infer_tabs as infer-tabs-lts
 use Rattle.inference.proofs.+app_arr+app_etvar+app_rule+check+chk_all+chk_lam+chk_rule+chk_sub+inf_rule+infer+infer_abs+infer_ann+infer_app+infer_application+infer_binop+infer_if+infer_let+infer_tabs+infer_tapp.Proof.Base.{infer-tabs-at, infer-tabs-claims}
 
 module _ (t : ℕ) where
   -- what is known as the name is pushed, as the body is asked, past it, and as its type is bound
-  abbrev begun : infer-tabs-lts.After-tabs-of (infer-tabs-claims t) (infer-tabs-at t) infer-tabs.Post → Begun TAbsOf t
+  abbrev begun : infer-tabs-lts.After-tabs-of (infer-tabs-claims t) (infer-tabs-at t) infer-tabs.Post → RuleAsked TAbsOf t
   begun c = let at-start = c .before .before .before .before in
       record { m = at-start .args .h; q = _; w = _; s = _; g = _; ex = _; rule = at-start .pre .1 .rule; falls = at-start .pre .0; p = _; parts = c .tabs-of .ensures }
 

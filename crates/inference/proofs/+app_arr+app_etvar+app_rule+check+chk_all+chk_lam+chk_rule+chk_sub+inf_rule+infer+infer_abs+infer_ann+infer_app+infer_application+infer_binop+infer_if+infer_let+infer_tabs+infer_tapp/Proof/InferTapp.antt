@@ -5,14 +5,14 @@ use Rattle.definition.specs.Syntax.{tapp}
 use Rattle.expressions.specs.Forms.{TypedOf}
 use Rattle.rules.proofs.Standing.{infer-shaped}
 use Rattle.inference.proofs.InferOne.{TAppInferred, tapp-two, tapp-end, tapp-done, tapp-asks}
-use Rattle.inference.proofs.Premise.{Begun, unless, may-ask}
+use Rattle.inference.proofs.Premise.{RuleAsked, unless, may-ask}
 use Rattle.inference.proofs.infer_tapp.Reads as infer-tapp
 use Rattle.inference.proofs.+app_arr+app_etvar+app_rule+check+chk_all+chk_lam+chk_rule+chk_sub+inf_rule+infer+infer_abs+infer_ann+infer_app+infer_application+infer_binop+infer_if+infer_let+infer_tabs+infer_tapp.Lts-infer_tapp as infer-tapp-lts
 use Rattle.inference.proofs.+app_arr+app_etvar+app_rule+check+chk_all+chk_lam+chk_rule+chk_sub+inf_rule+infer+infer_abs+infer_ann+infer_app+infer_application+infer_binop+infer_if+infer_let+infer_tabs+infer_tapp.Proof.Base.{infer-tapp-at, infer-tapp-claims}
 
 module _ (t : ℕ) where
   -- what is known as the expression is asked, and past it
-  abbrev begun : infer-tapp-lts.After-tapp-of (infer-tapp-claims t) (infer-tapp-at t) infer-tapp.Post → Begun (TypedOf tapp) t
+  abbrev begun : infer-tapp-lts.After-tapp-of (infer-tapp-claims t) (infer-tapp-at t) infer-tapp.Post → RuleAsked (TypedOf tapp) t
   begun c = let at-start = c .before .before .before .before in
       record { m = at-start .args .h; q = _; w = _; s = _; g = _; ex = _; rule = at-start .pre .1 .rule; falls = at-start .pre .0; p = _; parts = c .tapp-of .ensures }
 

@@ -3,7 +3,7 @@ use native.Mathlib.Omega.{arith}
 use borrow.Author.Needs.{needs}
 use Prim.Native.Nat.{ℕ}
 use Rattle.judging.proofs.Chain.{as-long}
-use Rattle.instantiation.proofs.Arrow.{Halved, First, Between, arr-held, arr-unknown, arr-part, arr-first, arr-else₁, arr-apply, arr-spent, arr-second, arr-else₂, arr-done}
+use Rattle.instantiation.proofs.Arrow.{Halved, FirstHalf, Between, arr-held, arr-unknown, arr-part, arr-first, arr-else₁, arr-apply, arr-spent, arr-second, arr-else₂, arr-done}
 use Rattle.instantiation.proofs.Sides.{other-is, first-is, in-row}
 use Rattle.instantiation.proofs.inst_arr.Reads as inst-arr
 use Rattle.instantiation.proofs.+inst+inst_all+inst_arr+inst_l+inst_r+inst_rule+on_side.Lts-inst_arr as inst-arr-lts
@@ -40,7 +40,7 @@ module _ (t : ℕ) where
         number = in-row _ (first-is (at-start .args .s) (at-other .before .first .ensures)) .arr;
       }
 
-  abbrev first : inst-arr-lts.After-z (inst-arr-claims t) (inst-arr-at t) inst-arr.Post → First t
+  abbrev first : inst-arr-lts.After-z (inst-arr-claims t) (inst-arr-at t) inst-arr.Post → FirstHalf t
   first c = record { on = halved (search); w = _; z = _; u = _; call = c .before .before .before .before .on-side .ensures; done = c .z .given .1 }
 
   abbrev between : inst-arr-lts.After-st3 (inst-arr-claims t) (inst-arr-at t) inst-arr.Post → Between t
