@@ -490,7 +490,7 @@ static void deep_questions(void) {
 /* docs/STACK.md's last column. */
 static void stack_sizes(void) {
     static const struct { uint32_t budget; size_t kilobytes; } TABLE[] = {{1, 640},     {16, 640},    {64, 640},    {384, 640},
-                                                                          {1024, 1024}, {2048, 1472}, {4096, 2304}, {8192, 4032}};
+                                                                          {1024, 1088}, {2048, 1664}, {4096, 2560}, {8192, 4288}};
     hold(SPOREFLASK_ANSWER_STACK_BYTES >= 704 << 10, "docs/STACK.md", "sporeflask_answer's bytes", SPOREFLASK_ANSWER_STACK_BYTES);
     for (size_t i = 0; i < COUNT(TABLE); i++) {
         size_t bytes = SPOREFLASK_CHECK_STACK_BYTES(TABLE[i].budget);
