@@ -1,5 +1,6 @@
 /* How deep a call goes: asks each question of standard input on a painted stack, at several budgets and by sporeflask_answer.
-   A line in: NAME WORD.. ; a line out: NAME, the bytes of stack at each budget, those of sporeflask_answer. */
+   A line in: NAME WORD.. ; a line out: NAME, the bytes of stack at each budget, those of sporeflask_answer. The first line out has what
+   the header gives to each. */
 #define _GNU_SOURCE
 #include <stdio.h>
 #include <stdlib.h>
@@ -63,6 +64,9 @@ static size_t depth_at(uint32_t with) {
 int main(void) {
     static char line[MOST_LINE];
     make_stack();
+    printf("header");
+    for (int i = 0; i < BUDGETS; i++) printf(" %zu", SPOREFLASK_CHECK_STACK_BYTES(budgets[i]));
+    printf(" %zu\n", SPOREFLASK_ANSWER_STACK_BYTES);
     while (fgets(line, sizeof line, stdin)) {
         char *next = line + strcspn(line, " \n"), *end;
         printf("%.*s", (int)(next - line), line);
