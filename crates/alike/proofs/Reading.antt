@@ -174,7 +174,7 @@ module _ {P : Pairing} where
 
   entryR : {s : List Label} → IsEntry s → Reads P (EntryR P) (entry written) (entry written) s
   unfolding entry
-  entryR e = lastR {W = EntryR P} _ _ (bindingR e) (λ b b′ w. record { bindings = w })
+  entryR e = record { at = λ x p r r′. lastR {W = EntryR P} _ _ (bindingR e) (λ b b′ w. Related.askedR p w) .at x p r r′ }
 
   -- an entry, and the entries to the end
   moreAt : {s t : List Label} {u u′ : List ℕ} (d d′ : ℕ) → Starts s → Reads P (EntryR P) (entry written) (entry written) s
