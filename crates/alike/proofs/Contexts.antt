@@ -10,7 +10,6 @@ use Rattle.laws.proofs.Steps.{is-true}
 use Rattle.definition.specs.Syntax.{TmVar, TyVar, Binding, Entry, Ctx}
 use Rattle.definition.specs.Contexts.{Key, kVar, kTVar, kETVar, kSETVar, kMark, bindingKey, keyOf, kindOf, nameOf, hit, bindingType, held, find, leftOf, rightOf, has, _▹_, replace, isSolved, solved, solvedAndRight, before}
 use Rattle.definition.specs.Types.{sameName}
-use Rattle.definition.specs.Rules.{Here, _from_}
 use Rattle.alike.specs.Alike.{Pairing, OneToOne, Written, ReplyName, written, fresh}
 use Rattle.alike.proofs.Related.{BindingR, VarR, NameR, TyR, intR, EntryR, varBndR, tvarBndR, etvarBndR, setvarBndR, markR, CtxR, nilR, consR, OptionR, noneR, someR, pickR}
 
@@ -149,9 +148,6 @@ module _ {P : Pairing} where
   joinR : {Γ Γ′ Δ Δ′ : Ctx} → CtxR P Γ Γ′ → CtxR P Δ Δ′ → CtxR P (Γ ++ Δ) (Γ′ ++ Δ′)
   joinR nilR q = q
   joinR (consR e p) q = consR e (joinR p q)
-
-  pub fromR : (h : Here) {b b′ : Binding} → BindingR P b b′ → EntryR P (b from h) (b′ from h)
-  fromR h b = record { bindings = b }
 
   pub pushR : {Γ Γ′ : Ctx} {e e′ : Entry} → CtxR P Γ Γ′ → EntryR P e e′ → CtxR P (Γ ▹ e) (Γ′ ▹ e′)
   unfolding _▹_

@@ -174,7 +174,7 @@ module _ {P : Pairing} where
 
   entryR : {s : List Label} → IsEntry s → ReadsAlike P (EntryR P) (entry written) (entry written) s
   unfolding entry
-  entryR e = lastR {W = EntryR P} _ _ (bindingR e) (λ b b′ w. record { bindings = w })
+  entryR e = record { at = λ x p r r′. lastR {W = EntryR P} _ _ (bindingR e) (λ b b′ w. Related.ofQuestionR p w) .at x p r r′ }
 
   -- an entry, and the entries to the end
   moreAt : {s t : List Label} {u u′ : List ℕ} (d d′ : ℕ) → StartsAlike s → ReadsAlike P (EntryR P) (entry written) (entry written) s

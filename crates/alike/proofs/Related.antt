@@ -4,7 +4,8 @@ use Prim.Native.Nat.{ℕ}
 use mathlib.Core.Bool.{Bool, true, false}
 use mathlib.Core.List.{[], _∷_}
 use mathlib.Core.Option.{Option, none, some}
-use Rattle.definition.specs.Syntax.{pick, TmVar, TyVar, Ty, int, bool, var, etvar, arrow, forall, Expr, evar, app, abs, tapp, tabs, ann, litInt, litBool, letIn, ifThenElse, binOp, Binding, varBnd, tvarBnd, etvarBnd, setvarBnd, mark, Entry, Ctx, Side, Judgement, infer, check, inferApp, subtype, inst, Rule, Tree, node, Trees, leaf, _&_, Shown, noType, oneType, twoTypes, TypeError}
+use Rattle.definition.specs.Syntax.{pick, TmVar, TyVar, Ty, int, bool, var, etvar, arrow, forall, Expr, evar, app, abs, tapp, tabs, ann, litInt, litBool, letIn, ifThenElse, binOp, Binding, varBnd, tvarBnd, etvarBnd, setvarBnd, mark, Entry, ofQuestion, Ctx, Side, Judgement, infer, check, inferApp, subtype, inst, Rule, Tree, node, Trees, leaf, _&_, Shown, noType, oneType, twoTypes, TypeError}
+use Rattle.definition.specs.Rules.{Here, _from_}
 use Rattle.definition.specs.Reply.{errorCode, errorAt}
 use Rattle.alike.specs.Alike.{Pairing, Written, ReplyName, InReplies, atLabel}
 
@@ -31,6 +32,13 @@ pub data BindingR (P : Pairing) : Binding → Binding → Type 0 where
 
 pub record EntryR (P : Pairing) (e e′ : Entry) : Type 0 where
   pub bindings : BindingR P (e .binding) (e′ .binding)
+
+-- entries of the question, at the same place, and entries that a rule makes
+pub ofQuestionR : {P : Pairing} {b b′ : Binding} (p : ℕ) → BindingR P b b′ → EntryR P (ofQuestion p b) (ofQuestion p b′)
+ofQuestionR p b = record { bindings = b }
+
+pub fromR : {P : Pairing} {b b′ : Binding} (h : Here) → BindingR P b b′ → EntryR P (b from h) (b′ from h)
+fromR h b = record { bindings = b }
 
 pub data CtxR (P : Pairing) : Ctx → Ctx → Type 0 where
   nilR : CtxR P [] []

@@ -11,8 +11,8 @@ use Rattle.definition.specs.Rules.{Fired, Result, Judge, Here, _from_, closes, 
 use Rattle.definition.specs.Reply.{errorCode, errorAt}
 use Rattle.alike.specs.Alike.{Pairing, InReplies}
 use Rattle.alike.proofs.Related
-use Rattle.alike.proofs.Related.{BindingR, EntryR, VarR, NameR, TyR, intR, boolR, varR, etvarR, arrowR, forallR, varBndR, tvarBndR, etvarBndR, setvarBndR, markR, CtxR, nilR, consR, ExprR, JudgementR, inferR, checkR, inferAppR, subtypeR, instR, TreeR, nodeR, TreesR, leafR, andR, TypeErrorR, OptionR, noneR, someR, pickR}
-use Rattle.alike.proofs.Contexts.{sameNameR, kVarR, kTVarR, kMarkR, findR, rightOfR, beforeR, fromR, pushR, replaceR, solvedAndRightR, lengthR}
+use Rattle.alike.proofs.Related.{BindingR, EntryR, fromR, VarR, NameR, TyR, intR, boolR, varR, etvarR, arrowR, forallR, varBndR, tvarBndR, etvarBndR, setvarBndR, markR, CtxR, nilR, consR, ExprR, JudgementR, inferR, checkR, inferAppR, subtypeR, instR, TreeR, nodeR, TreesR, leafR, andR, TypeErrorR, OptionR, noneR, someR, pickR}
+use Rattle.alike.proofs.Contexts.{sameNameR, kVarR, kTVarR, kMarkR, findR, rightOfR, beforeR, pushR, replaceR, solvedAndRightR, lengthR}
 use Rattle.alike.proofs.Runs.{RunsAlike, bindR, giveR, refuseR, haltR, freshR, chargeR}
 use Rattle.alike.proofs.Types.{isMonoR, occursR, substR, applyR, sameTyR}
 

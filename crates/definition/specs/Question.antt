@@ -5,7 +5,7 @@ use mathlib.Core.Bool.{Bool, true, false, _&&_}
 use mathlib.Core.List.{List, [], _∷_}
 use lib.ListN.{length, take, drop}
 use lib.Dec.{leb, ltb, eqb}
-use Rattle.definition.specs.Syntax.{syntax-computes, pick, TmVar, TyVar, Ty, int, bool, var, etvar, arrow, forall, Expr, evar, app, abs, tapp, tabs, ann, litInt, litBool, letIn, ifThenElse, binOp, Binding, varBnd, tvarBnd, etvarBnd, setvarBnd, mark, Entry, Ctx, onL, onR, Judgement, infer, check, inferApp, subtype, inst}
+use Rattle.definition.specs.Syntax.{syntax-computes, pick, TmVar, TyVar, Ty, int, bool, var, etvar, arrow, forall, Expr, evar, app, abs, tapp, tabs, ann, litInt, litBool, letIn, ifThenElse, binOp, Binding, varBnd, tvarBnd, etvarBnd, setvarBnd, mark, Entry, ofQuestion, Ctx, onL, onR, Judgement, infer, check, inferApp, subtype, inst}
 
 -- ---- Reading: a value with the next place and the words left, or a fault with its code and place
 
@@ -117,7 +117,7 @@ binding name =
     ∷ [])
 
 unfoldable pub entry : Reader ℕ → Reader Entry
-entry name = do b ← binding name; give (record { binding = b })
+entry name = λ p. (do b ← binding name; give (ofQuestion p b)) p
 
 -- entries to the end of the section
 unfoldable pub unlessEnd : {A : Type 0} → A → Reader A → Reader A

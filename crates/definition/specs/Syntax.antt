@@ -74,6 +74,10 @@ pub data Binding : Type 0 where
 pub record Entry : Type 0 where
   pub binding : Binding
 
+-- the entry that stands at a place of the question
+abbrev pub ofQuestion : ℕ → Binding → Entry
+ofQuestion p b = record { binding = b }
+
 abbrev pub Ctx : Type 0
 Ctx = List Entry
 

@@ -20,7 +20,7 @@ use Rattle.judging.specs.declared.Ask.{Ask}
 use Rattle.judging.specs.declared.Here.{Here}
 use Rattle.judging.specs.declared.Step.{Step}
 use Rattle.judging.specs.Ending.{RunsJ, chargeOf, Judged}
-use Rattle.judging.specs.Asking.{Asks, as-infer, as-check, as-app, as-sub, as-inst-l, as-inst-r, inferAsk, checkAsk, appAsk, subAsk, instAsk, Small, JudgePre}
+use Rattle.judging.specs.Asking.{here, Asks, as-infer, as-check, as-app, as-sub, as-inst-l, as-inst-r, inferAsk, checkAsk, appAsk, subAsk, instAsk, Small, JudgePre}
 use Rattle.reading.specs.Questions.{ContextAt, AsksAt, infers-at, checks-at, applies-at, compares-at, solves-left-at, solves-right-at, runs-at, ModeIs, plainly, strictly, Accepted}
 use Rattle.reading.specs.declared.Question.{Question}
 use Rattle.entry.specs.Entry.{OutsideOf, AskPre, Answers, ResolvePre, Resolves}
@@ -126,6 +126,9 @@ kind-seven pre n =
 
 -- ## The mode
 
-pub outside-is : {k : ℕ} {μ : question.Mode} → ModeIs k μ → record { manner = record { comparesParameter = eqb k 1; appliesBranches = eqb k 1 } } ≡ outside μ
+outside-is : {k : ℕ} {μ : question.Mode} → ModeIs k μ → outside (record { comparesParameter = eqb k 1; appliesBranches = eqb k 1 }) ≡ outside μ
 outside-is plainly = refl
 outside-is strictly = refl
+
+pub outside-of : {k : ℕ} {h : Here} → here h ≡ outside (record { comparesParameter = eqb k 1; appliesBranches = eqb k 1 }) → OutsideOf k h
+outside-of e = record { is = λ m. e ∙ outside-is m }

@@ -213,12 +213,10 @@ fn outside(mode: usize) -> Here
     ensures { λ h. ⌜ OutsideOf mode h ⌝ }
 {
     let strict = mode == 1;
-    Here {
-        manner: Mode {
-            compares_parameter: strict,
-            applies_branches: strict,
-        },
-    }
+    judging::outside(Mode {
+        compares_parameter: strict,
+        applies_branches: strict,
+    })
 }
 
 // The judgement that the question asks; kind 7 infers, and resolves the type.

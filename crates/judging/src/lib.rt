@@ -5,7 +5,9 @@ use layout::Paid;
 use layout::Span;
 use layout::State;
 use layout::put4;
-ghost use Rattle.judging.specs.Asking.{EntryFrom};
+ghost use mathlib.Core.Path.{_≡_};
+ghost use Rattle.definition.specs.Rules as rules;
+ghost use Rattle.judging.specs.Asking.{mode, here, EntryFrom};
 ghost use Rattle.judging.specs.Leaving.{Entering, EnteredBy, ConcludePre, Concludes, LeavePre, Left};
 
 // The words of a node.
@@ -20,6 +22,13 @@ pub struct Mode {
 // What a judgement runs in: the mode.
 pub struct Here {
     pub manner: Mode,
+}
+
+// What the question's judgement runs in.
+pub fn outside(m: Mode) -> Here
+    ensures { λ h. ⌜ here h ≡ rules.outside (mode m) ⌝ }
+{
+    Here { manner: m }
 }
 
 // The entry that a rule pushes or solves here.

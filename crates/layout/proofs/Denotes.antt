@@ -5,8 +5,8 @@ use Prim.Native.Nat.{ℕ, _+_, _*_, _≤_, _<_}
 use native.Mathlib.Nat.{le-trans}
 use native.Mathlib.Omega.{arith}
 use lib.ListN.{length, getD}
-use Rattle.definition.specs.Syntax.{TyVar, Ty, int, bool, etvar, arrow, forall, Entry, Ctx}
-use Rattle.definition.specs.Contexts.{Key, kVar, kTVar, kETVar, kSETVar, kMark, keyOf, kindOf, nameOf, held}
+use Rattle.definition.specs.Syntax.{TyVar, Ty, int, bool, etvar, arrow, forall, Binding, Entry, ofQuestion, Ctx}
+use Rattle.definition.specs.Contexts.{Key, kVar, kTVar, kETVar, kSETVar, kMark, bindingKey, keyOf, kindOf, nameOf, bindingType, held}
 use Rattle.layout.specs.Words.{Keep, Put2, Put4}
 use Rattle.layout.specs.Places.{size, TyAt}
 use Rattle.layout.specs.Denotes.{capped, MadeAt, Den, written, int-made, bool-made, etvar-made, arrow-made, forall-made, AsEntry, EntryAt, PutEntry, CtxAt, nil, cons, Run, Base}
@@ -151,10 +151,11 @@ ctx-join {q} {w} {t} {at} (f ∷ L) {R} (cons x g) h =
     let a : at + 4 * length (f ∷ L) ≡ at + 4 + 4 * length L = omega arith in
     cons x (ctx-join L g (rw a at h))
 
--- an entry that was put
-pub entry-put : {q w w′ : List ℕ} {at k a r d : ℕ} (e : Entry) (t : ℕ) → Put4 w w′ at k a r d → at + 4 ≤ t → k ≡ kindOf (keyOf e)
-    → a ≡ nameOf (keyOf e) → Den q w′ t r (held e) → EntryAt q w′ t at e
-entry-put {r = r} e t p h x y d = record { ref = r; below = h; kind = p .w0 ∙ x; name = p .w1 ∙ y; ref-is = p .w2; den = d }
+-- an entry of the question that was put
+pub question-put : {q w w′ : List ℕ} {at k a r : ℕ} (i : ℕ) (b : Binding) (t : ℕ) → Put4 w w′ at k a r 0 → at + 4 ≤ t → k ≡ kindOf (bindingKey b)
+    → a ≡ nameOf (bindingKey b) → Den q w′ t r (bindingType b) → EntryAt q w′ t at (ofQuestion i b)
+unfolding keyOf held
+question-put {r = r} i b t p h x y d = record { ref = r; below = h; kind = p .w0 ∙ x; name = p .w1 ∙ y; ref-is = p .w2; den = d }
 
 -- ## Entries that are put
 

@@ -7,14 +7,14 @@ use native.Mathlib.Omega.{arith}
 use native.Mathlib.Nat.{le-refl}
 use lib.ListN.{length, getD}
 use Rattle.definition.specs.Syntax.{Ty, int, Binding, Entry, Ctx}
-use Rattle.definition.specs.Contexts.{bindingKey, keyOf, kindOf, bindingType, held}
+use Rattle.definition.specs.Contexts.{bindingKey, kindOf, bindingType, held}
 use Rattle.layout.specs.States.{raised}
 use Rattle.layout.specs.Words.{Keep, Put4}
-use Rattle.layout.specs.Denotes.{Den, written, Base, CtxAt, nil, cons}
+use Rattle.layout.specs.Denotes.{Den, written, EntryAt, Base, CtxAt, nil, cons}
 use Rattle.layout.specs.declared.State.{State}
 use Rattle.layout.proofs.Words.{keep-refl, keep-less, keep-trans}
 use Rattle.layout.proofs.Places.{ty-code}
-use Rattle.layout.proofs.Denotes.{den-frame, base-frame, int-den, ctx-frame, ctx-join, entry-put}
+use Rattle.layout.proofs.Denotes.{den-frame, base-frame, int-den, ctx-frame, ctx-join, question-put}
 use Rattle.contexts.proofs.Build.{past-run}
 use Rattle.reading.specs.Items.{TyTo}
 use Rattle.reading.specs.Contexts.{RestTo, var-rest, tvar-rest, etvar-rest, setvar-rest, mark-rest, EntryTo, EntriesTo, none, some, ListTo}
@@ -99,7 +99,7 @@ module _ {q w w₁ : List ℕ} {p at n : ℕ} {r : Rest} (pre : Loads q w p at n
       }
 
   pub loaded-some : {w₂ : List ℕ} → Put4 w w₁ at (getD q p 0) (getD q (p + 1) 0) (r .ty) 0 → LoadedFrom q w₁ w₂ (r .next) (at + 4) (n - 1) → LoadedFrom q w w₂ p at n
-  unfolding keyOf
+  unfolding held
   loaded-some {w₂} put more =
       let e : at + 4 + 4 * (n - 1) ≡ at + 4 * n = omega (arith, pos) in
       let k₂ : Keep (at + 4) (at + 4 * n) w₁ w₂ = keep-less (le-refl _) (omega arith) (more .keep) in
@@ -109,8 +109,9 @@ module _ {q w w₁ : List ℕ} {p at n : ℕ} {r : Rest} (pre : Loads q w p at n
             let f = begins pos l in
             let z : Rested q w at (f .x) (f .m) r = rested (pre .base) (f .entry) h in
             let d : Den q w₁ (at + 4) (r .ty) (held (f .x)) = den-frame (put .keep) (omega arith) (z .den) in
-            let one : CtxAt q w₁ (at + 4) at (f .x ∷ []) =
-            cons (entry-put (f .x) (at + 4) put (le-refl _) (f .entry .binds .kind .is) (f .entry .binds .name .is) d) nil in
+            let first : EntryAt q w₁ (at + 4) at (f .x) =
+            rw (f .entry .is) (question-put p (f .x .binding) (at + 4) put (le-refl _) (f .entry .binds .kind .is) (f .entry .binds .name .is) d) in
+            let one : CtxAt q w₁ (at + 4) at (f .x ∷ []) = cons first nil in
             let others : CtxAt q w₂ (at + 4 * n) (at + 4 * length (f .x ∷ [])) (f .others) =
             rw (← e) (more .run (f .others) end (rw (z .next) (f .list))) in
             rw (f .is) (ctx-join (f .x ∷ []) (ctx-frame k₂ (omega arith) one) others);

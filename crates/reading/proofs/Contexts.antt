@@ -5,7 +5,7 @@ use mathlib.Core.List.{List, [], _∷_}
 use native.Mathlib.Omega.{arith}
 use lib.ListN.{length, getD}
 use lib.Seq.{slice-cons}
-use Rattle.definition.specs.Syntax.{pick, Binding, varBnd, tvarBnd, etvarBnd, setvarBnd, mark, Entry, Ctx}
+use Rattle.definition.specs.Syntax.{pick, Binding, varBnd, tvarBnd, etvarBnd, setvarBnd, mark, Entry, ofQuestion, Ctx}
 use Rattle.definition.specs.Contexts.{bindingKey, kindOf, nameOf}
 use Rattle.definition.specs.Question.{Read, Reader, next, _>>=_, give, badShape, written, variable, typeName, type, row, binding, entry, unlessEnd, context}
 use Rattle.reading.specs.declared.Item.{Item}
@@ -80,7 +80,7 @@ rest-on mark-rest = omega arith
 
 pub entry-read : {q : List ℕ} {p e : ℕ} {r : Item} → BindingRead q p e r → EntryRead q p e r
 unfolding entry _>>=_
-entry-read x = reads-map (λ b. record { binding = b }) (λ b m s. record { binds = s }) x
+entry-read {p = p} x = reads-map (ofQuestion p) (λ b m s. record { binds = s; is = refl }) x
 
 pub entry-on : {q : List ℕ} (x : Entry) (p m : ℕ) → EntryTo q p x m → p + 2 ≤ m
 entry-on x p m s = rest-on (s .binds .rest)

@@ -200,14 +200,14 @@ unfoldable pub more : Reader ℕ → Reader Ctx → Reader Ctx
 more name m = do e ← entry name; Γ ← m; give (e ∷ Γ)
 
 -- what follows a word, and what is made of it, has one word less
-after-word : {A B C : Type 0} {n : ℕ} {k : ℕ → ℕ → Reader A} {g : A → Reader B} {f f′ : B → Reader C} → ((p w : ℕ) → Upto n (k p w) (k p w))
-    → ((a : A) → Upto n (g a) (g a)) → ((b : B) → Upto n (f b) (f′ b))
-    → Upto (suc n) (_>>=_ (_>>=_ (word k) g) f) (_>>=_ (_>>=_ (word k) g) f′)
+after-word : {A B C : Type 0} {n : ℕ} {k : ℕ → ℕ → Reader A} {g : ℕ → A → Reader B} {f f′ : B → Reader C} → ((p w : ℕ) → Upto n (k p w) (k p w))
+    → ((p : ℕ) (a : A) → Upto n (g p a) (g p a)) → ((b : B) → Upto n (f b) (f′ b))
+    → Upto (suc n) (_>>=_ (λ p. _>>=_ (word k) (g p) p) f) (_>>=_ (λ p. _>>=_ (word k) (g p) p) f′)
 unfolding _>>=_ word next
 after-word h i j p [] l = (refl, tt)
 after-word {n = n} {k} {g} {f} {f′} h i j p (w ∷ ws) l =
-    let r = bind-upto (bind-upto (h p w) i) j (suc p) ws (omega arith) in
-    (r .0, weaken (length ws) (suc (length ws)) (next (next (k p w (suc p) ws) g) f) (omega arith) (r .1))
+    let r = bind-upto (bind-upto (h p w) (i p)) j (suc p) ws (omega arith) in
+    (r .0, weaken (length ws) (suc (length ws)) (next (next (k p w (suc p) ws) (g p)) f) (omega arith) (r .1))
 
 unlessEnd-upto : {A : Type 0} {n : ℕ} (a : A) {m m′ : Reader A} → Upto n m m′ → Upto n (unlessEnd a m) (unlessEnd a m′)
 unfolding unlessEnd
@@ -224,7 +224,7 @@ module _ {name : Reader ℕ} (names : Shrinks name) where
       (and (bind-upto (typeName-upto names) (λ a. give-upto _))
       (and (bind-upto (typeName-upto names) (λ a. bind-upto (type-self names) (λ A. give-upto _)))
       (and (bind-upto (typeName-upto names) (λ a. give-upto _)) last))))))
-      (λ b. give-upto _)
+      (λ p b. give-upto _)
       (λ e. bind-upto h (λ Γ. give-upto _))
 
   context-upto : (n d : ℕ) → n ≤ d → Upto n (readCtx name d) (context name)

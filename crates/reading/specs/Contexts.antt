@@ -3,7 +3,7 @@ use Prim.Native.Nat.{ℕ, _+_, _≤_}
 use mathlib.Core.Path.{_≡_}
 use mathlib.Core.List.{List, [], _∷_}
 use lib.ListN.{length}
-use Rattle.definition.specs.Syntax.{TmVar, TyVar, Ty, Binding, varBnd, tvarBnd, etvarBnd, setvarBnd, mark, Entry, Ctx}
+use Rattle.definition.specs.Syntax.{TmVar, TyVar, Ty, Binding, varBnd, tvarBnd, etvarBnd, setvarBnd, mark, Entry, ofQuestion, Ctx}
 use Rattle.definition.specs.Contexts.{bindingKey, kindOf, nameOf}
 use Rattle.definition.specs.Question.{Read, got, fault, written, binding, entry, context}
 use Rattle.layout.specs.Places.{CodeAt, WordAt}
@@ -26,9 +26,10 @@ pub record BindingTo (q : List ℕ) (p : ℕ) (b : Binding) (m : ℕ) : Type 0 w
   pub name : WordAt q (p + 1) (nameOf (bindingKey b))
   pub rest : RestTo q (p + 2) b m
 
--- an entry stands there: its binding
+-- an entry stands there: its binding, and what else it has by its place
 pub record EntryTo (q : List ℕ) (p : ℕ) (x : Entry) (m : ℕ) : Type 0 where
   pub binds : BindingTo q p (x .binding) m
+  pub is : x ≡ ofQuestion p (x .binding)
 
 -- the entries of Γ stand one after the other from p up to m
 pub data EntriesTo (q : List ℕ) : ℕ → Ctx → ℕ → Type 0 where
