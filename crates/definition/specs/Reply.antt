@@ -51,6 +51,10 @@ errorCode SubtypingError = 15
 errorCode InstantiationError = 16
 errorCode ParameterMismatch = 17
 
+-- "11 to 17": from the first of them to this
+abbrev pub lastError : ℕ
+lastError = 17
+
 unfoldable pub errorAt : About → ℕ
 errorAt noName = 0
 errorAt (aVariable x) = x .number

@@ -8,3 +8,6 @@ pub const BUDGET_MOST: u32 = 8192;
 
 // Written names are below this; the k-th fresh name is this + k.
 pub const FIRST_FRESH: u32 = 1_000_000;
+
+// The codes of type errors are 11 to this.
+pub const LAST_ERROR: u32 = 17;

@@ -1,18 +1,15 @@
--- From the reply's numbers and the report slice to the definition's two lines; and that 8,196 bytes of input decide them.
-use mathlib.Core.Path.{_≡_, refl, sym, ap, _∙_}
+-- From the reply's numbers and the report slice to the definition's two lines.
+use mathlib.Core.Path.{_≡_, refl, _∙_}
 use mathlib.Core.List.{List, [], _∷_, _++_}
-use Prim.Native.Nat.{ℕ, _-_, _≤_, _<_}
-use native.Mathlib.Omega.{arith}
-use native.Mathlib.Nat.{lt-of-not-le, sub-zero}
-use native.Mathlib.Decide.{decLe}
+use Prim.Native.Nat.{ℕ, _-_, _≤_}
+use native.Mathlib.Nat.{sub-zero}
 use lib.ListN.{length, take}
-use lib.Seq.{take-all, length-take-le}
 use Rattle.definition.specs.Host.{bytesOf, numbers, byteReply, host-computes}
 use Rattle.lines.specs.Lines.{lineOf, PutBytes}
 use Rattle.lines.proofs.Lines.{wrote-then}
-use Rattle.entry.specs.declared.Reply.{Reply}
-use Rattle.sized.specs.Sized.{writtenOf, Told}
-use Rattle.sized.proofs.Answering.{too-many}
+use Rattle.replies.specs.declared.Reply.{Reply}
+use Rattle.replies.specs.Numbers.{writtenOf}
+use Rattle.sized.specs.Sized.{Told}
 use Rattle.desk.specs.Said.{twoLines, Said, Lines}
 
 -- ## The two lines
@@ -26,20 +23,7 @@ pub said : {input : List ℕ} {r : Reply} {s out : List ℕ} {z : ℕ} → Told 
 unfolding twoLines numbers
 said t k = let m = t .numbers in record { is = k .is ∙ rw (t .report, m .code, m .at, m .len, m .units); within = k .within }
 
--- ## What was read
-
-cut : (input : List ℕ) → 8196 < length input → byteReply 4096 (take 8196 input) ≡ byteReply 4096 input
-cut input h =
-    let e : length (take 8196 input) ≡ 8196 = length-take-le 8196 input (omega arith) in
-    too-many 4096 (take 8196 input) (omega arith) ∙ sym (too-many 4096 input (omega arith))
-
--- a longer input is answered as its first 8,196 bytes, which the desk program reads
-pub read-enough : (input : List ℕ) → byteReply 4096 (take 8196 input) ≡ byteReply 4096 input
-read-enough input =
-    elim (decLe (length input) 8196) [
-      | yes h ↦ ap (byteReply 4096) (take-all 8196 input h)
-      | no h ↦ cut input (lt-of-not-le h)
-    ]
+-- ## Computed
 
 -- "Case (a) prints `0 0 13 2` and `1 1 0 9 2 0 4 0 0 0 0 1 1`."
 pub case-a : twoLines (byteReply 4096 (bytesOf (7 ∷ 0 ∷ 0 ∷ 3 ∷ 22 ∷ 1 ∷ 0 ∷ 0 ∷ 0 ∷ [])))

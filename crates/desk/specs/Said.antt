@@ -6,8 +6,8 @@ use lib.ListN.{length, take}
 use Rattle.definition.specs.Reply as definition
 use Rattle.definition.specs.Host.{numbers, byteReply}
 use Rattle.lines.specs.Lines.{lineOf}
-use Rattle.entry.specs.declared.Reply.{Reply}
-use Rattle.sized.specs.Sized.{writtenOf}
+use Rattle.replies.specs.declared.Reply.{Reply}
+use Rattle.replies.specs.Numbers.{writtenOf}
 
 -- "prints two lines: the four numbers, then the report words (line empty if none)"
 unfoldable pub twoLines : definition.Reply → List ℕ

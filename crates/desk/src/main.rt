@@ -2,9 +2,10 @@
 ghost use mathlib.Core.Path.{_≡_};
 ghost use lib.ListN.{length};
 ghost use Rattle.desk.specs.Said.{Lines, Said};
-ghost use Rattle.sized.specs.Sized.{Lent, writtenOf};
+ghost use Rattle.replies.specs.Numbers.{writtenOf};
+ghost use Rattle.sized.specs.Sized.{Lent};
 ghost use Prim.Native.Nat.{_≤_};
-use entry::Reply;
+use replies::Reply;
 use libc::STDIN_FILENO;
 use libc::STDOUT_FILENO;
 
@@ -14,7 +15,7 @@ fn say(out: &mut [u8], r: Reply, report: &[u32]) -> usize
     ensures { λ z. ⌜ Lines r (now (report .entry)) (now (out .exit)) z ⌝ }
 {
     let four = [r.code, r.at, r.len, r.units];
-    let n = sized::written(r);
+    let n = replies::written(r);
     let next = lines::line(out, 0, &four);
     lines::line(out, next, &report[0..n])
 }

@@ -15,7 +15,7 @@ use Rattle.definition.specs.Reply.{refusal, reported, errorCode, outReply, read
 use Rattle.definition.specs.Memory.{workAfter, call}
 use Rattle.reading.specs.Questions.{Accepted}
 use Rattle.reading.specs.declared.Question.{Question}
-use Rattle.entry.specs.declared.Reply.{Reply}
+use Rattle.replies.specs.declared.Reply.{Reply}
 use Rattle.laws.proofs.Codes.{Late, error, error-late}
 use Rattle.entry.specs.Entry.{Replied, outcome, Gives, Cleared}
 

@@ -30,7 +30,7 @@ use Rattle.report.specs.Reports as told
 use Rattle.report.specs.declared.Report.{Report}
 use Rattle.report.proofs.Replies.{room-ground, landed-result, result-spelled, result-reported, error-spelled, error-reported}
 use Rattle.laws.proofs.Codes.{error}
-use Rattle.entry.specs.declared.Reply.{Reply}
+use Rattle.replies.specs.declared.Reply.{Reply}
 use Rattle.entry.specs.Entry.{Gives, toldOf, lengthOf, FinishPre, Finishes}
 
 -- ## What became of a report

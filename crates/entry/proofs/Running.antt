@@ -18,7 +18,7 @@ use Rattle.contexts.specs.declared.Opened.{Opened}
 use Rattle.reading.specs.Questions.{Accepted}
 use Rattle.reading.proofs.Questions.{asks-context}
 use Rattle.reading.specs.declared.Question.{Question}
-use Rattle.entry.specs.declared.Reply.{Reply}
+use Rattle.replies.specs.declared.Reply.{Reply}
 use Rattle.entry.specs.Entry.{Gives, RunPre, Runs, Prepares, Answers, FinishPre, Finishes}
 
 -- ## Entering cannot be paid

@@ -24,14 +24,8 @@ use Rattle.layout.specs.declared.Span.{Span}
 use Rattle.judging.specs.declared.Here.{Here}
 use Rattle.reading.specs.Questions.{ContextAt, ModeIs, Accepted}
 use Rattle.reading.specs.declared.Question.{Question}
-use Rattle.entry.specs.declared.Reply.{Reply}
-
--- the four numbers
-pub record Numbers (R : definition.Reply) (r : Reply) : Type 0 where
-  pub code : r .code ≡ R .code
-  pub at : r .at ≡ R .at
-  pub len : r .len ≡ R .len
-  pub units : r .units ≡ R .units
+use Rattle.replies.specs.declared.Reply.{Reply}
+use Rattle.replies.specs.Numbers.{Numbers}
 
 -- question q, work w and report slice s before, w′ and s′ after
 pub record Replied (budget : ℕ) (q w w′ s s′ : List ℕ) (r : Reply) : Type 0 where

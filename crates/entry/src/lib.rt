@@ -15,27 +15,8 @@ use layout::Span;
 use layout::State;
 use reading::Question;
 use reading::Reading;
+use replies::Reply;
 use report::Report;
-
-// The four numbers of a reply.
-pub struct Reply {
-    pub code: u32,
-    pub at: u32,
-    pub len: u32,
-    pub units: u32,
-}
-
-// A reply that refuses: no report, no units.
-fn refusal(code: u32, at: u32) -> Reply
-    ensures { λ r. ⌜ r ≡ record { code = code; at = at; len = 0; units = 0 } ⌝ }
-{
-    Reply {
-        code: code,
-        at: at,
-        len: 0,
-        units: 0,
-    }
-}
 
 // Work is zeroed in blocks of so many words.
 const BLOCK: usize = 256;
@@ -276,24 +257,24 @@ pub fn check(question: &[u32], budget: u32, work: &mut [u32], report: &mut [u32]
     ensures { λ r. ⌜ Replied budget (now (question .entry)) (now (work .entry)) (now (work .exit)) (now (report .entry)) (now (report .exit)) r ⌝ }
 {
     if budget < 1 {
-        return refusal(1, 0);
+        return replies::refusal(1, 0);
     }
     if definition::BUDGET_MOST < budget {
-        return refusal(1, 0);
+        return replies::refusal(1, 0);
     }
     let b = budget as usize;
     let need = work_words(b);
     if work.len() < need {
-        return refusal(2, 0);
+        return replies::refusal(2, 0);
     }
     if question.len() < 1 {
-        return refusal(3, 0);
+        return replies::refusal(3, 0);
     }
     if definition::QUESTION_MOST < question.len() {
-        return refusal(3, 0);
+        return replies::refusal(3, 0);
     }
     match reading::read_question(question) {
-        Reading::Fault(code, at) => refusal(code as u32, at as u32),
+        Reading::Fault(code, at) => replies::refusal(code as u32, at as u32),
         Reading::Asked(a) => run_cleared(question, work, b, a, report),
     }
 }

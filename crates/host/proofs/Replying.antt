@@ -9,9 +9,10 @@ use borrow.Author.Tests.{lt-ltb, le-ltb}
 use Rattle.definition.specs.Syntax.{pick}
 use Rattle.definition.specs.Reply.{Reply}
 use Rattle.definition.specs.Host.{bytesOf, deskReply, byteReply, numbers, hostCall}
-use Rattle.entry.specs.declared.Reply as entry
-use Rattle.entry.specs.Entry.{Numbers, Replied}
-use Rattle.sized.specs.Sized.{Told, writtenOf}
+use Rattle.replies.specs.declared.Reply as program
+use Rattle.replies.specs.Numbers.{Numbers, writtenOf}
+use Rattle.entry.specs.Entry.{Replied}
+use Rattle.sized.specs.Sized.{Told}
 use Rattle.host.specs.Host.{Answered, Checked, numbersOf}
 
 -- ## The call
@@ -24,7 +25,7 @@ capped : (room : ℕ) (b : List ℕ) → byteReply (min room 4096) b ≡ byteRep
 unfolding byteReply deskReply
 capped room b = let e : min (min room 4096) 4096 ≡ min room 4096 = omega arith in rw e
 
-pub answered : {b s s′ rep : List ℕ} {r : entry.Reply} {room n : ℕ} → 16 ≤ length s → room ≡ min ((length s - 16) / 4) 4096 → Told b room rep r
+pub answered : {b s s′ rep : List ℕ} {r : program.Reply} {room n : ℕ} → 16 ≤ length s → room ≡ min ((length s - 16) / 4) 4096 → Told b room rep r
     → n ≡ writtenOf r
     → s′ ≡ bytesOf (numbersOf r ++ take (n - 0) (drop 0 rep)) ++ drop (16 + 4 * length (take (n - 0) (drop 0 rep))) s → Answered b s s′ (r .code)
 unfolding hostCall pick numbers
@@ -39,7 +40,7 @@ answered {b} {s} {s′} {rep} {r} {room} {n} h e t w f =
 
 -- ## The numbers of the free function
 
-pub checked : {budget : ℕ} {q w w′ s s′ : List ℕ} {r : entry.Reply} → Replied budget q w w′ s s′ r
+pub checked : {budget : ℕ} {q w w′ s s′ : List ℕ} {r : program.Reply} → Replied budget q w w′ s s′ r
     → Checked budget q w w′ s s′ (numbersOf r) (r .code)
 unfolding numbers
 checked a =

@@ -4,7 +4,7 @@ use mathlib.Core.List.{List, [], _∷_}
 use Prim.Native.Nat.{ℕ}
 use Rattle.definition.specs.Host.{hostCall, numbers}
 use Rattle.definition.specs.Memory.{call}
-use Rattle.entry.specs.declared.Reply.{Reply}
+use Rattle.replies.specs.declared.Reply.{Reply}
 
 -- the question's bytes b, the reply slice s before and s′ after
 pub record Answered (b s s′ : List ℕ) (r : ℕ) : Type 0 where

@@ -29,7 +29,7 @@ fn answer_in(
     }
     let room = room_for(reply.len());
     let r = sized::answer(question, words, work, report, room);
-    let n = sized::written(r);
+    let n = replies::written(r);
     wire::put_reply(reply, r.code, r.at, r.len, r.units, &report[0..n]);
     r.code
 }

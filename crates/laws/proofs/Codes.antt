@@ -1,4 +1,4 @@
--- The codes of type errors lie from 11 to 17: none is a refusal's, and none is NoRoom's.
+-- The codes of type errors lie from 11 to the last: none is a refusal's, and none is NoRoom's.
 use mathlib.Core.Path.{_≡_}
 use mathlib.Core.Bool.{false, _&&_}
 use mathlib.Core.Logic.{_≢_}
@@ -7,12 +7,12 @@ use native.Mathlib.Omega.{arith}
 use lib.Dec.{leb, eqb, le→leb}
 use mir.Facts.{no-leb, no-eqb}
 use Rattle.definition.specs.Syntax.{Error, UnboundVariable, ApplicationTypeError, TypeApplicationError, OccursCheck, SubtypingError, InstantiationError, ParameterMismatch}
-use Rattle.definition.specs.Reply.{errorCode}
+use Rattle.definition.specs.Reply.{errorCode, lastError}
 use Rattle.laws.proofs.Steps.{is-true, is-false}
 
 pub record IsError (c : ℕ) : Type 0 where
   pub least : 11 ≤ c
-  pub most : c ≤ 17
+  pub most : c ≤ lastError
 
 pub error : (e : Error) → IsError (errorCode e)
 unfolding errorCode

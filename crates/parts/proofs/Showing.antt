@@ -9,7 +9,7 @@ use lib.Seq.{length-take-le, take-suc-set, append-snoc}
 use Rattle.definition.specs.Host.{bytesOf, numbers, byteReply, host-computes}
 use Rattle.lines.specs.Lines.{lineOf, PutBytes}
 use Rattle.lines.proofs.Lines.{wrote-then}
-use Rattle.entry.specs.declared.Reply.{Reply}
+use Rattle.replies.specs.declared.Reply.{Reply}
 use Rattle.sized.specs.Sized.{Told}
 use Rattle.sections.specs.declared.Section.{Section}
 use Rattle.sections.specs.declared.Section.the-variants.{Ty, Context, Tree, First, Second}

@@ -6,7 +6,7 @@ use lib.ListN.{length, take}
 use Rattle.definition.specs.Reply as definition
 use Rattle.definition.specs.Host.{numbers, byteReply}
 use Rattle.lines.specs.Lines.{lineOf, PutBytes}
-use Rattle.entry.specs.declared.Reply.{Reply}
+use Rattle.replies.specs.declared.Reply.{Reply}
 use Rattle.sections.specs.declared.Section.{Section}
 use Rattle.sections.specs.declared.Section.the-variants.{Ty, Context, Tree, First, Second}
 use Rattle.sections.specs.Sections.{partOf}

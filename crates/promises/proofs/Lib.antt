@@ -1,4 +1,6 @@
--- Demand 1's "exactly one", demand 3 and the count, through the contracts of the exported functions.
+-- Demand 1's "exactly one", demand 3, the count and a report's parts, through the contracts of the exported functions.
 pub mod One
 pub mod Demand3
 pub mod Count
+pub mod Reports
+pub mod Main

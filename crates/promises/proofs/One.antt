@@ -2,7 +2,7 @@
 use mathlib.Core.Path.{sym, _∙_}
 use mathlib.Core.List.{List}
 use Prim.Native.Nat.{ℕ}
-use Rattle.entry.specs.declared.Reply.{Reply}
+use Rattle.replies.specs.declared.Reply.{Reply}
 use Rattle.entry.specs.Entry.{Replied}
 use Rattle.host.specs.Host.{Answered, Checked, numbersOf}
 use Rattle.host.proofs.Replying.{checked}

@@ -2,7 +2,7 @@
 // handed on whole. What it comes to stands in specs/ and proofs/.
 ghost use Rattle.host.specs.Host.{Answered, Checked};
 ghost use Rattle.entry.specs.Entry.{Replied};
-use entry::Reply;
+use replies::Reply;
 
 pub fn answered(question: &[u8], reply: &mut [u8]) -> u32
     ensures { λ r. ⌜ Answered (now (question .entry)) (now (reply .entry)) (now (reply .exit)) r ⌝ }

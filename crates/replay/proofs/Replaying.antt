@@ -10,11 +10,11 @@ use Rattle.definition.specs.Reply as definition
 use Rattle.definition.specs.Reply.{reply}
 use Rattle.definition.specs.Memory.{call}
 use Rattle.definition.specs.Host.{wordsOf, bytesOf, numbers}
-use Rattle.entry.specs.declared.Reply.{Reply}
-use Rattle.entry.specs.Entry.{Numbers, Replied}
+use Rattle.replies.specs.declared.Reply.{Reply}
+use Rattle.replies.specs.Numbers.{Numbers, writtenOf}
+use Rattle.entry.specs.Entry.{Replied}
 use Rattle.wire.proofs.Bytes.{length-words, length-bytes}
-use Rattle.sized.specs.Sized.{writtenOf}
-use Rattle.sized.proofs.Lengths.{LengthTold, replies, length-written}
+use Rattle.replies.proofs.Lengths.{LengthTold, replies, length-written}
 use Rattle.sized.proofs.Answering.{first-words}
 use Rattle.replay.specs.declared.Frame.{Frame}
 use Rattle.replay.specs.Replayed.{framed, FrameAnswered, Replayed}

@@ -6,9 +6,8 @@ use lib.ListN.{length, take}
 use Rattle.definition.specs.Reply as definition
 use Rattle.definition.specs.Reply.{reply}
 use Rattle.definition.specs.Host.{wordAt, wordsOf, bytesOf, numbers}
-use Rattle.entry.specs.declared.Reply.{Reply}
-use Rattle.entry.specs.Entry.{Numbers}
-use Rattle.sized.specs.Sized.{writtenOf}
+use Rattle.replies.specs.declared.Reply.{Reply}
+use Rattle.replies.specs.Numbers.{Numbers, writtenOf}
 use Rattle.replay.specs.declared.Frame.{Frame}
 
 -- the reply to a frame whose question stands in the first bytes of b

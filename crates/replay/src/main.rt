@@ -4,7 +4,7 @@ ghost use mathlib.Core.Path.{_≡_};
 ghost use Prim.Native.Nat.{_*_, _≤_, min};
 ghost use lib.ListN.{length};
 ghost use Rattle.replay.specs.Replayed.{LentByMain, Framed, FrameFits, FrameAnswered, Replayed};
-use entry::Reply;
+use replies::Reply;
 use libc::STDIN_FILENO;
 use libc::STDOUT_FILENO;
 
@@ -41,7 +41,7 @@ fn answer(
     ensures { λ z. ⌜ Replayed f (now (bytes .entry)) (now (out .exit)) z ⌝ }
 {
     let r = ask(f, bytes, words, work, report);
-    let n = sized::written(r);
+    let n = replies::written(r);
     wire::put_reply(out, r.code, r.at, r.len, r.units, &report[0..n]);
     16 + 4 * n
 }

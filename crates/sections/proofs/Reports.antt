@@ -11,13 +11,11 @@ use borrow.Author.Tests.{le-leb, ne-eqb, eqb-true}
 use Rattle.definition.specs.Syntax.{pick, section, noSection, tySection, ctxSection, tyWords, ctxWords, treeWords, Error, Shown, noType, oneType, twoTypes, TypeError}
 use Rattle.definition.specs.Run.{Out, done, fail, stop}
 use Rattle.definition.specs.Rules.{Result}
-use Rattle.definition.specs.Reply.{Reply, most, refusal, reported, errorCode, errorAt, errorWords, givesType, resultWords, outReply, reply}
-use Rattle.definition.specs.Memory.{reportAfter, call, memory-computes}
+use Rattle.definition.specs.Reply.{Reply, most, refusal, reported, errorCode, lastError, errorAt, errorWords, givesType, resultWords, outReply, reply}
+use Rattle.definition.specs.Memory.{reportAfter, memory-computes}
 use Rattle.laws.proofs.Steps.{pick-true, pick-false}
-use Rattle.entry.specs.declared.Reply as entry
-use Rattle.entry.specs.Entry.{Replied}
 use Rattle.laws.proofs.Codes.{error, not-seven}
-use Rattle.sized.proofs.Lengths.{LengthTold, replies}
+use Rattle.replies.proofs.Lengths.{LengthTold, replies}
 use Rattle.sections.specs.declared.Section.{Section}
 use Rattle.sections.specs.declared.Section.the-variants.{Ty, Context, Tree, First, Second}
 use Rattle.sections.specs.Sections.{boundsAt, boundsOf, sectionOf, isError, hasSection, orderOf, partOf, sections-compute}
@@ -117,13 +115,6 @@ pub every-reply : (budget work room : ℕ) (q : List ℕ) (x : Section) (s : Lis
     → handed x (reply budget work room q) s ≡ partOf x (reply budget work room q .code) (reply budget work room q .report)
 every-reply budget work room q x s = of-report (replies budget work room q) x s
 
--- the same in the entry's words
-pub after-check : {budget : ℕ} {q w w′ s s′ : List ℕ} {r : entry.Reply} → Replied budget q w w′ s s′ r → (x : Section)
-    → partOf x (r .code) (take (r .len) s′)
-    ≡ partOf x (reply budget (length w) (length s) q .code) (reply budget (length w) (length s) q .report)
-unfolding call
-after-check {budget} {q} {w} {w′} {s} a x = rw (a .numbers .code, a .numbers .len, a .report) (every-reply budget (length w) (length s) q x s)
-
 -- ## By how the run came out
 
 result-joined : (k : ℕ) (r : Result) → resultWords k r ≡ joined (ofResult k r Ty ∷ ofResult k r Context ∷ ofResult k r Tree ∷ [])
@@ -153,7 +144,7 @@ not-zero : (e : Error) → eqb (errorCode e) 0 ≡ false
 not-zero e = ne-eqb (errorCode e) 0 (λ h. omega (arith, error e .least, h))
 
 is-error : (e : Error) → isError (errorCode e) ≡ true
-is-error e = rw (le-leb 11 (errorCode e) (error e .least), le-leb (errorCode e) 17 (error e .most))
+is-error e = rw (le-leb 11 (errorCode e) (error e .least), le-leb (errorCode e) lastError (error e .most))
 
 of-error : (e : TypeError) (x : Section) → partOf x (errorCode (e .error)) (errorWords (e .shown)) ≡ ofError e x
 unfolding partOf ofError

@@ -10,7 +10,7 @@ use lib.Seq.{length-take-le, getD-take, take-take, take-add, take-all, take-at, 
 use borrow.Author.Tests.{le-ltb, lt-ltb, le-leb, lt-leb}
 use Rattle.definition.specs.Syntax.{pick, section}
 use Rattle.laws.proofs.Steps.{pick-true, pick-false}
-use Rattle.entry.specs.declared.Reply.{Reply}
+use Rattle.replies.specs.declared.Reply.{Reply}
 use Rattle.sections.specs.declared.Bounds.{Bounds}
 use Rattle.sections.specs.declared.Section.{Section}
 use Rattle.sections.specs.Sections.{boundsAt, boundsOf, sectionOf, hasSection, orderOf, boundsIn, partOf, PlacedPart, PartOf}

@@ -4,21 +4,16 @@ use mathlib.Core.Bool.{Bool, true, false}
 use mathlib.Core.List.{List, [], _∷_}
 use Prim.Native.Nat.{ℕ}
 use native.Mathlib.Omega.{arith}
-use lib.ListN.{length, take}
 use lib.Dec.{eqb}
 use Rattle.definition.specs.Syntax.{pick}
 use Rattle.definition.specs.Run.{Out, done, fail, stop}
 use Rattle.definition.specs.Rules.{Result}
 use Rattle.definition.specs.Question.{Question, got, readQuestion}
 use Rattle.definition.specs.Reply.{Reply, refusal, answer, outReply, readReply, reply}
-use Rattle.entry.specs.declared.Reply as entry
-use Rattle.entry.specs.Entry.{Replied}
-use Rattle.definition.specs.Memory.{call}
 use Rattle.sections.specs.declared.Section.the-variants.{Tree}
-use Rattle.sections.specs.Sections.{partOf}
 use Rattle.sections.specs.Outcomes.{ofResult, ofError, ofOutcome, handed}
 use Rattle.sections.specs.Nodes.{nodesFrom, nodesIn, statedIn, ofRun, nodes-compute}
-use Rattle.sections.proofs.Reports.{every-reply, every-outcome, after-check}
+use Rattle.sections.proofs.Reports.{every-outcome}
 use Rattle.sections.proofs.Nodes.{tree-met}
 
 -- ## By how the run came out
@@ -67,14 +62,6 @@ tree-on-zero budget work room q s {Q} read h =
     let e = run-reply budget work room q read h in
     let z : outReply (Q .kind) budget room (answer Q budget 0) .code ≡ 0 = ap (λ (R : Reply). R .code) (sym e) ∙ h in
     rw e (every-tree (Q .kind) budget room (answer Q budget 0) s ∙ rw z)
-
--- the same in the entry's words
-pub tree-after-check : {budget : ℕ} {q w w′ s s′ : List ℕ} {r : entry.Reply} {Q : Question} {p : ℕ} {vs : List ℕ} → readQuestion q ≡ got Q p vs
-    → Replied budget q w w′ s s′ r → r .code ≡ 0 → statedIn (partOf Tree (r .code) (take (r .len) s′)) ≡ ofRun (answer Q budget 0)
-unfolding call
-tree-after-check {budget} {q} {w} {s = s} read a h =
-    ap statedIn (after-check a Tree ∙ sym (every-reply budget (length w) (length s) q Tree s))
-    ∙ tree-on-zero budget (length w) (length s) q s read (sym (a .numbers .code) ∙ h)
 
 -- ## Computed
 

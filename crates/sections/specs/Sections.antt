@@ -6,7 +6,8 @@ use Prim.Native.Nat.{ℕ, zero, suc, _+_, _-_, _≤_}
 use lib.ListN.{length, getD, take, drop}
 use lib.Dec.{eqb, ltb, leb}
 use Rattle.definition.specs.Syntax.{pick}
-use Rattle.entry.specs.declared.Reply.{Reply}
+use Rattle.definition.specs.Reply.{lastError}
+use Rattle.replies.specs.declared.Reply.{Reply}
 use Rattle.sections.specs.declared.Bounds.{Bounds}
 use Rattle.sections.specs.declared.Section.{Section}
 use Rattle.sections.specs.declared.Section.the-variants.{Ty, Context, Tree, First, Second}
@@ -31,7 +32,7 @@ sectionOf k ws = take (boundsOf k ws .1 - boundsOf k ws .0) (drop (boundsOf k ws
 
 -- the codes of type errors, "11 UnboundVariable" to "17 ParameterMismatch"
 abbrev pub isError : ℕ → Bool
-isError code = leb 11 code && leb code 17
+isError code = leb 11 code && leb code lastError
 
 -- "On 0 the report has three sections", "A type error's report is two type sections"; a reply with another code has none
 abbrev pub hasSection : Section → ℕ → Bool

@@ -4,7 +4,8 @@ ghost use Prim.Native.Nat.{_≤_};
 ghost use lib.ListN.{length, take};
 ghost use Rattle.sections.specs.Sections.{isError, hasSection, orderOf, partOf, PlacedPart, PartAt, PartOf};
 ghost use Rattle.sections.specs.Nodes.{wholeAt, nodeIn};
-use entry::Reply;
+use definition::LAST_ERROR;
+use replies::Reply;
 
 // What is asked for: on 0 a report has a type, a context and a tree; on 11 to 17 a first and a second type, those of the error.
 pub enum Section {
@@ -80,7 +81,7 @@ fn part_of(report: &[u32], len: usize, k: usize) -> Bounds
 fn is_error(code: u32) -> bool
     ensures { λ b. ⌜ b ≡ isError code ⌝ }
 {
-    11 <= code && code <= 17
+    11 <= code && code <= LAST_ERROR
 }
 
 // Whether the report of a reply with this code has the section.

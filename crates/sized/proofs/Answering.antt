@@ -5,9 +5,10 @@ use mathlib.Core.List.{List, _++_, append-assoc}
 use mathlib.Core.Logic.{_≢_}
 use Prim.Native.Nat.{ℕ, _-_, _*_, _/_, _%_, _≤_, _<_, min}
 use native.Mathlib.Omega.{arith}
-use native.Mathlib.Nat.{sub-zero}
+use native.Mathlib.Nat.{lt-of-not-le, sub-zero}
+use native.Mathlib.Decide.{decLe}
 use lib.ListN.{length, take, drop}
-use lib.Seq.{take-at}
+use lib.Seq.{take-at, take-all, length-take-le}
 use lib.Dec.{eqb}
 use borrow.Author.Tests.{ne-eqb}
 use Rattle.definition.specs.Syntax.{pick}
@@ -15,12 +16,13 @@ use Rattle.definition.specs.Reply.{Reply, refusal, reply, workWords}
 use Rattle.definition.specs.Memory.{reportAfter, call}
 use Rattle.definition.specs.Host.{wordsOf, deskReply, byteReply}
 use Rattle.laws.proofs.Steps.{pick-true, pick-false}
-use Rattle.entry.specs.declared.Reply as entry
-use Rattle.entry.specs.Entry.{Numbers, Replied}
+use Rattle.replies.specs.declared.Reply as program
+use Rattle.replies.specs.Numbers.{Numbers, writtenOf}
+use Rattle.replies.proofs.Lengths.{LengthTold, in-bytes, length-written}
+use Rattle.entry.specs.Entry.{Replied}
 use Rattle.entry.proofs.Refusing.{too-long}
 use Rattle.wire.proofs.Bytes.{length-words}
-use Rattle.sized.specs.Sized.{BytesAnswered, Told, writtenOf}
-use Rattle.sized.proofs.Lengths.{LengthTold, in-bytes, length-written}
+use Rattle.sized.specs.Sized.{BytesAnswered, Told}
 
 -- ## BadLength
 
@@ -47,6 +49,19 @@ pub not-whole : (room : ℕ) (b : List ℕ) → 4 * (length b / 4) ≢ length b 
 unfolding byteReply
 not-whole room b h = pick-false _ _ (ne-eqb (length b % 4) 0 (λ e. h (omega arith)))
 
+cut : (input : List ℕ) → 8196 < length input → byteReply 4096 (take 8196 input) ≡ byteReply 4096 input
+cut input h =
+    let e : length (take 8196 input) ≡ 8196 = length-take-le 8196 input (omega arith) in
+    too-many 4096 (take 8196 input) (omega arith) ∙ sym (too-many 4096 input (omega arith))
+
+-- a longer input is answered as its first 8,196 bytes, which the desk program reads
+pub read-enough : (input : List ℕ) → byteReply 4096 (take 8196 input) ≡ byteReply 4096 input
+read-enough input =
+    elim (decLe (length input) 8196) [
+      | yes h ↦ ap (byteReply 4096) (take-all 8196 input h)
+      | no h ↦ cut input (lt-of-not-le h)
+    ]
+
 -- ## Whole words
 
 pub whole : (room : ℕ) (b : List ℕ) → length b % 4 ≡ 0 → byteReply room b ≡ reply 384 16384 (min room 4096) (wordsOf b (length b / 4))
@@ -54,7 +69,7 @@ unfolding byteReply deskReply
 whole room b k = rw k (pick-true _ _ refl)
 
 -- words held what was read, then what they held before
-pub asked : {b w w′ s s′ : List ℕ} (ws rest : List ℕ) {r : entry.Reply} → 4 * (length b / 4) ≡ length b → length w ≡ 16384 → length s ≤ 4096
+pub asked : {b w w′ s s′ : List ℕ} (ws rest : List ℕ) {r : program.Reply} → 4 * (length b / 4) ≡ length b → length w ≡ 16384 → length s ≤ 4096
     → ws ≡ wordsOf b (length b / 4) ++ rest → Replied 384 (take (length b / 4 - 0) (drop 0 ws)) w w′ s s′ r → BytesAnswered b s s′ r
 unfolding call
 asked {b} {w} {w′} {s} {s′} ws rest h l m e x =
@@ -67,14 +82,14 @@ asked {b} {w} {w′} {s} {s′} ws rest h l m e x =
 -- ## The report's first words
 
 -- they are the report, in a slice that goes on after the part that was lent
-pub first-words : {R : Reply} {t : List ℕ} {r : entry.Reply} {room : ℕ} (part rest : List ℕ) → LengthTold room R → Numbers R r → t ≡ reportAfter R part
+pub first-words : {R : Reply} {t : List ℕ} {r : program.Reply} {room : ℕ} (part rest : List ℕ) → LengthTold room R → Numbers R r → t ≡ reportAfter R part
     → take (writtenOf r) (t ++ rest) ≡ R .report
 unfolding reportAfter
 first-words {R} {t} {r} part rest k n e =
     rw e (ap (take (writtenOf r)) (append-assoc (R .report) (drop (length (R .report)) part) rest)
     ∙ take-at (R .report) _ (writtenOf r) (length-written k n))
 
-pub within : {b part t : List ℕ} {r : entry.Reply} (room : ℕ) (rest : List ℕ) → length part ≡ room → room ≤ 4096
+pub within : {b part t : List ℕ} {r : program.Reply} (room : ℕ) (rest : List ℕ) → length part ≡ room → room ≤ 4096
     → BytesAnswered b part t r → Told b room (t ++ rest) r
 within {b} {part} {t} {r} room rest l h a =
     let R : Reply = byteReply room b in

@@ -3,22 +3,16 @@ use mathlib.Core.Path.{_≡_}
 use mathlib.Core.List.{List}
 use Prim.Native.Nat.{ℕ, _≤_}
 use lib.ListN.{length, take}
-use lib.Dec.{eqb}
-use Rattle.definition.specs.Syntax.{pick}
 use Rattle.definition.specs.Host.{byteReply}
 use Rattle.definition.specs.Memory.{reportAfter}
-use Rattle.entry.specs.declared.Reply.{Reply}
-use Rattle.entry.specs.Entry.{Numbers}
+use Rattle.replies.specs.declared.Reply.{Reply}
+use Rattle.replies.specs.Numbers.{Numbers, writtenOf}
 
 -- words for the question, work, and a report slice
 pub record Lent (ws w s : List ℕ) : Type 0 where
   pub words : length ws ≡ 2048
   pub work : length w ≡ 16384
   pub report : length s ≡ 4096
-
--- how many words of report a reply has: none on NoRoom, whose length is the needed one
-abbrev pub writtenOf : Reply → ℕ
-writtenOf r = pick (eqb (r .code) 7) 0 (r .len)
 
 -- the question's bytes b, the room, and the report slice s′ afterwards
 pub record Told (b : List ℕ) (room : ℕ) (s′ : List ℕ) (r : Reply) : Type 0 where

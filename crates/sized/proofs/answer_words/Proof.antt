@@ -5,10 +5,10 @@ use Rattle.sized.proofs.answer_words.Statement.{statement}
 use Rattle.sized.proofs.answer_words.Tie as tie
 
 returns : tie.Need-returns
-returns c = rw (c .bad-length .ensures) (refused (too-many _ _ (c .before .if1 .taken)))
+returns c = rw (c .refusal .ensures) (refused (too-many _ _ (c .before .if1 .taken)))
 
 returns-2 : tie.Need-returns-2
-returns-2 c = rw (c .bad-length2 .ensures) (refused (not-whole _ _ (c .before .if2 .taken)))
+returns-2 c = rw (c .refusal2 .ensures) (refused (not-whole _ _ (c .before .if2 .taken)))
 
 pub answer-words-spec : {M : Type 1} → statement M
 answer-words-spec =

@@ -15,10 +15,9 @@ use Rattle.definition.specs.Rules.{Result}
 use Rattle.definition.specs.Reply.{Reply, most, refusal, reported, errorCode, outReply, readReply, workWords, reply}
 use Rattle.definition.specs.Host.{deskReply, byteReply, wordsOf}
 use Rattle.laws.proofs.Steps.{pick-true, pick-false}
-use Rattle.entry.specs.declared.Reply as entry
-use Rattle.entry.specs.Entry.{Numbers}
 use Rattle.laws.proofs.Codes.{error, not-seven}
-use Rattle.sized.specs.Sized.{writtenOf}
+use Rattle.replies.specs.declared.Reply as program
+use Rattle.replies.specs.Numbers.{Numbers, writtenOf}
 
 pub record LengthTold (room : ℕ) (R : Reply) : Type 0 where
   pub many : length (R .report) ≡ pick (eqb (R .code) 7) 0 (R .len)
@@ -70,11 +69,11 @@ in-bytes room b = either (eqb (length b % 4) 0) (replies 384 16384 (min room 409
 
 -- ## In the program's reply
 
-pub none : (r : entry.Reply) → r .code ≡ 7 → 0 ≡ writtenOf r
+pub none : (r : program.Reply) → r .code ≡ 7 → 0 ≡ writtenOf r
 none r e = sym (pick-true 0 (r .len) (eq-eqb (r .code) 7 e))
 
-pub some : (r : entry.Reply) → r .code ≢ 7 → r .len ≡ writtenOf r
+pub some : (r : program.Reply) → r .code ≢ 7 → r .len ≡ writtenOf r
 some r p = sym (pick-false 0 (r .len) (ne-eqb (r .code) 7 p))
 
-pub length-written : {room : ℕ} {R : Reply} {r : entry.Reply} → LengthTold room R → Numbers R r → length (R .report) ≡ writtenOf r
+pub length-written : {room : ℕ} {R : Reply} {r : program.Reply} → LengthTold room R → Numbers R r → length (R .report) ≡ writtenOf r
 length-written t n = rw (n .code, n .len) (t .many)

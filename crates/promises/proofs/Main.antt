@@ -1,0 +1,241 @@
+-- Every theorem of the three demands, restated: what is read after the definition (crates/definition/specs) and what the functions for C
+-- promise (crates/host/specs/Host.antt). Each has the name of the theorem that proves it; docs/THEOREMS.md says what it does not say.
+use mathlib.Core.Path.{_≡_}
+use mathlib.Core.Bool.{Bool, true, false}
+use mathlib.Core.List.{List, [], _∷_, map}
+use mathlib.Core.Logic.{_↔_, _≢_}
+use mathlib.Core.Option.{Option, none, some}
+use Prim.Native.Nat.{ℕ, _+_, _-_, _/_, _%_, _≤_}
+use lib.ListN.{length, take}
+use lib.Dec.{eqb}
+use Rattle.definition.specs.Syntax as syntax
+use Rattle.definition.specs.Syntax.{pick, TyVar, Ty, Ctx, Judgement, treeWords}
+use Rattle.definition.specs.Question.{Question, got, readQuestion}
+use Rattle.definition.specs.Run.{Out, done, stop, M}
+use Rattle.definition.specs.Types.{apply}
+use Rattle.definition.specs.Rules.{Result, Here, judge}
+use Rattle.definition.specs.Reply.{refusal, answer, outReply, workWords, reply}
+use Rattle.definition.specs.Memory.{Call, call}
+use Rattle.definition.specs.Host.{wordsOf, byteReply}
+use Rattle.laws.specs.Count.{charged, Count, countTo, Passes, IsRun}
+use Rattle.laws.specs.Rings.{Leads, Ring, Applies}
+use Rattle.laws.proofs.Cases.{seen, asked, cases}
+use Rattle.laws.proofs as laws-proofs
+use Rattle.laws.proofs.LaterPasses.{calls}
+use Rattle.alike.specs.Alike.{Pairing, itself, typeName, InReplies, AlikeQuestions, AlikeReplies, AlikeCalls, WellFormed}
+use Rattle.alike.proofs.Changes.{Change, pairing, change}
+use Rattle.alike.proofs.Deciding.{areAlike, Decided}
+use Rattle.alike.proofs.Examples.{All, PairHolds, pairs}
+use Rattle.alike.proofs as alike-proofs
+use Rattle.alike.proofs.WellFormed.{alike-itself}
+use Rattle.replies.specs.declared.Reply as program
+use Rattle.entry.specs.Entry.{Replied}
+use Rattle.sized.proofs as sized-proofs
+use Rattle.host.specs.Host.{Answered, Checked, numbersOf}
+use Rattle.sections.specs.declared.Section.{Section}
+use Rattle.sections.specs.declared.Section.the-variants.{Tree}
+use Rattle.sections.specs.Sections.{partOf}
+use Rattle.sections.specs.Outcomes.{ofOutcome, handed}
+use Rattle.sections.specs.Nodes.{Finds, nodeIn, statedIn, ofTree, ofRun}
+use Rattle.sections.proofs as sections-proofs
+use Rattle.promises.specs.Common.{SameChecks, SameAnswers, AlikeChecks, AlikeAnswers}
+use Rattle.promises.proofs as promises-proofs
+
+-- # Demand 1: "Every question, made of any words, with any budget and buffers of any length, gets exactly one reply of document 01 and the
+-- call ends. Nothing is left for the caller to have tested."
+
+-- That they ask for nothing, end and promise `Answered`, `Checked` and `Replied` is proved of src/lib.rt. No second reply meets these.
+pub one-answer : {b s s₁ s₂ : List ℕ} {r₁ r₂ : ℕ} → Answered b s s₁ r₁ → Answered b s s₂ r₂ → SameAnswers r₁ r₂ s₁ s₂
+one-answer = promises-proofs.One.one-answer
+
+pub one-check : {budget : ℕ} {q w s w₁ w₂ s₁ s₂ n₁ n₂ : List ℕ} {r₁ r₂ : ℕ} → Checked budget q w w₁ s s₁ n₁ r₁ → Checked budget q w w₂ s s₂ n₂ r₂
+    → SameChecks r₁ r₂ n₁ n₂ s₁ s₂ w₁ w₂
+one-check = promises-proofs.One.one-check
+
+pub one-reply : {budget : ℕ} {q w s w₁ w₂ s₁ s₂ : List ℕ} {r₁ r₂ : program.Reply} → Replied budget q w w₁ s s₁ r₁ → Replied budget q w w₂ s s₂ r₂
+    → SameChecks (r₁ .code) (r₂ .code) (numbersOf r₁) (numbersOf r₂) s₁ s₂ w₁ w₂
+one-reply = promises-proofs.One.one-reply
+
+-- the desk program reads 8,196 bytes: what stands behind them changes nothing
+pub read-enough : (input : List ℕ) → byteReply 4096 (take 8196 input) ≡ byteReply 4096 input
+read-enough = sized-proofs.Answering.read-enough
+
+-- ## "running out of budget is reported when the counted work passes the budget and at no other time"
+
+-- Q is the question that the words are read as; what each function for C returns
+pub check-6-exactly-past-count : {budget : ℕ} {q w w′ s s′ ns : List ℕ} {r : ℕ} {Q : Question} → IsRun budget (length w) q Q
+    → Checked budget q w w′ s s′ ns r → (r ≡ 6) ↔ Passes (countTo 8192 Q) budget
+check-6-exactly-past-count = promises-proofs.Count.check-6-exactly-past-count
+
+pub answer-6-exactly-past-count : {b s s′ : List ℕ} {r : ℕ} {Q : Question} → 16 ≤ length s → length b % 4 ≡ 0
+    → IsRun 384 16384 (wordsOf b (length b / 4)) Q → Answered b s s′ r → (r ≡ 6) ↔ Passes (countTo 8192 Q) 384
+answer-6-exactly-past-count = promises-proofs.Count.answer-6-exactly-past-count
+
+-- the definition's reply, by the count, a number or none, and by the count as far as any bound
+pub six-exactly-past-count : {budget work : ℕ} {ws : List ℕ} {q : Question} → IsRun budget work ws q → {c : Option ℕ} → Count (answer q) 0 c
+    → (room : ℕ)
+    → (reply budget work room ws .code ≡ 6 → Passes c budget) × (Passes c budget → reply budget work room ws ≡ refusal 6 0 budget)
+six-exactly-past-count = laws-proofs.Count.six-exactly-past-count
+
+pub six-exactly-past-count-to : {budget work : ℕ} {ws : List ℕ} {q : Question} → IsRun budget work ws q → (most : ℕ) → budget ≤ most → (room : ℕ)
+    → (reply budget work room ws .code ≡ 6 → Passes (countTo most q) budget)
+    × (Passes (countTo most q) budget → reply budget work room ws ≡ refusal 6 0 budget)
+six-exactly-past-count-to = laws-proofs.Count.six-exactly-past-count-to
+
+pub out-exactly-past-count : {A : Type 0} {m : M A} {n : ℕ} {c : Option ℕ} → Count m n c → (l : ℕ) → (m l n ≡ stop) ↔ Passes c l
+out-exactly-past-count = laws-proofs.Count.out-exactly-past-count
+
+pub one-count : {A : Type 0} {m : M A} {n : ℕ} {c c′ : Option ℕ} → Count m n c → Count m n c′ → c ≡ c′
+one-count = laws-proofs.Count.one-count
+
+-- "Units equal this count in the definition."
+pub units-are-the-count : {budget work : ℕ} {ws : List ℕ} {q : Question} → IsRun budget work ws q → (room : ℕ)
+    → reply budget work room ws .code ≢ 6 → Count (answer q) 0 (some (reply budget work room ws .units))
+units-are-the-count = laws-proofs.Count.units-are-the-count
+
+pub question-counted : (q : Question) (most u : ℕ) → countTo most q ≡ some u → Count (answer q) 0 (some u)
+question-counted = laws-proofs.Count.question-counted
+
+pub judgement-counted : (h : Here) (j : Judgement) (l n u : ℕ) → charged l (judge h j l n) ≡ some u → Count (judge h j) n (some u)
+judgement-counted = laws-proofs.Count.judgement-counted
+
+-- "A solution that leads back to itself therefore ends in 6."
+pub ring-gets-6 : {Γ : Ctx} {a : TyVar} {A : Ty} → Ring Γ a → Leads Γ a A → {q : Question} {l : ℕ} → Applies Γ A Result (answer q) l 0
+    → {budget work : ℕ} {ws : List ℕ} → IsRun budget work ws q → budget ≤ l → (room : ℕ) → reply budget work room ws ≡ refusal 6 0 budget
+ring-gets-6 = laws-proofs.Rings.ring-gets-6
+
+pub ring-has-no-count : {Γ : Ctx} {a : TyVar} {A : Ty} → Ring Γ a → Leads Γ a A → (q : Question) {l : ℕ} → Applies Γ A Result (answer q) l 0
+    → countTo l q ≡ none
+ring-has-no-count = laws-proofs.Rings.ring-has-no-count
+
+pub application-has-no-count : {Γ : Ctx} {a : TyVar} {A : Ty} → Ring Γ a → Leads Γ a A → (n : ℕ) → Count (apply Γ A) n none
+application-has-no-count = laws-proofs.Rings.application-has-no-count
+
+-- document 01's edge; a ring of two; a ring that the run makes
+module _ (budget work room : ℕ) (low : 1 ≤ budget) (high : budget ≤ 8192) (enough : workWords budget ≤ work) where
+  pub endless : reply budget work room (2 ∷ 0 ∷ 4 ∷ 35 ∷ 1 ∷ 4 ∷ 1 ∷ 3 ∷ 22 ∷ 1 ∷ 0 ∷ 0 ∷ 2 ∷ 4 ∷ 1 ∷ []) ≡ refusal 6 0 budget
+  endless = laws-proofs.Endless.endless budget work room low high enough
+
+  pub ring-of-two :
+      reply budget work room (2 ∷ 0 ∷ 10 ∷ 35 ∷ 1 ∷ 4 ∷ 2 ∷ 35 ∷ 2 ∷ 5 ∷ 1 ∷ 4 ∷ 1 ∷ 3 ∷ 22 ∷ 1 ∷ 0 ∷ 0 ∷ 2 ∷ 4 ∷ 1 ∷ []) ≡ refusal 6 0 budget
+  ring-of-two = laws-proofs.Endless.ring-of-two budget work room low high enough
+
+  pub ring-made : reply budget work room (5 ∷ 0 ∷ 2 ∷ 34 ∷ 1 ∷ 0 ∷ 2 ∷ 4 ∷ 1 ∷ 5 ∷ 5 ∷ 4 ∷ 1 ∷ 4 ∷ 1 ∷ []) ≡ refusal 6 0 budget
+  ring-made = laws-proofs.Endless.ring-made budget work room low high enough
+
+-- ## A report's sections, "the part of the caller's report slice it fills, count excluded, empty where there is none"
+
+pub every-reply : (budget work room : ℕ) (q : List ℕ) (x : Section) (s : List ℕ)
+    → handed x (reply budget work room q) s ≡ partOf x (reply budget work room q .code) (reply budget work room q .report)
+every-reply = sections-proofs.Reports.every-reply
+
+pub every-outcome : (k budget room : ℕ) (o : Out Result) (x : Section) (s : List ℕ)
+    → handed x (outReply k budget room o) s ≡ pick (eqb (outReply k budget room o .code) 7) [] (ofOutcome k o x)
+every-outcome = sections-proofs.Reports.every-outcome
+
+pub after-refusal : (c p u : ℕ) (x : Section) (s : List ℕ) → handed x (refusal c p u) s ≡ []
+after-refusal = sections-proofs.Reports.after-refusal
+
+pub after-check : {budget : ℕ} {q w w′ s s′ : List ℕ} {r : program.Reply} → Replied budget q w w′ s s′ r → (x : Section)
+    → partOf x (r .code) (take (r .len) s′)
+    ≡ partOf x (reply budget (length w) (length s) q .code) (reply budget (length w) (length s) q .report)
+after-check = promises-proofs.Reports.after-check
+
+-- its tree, node by node
+pub finds : (ws : List ℕ) (at : ℕ) → Finds ws at (nodeIn ws at)
+finds = sections-proofs.Nodes.finds
+
+pub tree-met : (t : syntax.Tree) → statedIn (treeWords t) ≡ ofTree t
+tree-met = sections-proofs.Nodes.tree-met
+
+pub every-tree : (k budget room : ℕ) (o : Out Result) (s : List ℕ)
+    → statedIn (handed Tree (outReply k budget room o) s) ≡ pick (eqb (outReply k budget room o .code) 7) [] (ofRun o)
+every-tree = sections-proofs.Trees.every-tree
+
+pub tree-on-zero : (budget work room : ℕ) (q s : List ℕ) {Q : Question} {p : ℕ} {vs : List ℕ} → readQuestion q ≡ got Q p vs
+    → reply budget work room q .code ≡ 0 → statedIn (handed Tree (reply budget work room q) s) ≡ ofRun (answer Q budget 0)
+tree-on-zero = sections-proofs.Trees.tree-on-zero
+
+pub tree-after-check : {budget : ℕ} {q w w′ s s′ : List ℕ} {r : program.Reply} {Q : Question} {p : ℕ} {vs : List ℕ} → readQuestion q ≡ got Q p vs
+    → Replied budget q w w′ s s′ r → r .code ≡ 0 → statedIn (partOf Tree (r .code) (take (r .len) s′)) ≡ ofRun (answer Q budget 0)
+tree-after-check = promises-proofs.Reports.tree-after-check
+
+-- # Demand 2: "They are proved against a definition of document 01's rules": `Answered`, `Checked` and `Replied` are equations with it; the
+-- judgements' own contract is `Judged` (crates/judging/specs/Ending.antt). What the definition comes to on document 01's questions:
+
+-- "Cases (a) to (o) are one proved table under a single theorem"
+pub fifteen : map (λ c. seen (asked c) (c .2)) cases ≡ map (λ c. c .2) cases
+fifteen = laws-proofs.Cases.fifteen
+
+-- later passes of context application change nothing: the type that the first one gave is given again, for its calls alone
+pub later-pass : (Γ : Ctx) (A B : Ty) (l n l′ n′ k : ℕ) → apply Γ A l n ≡ done B l′ n′ → apply Γ B (calls Γ B + k) n ≡ done B k n
+later-pass = laws-proofs.LaterPasses.later-pass
+
+-- # Demand 3: "two well-formed questions, alike except in the values of literals and in names, where variable names pair one to one and type
+-- names pair one to one"
+
+-- ## "replies alike word by word but for paired names": of both functions for C
+
+pub checks-alike : {P : Pairing} {q q′ : List ℕ} → AlikeQuestions P q q′ → {budget : ℕ} {w s w₁ w₂ s₁ s₂ n₁ n₂ : List ℕ} {r₁ r₂ : ℕ}
+    → Checked budget q w w₁ s s₁ n₁ r₁ → Checked budget q′ w w₂ s s₂ n₂ r₂
+    → AlikeChecks P (call budget q w s .answered) (call budget q′ w s .answered) r₁ r₂ n₁ n₂ s₁ s₂ w₁ w₂
+checks-alike = promises-proofs.Demand3.checks-alike
+
+pub answers-alike : {P : Pairing} {b b′ : List ℕ} → length b % 4 ≡ 0 → length b′ % 4 ≡ 0
+    → AlikeQuestions P (wordsOf b (length b / 4)) (wordsOf b′ (length b′ / 4)) → {s s₁ s₂ : List ℕ} {r₁ r₂ : ℕ}
+    → Answered b s s₁ r₁ → Answered b′ s s₂ r₂
+    → AlikeAnswers P (byteReply ((length s - 16) / 4) b) (byteReply ((length s - 16) / 4) b′) r₁ r₂ s₁ s₂
+answers-alike = promises-proofs.Demand3.answers-alike
+
+-- "No such reply depends on a literal's value."
+pub check-no-literal : {q q′ : List ℕ} → AlikeQuestions itself q q′ → {budget : ℕ} {w s w₁ w₂ s₁ s₂ n₁ n₂ : List ℕ} {r₁ r₂ : ℕ}
+    → Checked budget q w w₁ s s₁ n₁ r₁ → Checked budget q′ w w₂ s s₂ n₂ r₂ → SameChecks r₁ r₂ n₁ n₂ s₁ s₂ w₁ w₂
+check-no-literal = promises-proofs.Demand3.check-no-literal
+
+pub answer-no-literal : {b b′ : List ℕ} → length b % 4 ≡ 0 → length b′ % 4 ≡ 0
+    → AlikeQuestions itself (wordsOf b (length b / 4)) (wordsOf b′ (length b′ / 4)) → {s s₁ s₂ : List ℕ} {r₁ r₂ : ℕ}
+    → Answered b s s₁ r₁ → Answered b′ s s₂ r₂ → SameAnswers r₁ r₂ s₁ s₂
+answer-no-literal = promises-proofs.Demand3.answer-no-literal
+
+-- ## Of the definition
+
+pub alike : {P : Pairing} {ws ws′ : List ℕ} → AlikeQuestions P ws ws′ → (budget work room : ℕ)
+    → AlikeReplies P (reply budget work room ws) (reply budget work room ws′)
+alike = alike-proofs.Demand3.alike
+
+pub calls-alike : {P : Pairing} {ws ws′ : List ℕ} → AlikeQuestions P ws ws′ → (budget : ℕ) (work slice : List ℕ)
+    → AlikeCalls P (call budget ws work slice) (call budget ws′ work slice)
+calls-alike = alike-proofs.Demand3.calls-alike
+
+pub no-literal : {ws ws′ : List ℕ} → AlikeQuestions itself ws ws′ → (budget work room : ℕ)
+    → reply budget work room ws ≡ reply budget work room ws′
+no-literal = alike-proofs.Demand3.no-literal
+
+pub no-literal-call : {ws ws′ : List ℕ} → AlikeQuestions itself ws ws′ → (budget : ℕ) (work slice : List ℕ)
+    → call budget ws work slice ≡ call budget ws′ work slice
+no-literal-call = alike-proofs.Demand3.no-literal-call
+
+-- on 1 to 7 nothing of a question stands in the report slice
+pub refused-same : {P : Pairing} {c c′ : Call} → AlikeCalls P c c′ → 1 ≤ c .answered .code → c .answered .code ≤ 7 → c .reportSlice ≡ c′ .reportSlice
+refused-same = alike-proofs.Demand3.refused-same
+
+-- ## "alike" is not narrow: every well-formed question, every renaming one to one, every literal; and not wide: it is decided
+
+pub well-formed : {P : Pairing} {ws ws′ : List ℕ} → AlikeQuestions P ws ws′ → WellFormed ws × WellFormed ws′
+well-formed = alike-proofs.Demand3.well-formed
+
+pub changed : (c : Change) {ws : List ℕ} (h : WellFormed ws) → AlikeQuestions (pairing c) ws (change c (alike-itself h .labels) ws)
+changed = alike-proofs.Changes.changed
+
+pub replies-changed : (c : Change) {ws : List ℕ} (h : WellFormed ws) (budget work room : ℕ)
+    → AlikeReplies (pairing c) (reply budget work room ws) (reply budget work room (change c (alike-itself h .labels) ws))
+replies-changed = alike-proofs.Changes.replies-changed
+
+pub decided : (u u′ : List ℕ) → Decided (areAlike u u′) u u′
+decided = alike-proofs.Deciding.decided
+
+pub each-pair : All PairHolds pairs
+each-pair = alike-proofs.Examples.each-pair
+
+pub fresh-alone : {P : Pairing} {a b : ℕ} → InReplies P typeName a b → (1_000_000 ≤ a → a ≡ b) × (1_000_000 ≤ b → a ≡ b)
+fresh-alone = alike-proofs.Examples.fresh-alone

@@ -1,0 +1,2 @@
+-- Laws of a reply's length.
+pub mod Lengths

@@ -1,0 +1,2 @@
+-- What a reply's four numbers are.
+pub mod Numbers
