@@ -5,9 +5,9 @@ ghost use Rattle.desk.specs.Said.{Lines, Said};
 ghost use Rattle.replies.specs.Numbers.{writtenOf};
 ghost use Rattle.sized.specs.Sized.{Lent};
 ghost use Prim.Native.Nat.{_≤_};
-use replies::Reply;
 use libc::STDIN_FILENO;
 use libc::STDOUT_FILENO;
+use replies::Reply;
 
 // The two lines, at the start of out; how many bytes they have.
 fn say(out: &mut [u8], r: Reply, report: &[u32]) -> usize

@@ -5,9 +5,9 @@ ghost use Prim.Native.Nat.{_+_, _*_, _≤_};
 ghost use lib.ListN.{length};
 ghost use Rattle.parts.specs.Shown.{PartsSaid, SectionLines, PartLine, RulesOf, RuleLine};
 ghost use Rattle.sized.specs.Sized.{Lent};
-use replies::Reply;
 use libc::STDIN_FILENO;
 use libc::STDOUT_FILENO;
+use replies::Reply;
 use sections::Section;
 use sections::Walked;
 

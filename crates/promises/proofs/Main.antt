@@ -1,7 +1,6 @@
 -- Every theorem of the three demands, restated: what is read after the definition (crates/definition/specs) and what the functions for C
 -- promise (crates/host/specs/Host.antt). Each has the name of the theorem that proves it; docs/THEOREMS.md says what it does not say.
 use mathlib.Core.Path.{_≡_}
-use mathlib.Core.Bool.{Bool, true, false}
 use mathlib.Core.List.{List, [], _∷_, map}
 use mathlib.Core.Logic.{_↔_, _≢_}
 use mathlib.Core.Option.{Option, none, some}
@@ -22,12 +21,19 @@ use Rattle.laws.specs.Rings.{Leads, Ring, Applies}
 use Rattle.laws.proofs.Cases.{seen, asked, cases}
 use Rattle.laws.proofs as laws-proofs
 use Rattle.laws.proofs.LaterPasses.{calls}
-use Rattle.alike.specs.Alike.{Pairing, itself, typeName, InReplies, AlikeQuestions, AlikeReplies, AlikeCalls, WellFormed}
+use Rattle.alike.specs.Alike.{Label, IsQuestion, Pairing, itself, typeName, InReplies, InQuestions, Each, AlikeQuestions, AlikeReplies, AlikeCalls, WellFormed}
 use Rattle.alike.proofs.Changes.{Change, pairing, change}
-use Rattle.alike.proofs.Deciding.{areAlike, Decided}
+use Rattle.alike.proofs.Deciding.{labelsOf, areAlike, Decided}
 use Rattle.alike.proofs.Examples.{All, PairHolds, pairs}
 use Rattle.alike.proofs as alike-proofs
-use Rattle.alike.proofs.WellFormed.{alike-itself}
+use Rattle.layout.specs.declared.Span.{Span}
+use Rattle.layout.specs.declared.State.{State}
+use Rattle.judging.specs.declared.Ask.{Ask}
+use Rattle.judging.specs.declared.Here as judging
+use Rattle.judging.specs.declared.Step.{Step}
+use Rattle.judging.specs.Asking.{here, Asks}
+use Rattle.judging.specs.Ending.{chargeOf, Judged}
+use Rattle.judging.proofs as judging-proofs
 use Rattle.replies.specs.declared.Reply as program
 use Rattle.entry.specs.Entry.{Replied}
 use Rattle.sized.proofs as sized-proofs
@@ -98,6 +104,11 @@ question-counted = laws-proofs.Count.question-counted
 
 pub judgement-counted : (h : Here) (j : Judgement) (l n u : ℕ) → charged l (judge h j l n) ≡ some u → Count (judge h j) n (some u)
 judgement-counted = laws-proofs.Count.judgement-counted
+
+-- "Each judgement returns its charge, proved equal to the definition's count"
+pub charge-is-count : {h : judging.Here} {q w w₁ : List ℕ} {s : State} {g : Span} {a : Ask} {z : Step} → Judged h q w w₁ s g a z
+    → {j : Judgement} → Asks q w (s .top) g a j → {u : ℕ} → chargeOf z ≡ some u → Count (judge (here h) j) (s .fresh) (some u)
+charge-is-count = judging-proofs.Whole.charge-is-count
 
 -- "A solution that leads back to itself therefore ends in 6."
 pub ring-gets-6 : {Γ : Ctx} {a : TyVar} {A : Ty} → Ring Γ a → Leads Γ a A → {q : Question} {l : ℕ} → Applies Γ A Result (answer q) l 0
@@ -224,6 +235,9 @@ refused-same = alike-proofs.Demand3.refused-same
 pub well-formed : {P : Pairing} {ws ws′ : List ℕ} → AlikeQuestions P ws ws′ → WellFormed ws × WellFormed ws′
 well-formed = alike-proofs.Demand3.well-formed
 
+abbrev pub alike-itself : {ws : List ℕ} → WellFormed ws → AlikeQuestions itself ws ws
+alike-itself = alike-proofs.WellFormed.alike-itself
+
 pub changed : (c : Change) {ws : List ℕ} (h : WellFormed ws) → AlikeQuestions (pairing c) ws (change c (alike-itself h .labels) ws)
 changed = alike-proofs.Changes.changed
 
@@ -231,11 +245,18 @@ pub replies-changed : (c : Change) {ws : List ℕ} (h : WellFormed ws) (budget w
     → AlikeReplies (pairing c) (reply budget work room ws) (reply budget work room (change c (alike-itself h .labels) ws))
 replies-changed = alike-proofs.Changes.replies-changed
 
+pub labelled : {P : Pairing} {s : List Label} {ws ws′ : List ℕ} → IsQuestion s → Each (InQuestions P) s ws ws′ → labelsOf ws ≡ s
+labelled = alike-proofs.Deciding.labelled
+
 pub decided : (u u′ : List ℕ) → Decided (areAlike u u′) u u′
 decided = alike-proofs.Deciding.decided
 
 pub each-pair : All PairHolds pairs
 each-pair = alike-proofs.Examples.each-pair
+
+pub a-literal : (low high budget work room : ℕ)
+    → reply budget work room (7 ∷ 0 ∷ 0 ∷ 3 ∷ 22 ∷ 1 ∷ 0 ∷ 0 ∷ 0 ∷ []) ≡ reply budget work room (7 ∷ 0 ∷ 0 ∷ 3 ∷ 22 ∷ low ∷ high ∷ 0 ∷ 0 ∷ [])
+a-literal = alike-proofs.Examples.a-literal
 
 pub fresh-alone : {P : Pairing} {a b : ℕ} → InReplies P typeName a b → (1_000_000 ≤ a → a ≡ b) × (1_000_000 ≤ b → a ≡ b)
 fresh-alone = alike-proofs.Examples.fresh-alone

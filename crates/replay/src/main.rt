@@ -4,9 +4,9 @@ ghost use mathlib.Core.Path.{_≡_};
 ghost use Prim.Native.Nat.{_*_, _≤_, min};
 ghost use lib.ListN.{length};
 ghost use Rattle.replay.specs.Replayed.{LentByMain, Framed, FrameFits, FrameAnswered, Replayed};
-use replies::Reply;
 use libc::STDIN_FILENO;
 use libc::STDOUT_FILENO;
+use replies::Reply;
 
 // What stands before a question.
 struct Frame {

@@ -1,5 +1,4 @@
 // The entry asked in bytes, with the desk program's sizes: what the desk program and the telephone host share.
-ghost use mathlib.Core.Path.{_≡_};
 ghost use Prim.Native.Nat.{_≤_};
 ghost use Rattle.sized.specs.Sized.{Fit, BytesAnswered, Lent, Told};
 use replies::Reply;
