@@ -45,7 +45,7 @@ enum {
    question. From the bound of docs/STACK.md, with at least 128 KB for the caller and a signal handler, in steps of
    64 KB; the slices that sporeflask_check is lent are not in it. Let the stack have a guard page, as threads have
    unless told otherwise: then too small a stack ends in SIGSEGV and overwrites nothing. The figures belong to the
-   archive that docs/STACK.md names. SPOREFLASK_CHECK_STACK_BYTES evaluates its argument more than once. */
+   archive that docs/runs/STACK.md names. SPOREFLASK_CHECK_STACK_BYTES evaluates its argument more than once. */
 #define SPOREFLASK_ANSWER_STACK_BYTES ((size_t)720896)
 #define SPOREFLASK_CHECK_STACK_BYTES(budget)                         \
     ((((size_t)(budget) <= 492    ? (size_t)592576                   \
