@@ -19,7 +19,11 @@
 extern "C" {
 #endif
 
-/* The version of this header and of the formats that it names. */
+/* The version of this header, of the formats that it names and of the replies; it stands nowhere else. A change of
+   the first number: some well-formed question gets another reply, or a name, a size or the layout of a slice is
+   another or gone, so look at your host; of the second: something is added (a code, a mode, a kind, a function), and
+   every question that was well-formed gets the reply that it got; of the third: replies, names and layout are as they
+   were. */
 #define SPOREFLASK_VERSION_MAJOR 1
 #define SPOREFLASK_VERSION_MINOR 0
 #define SPOREFLASK_VERSION_PATCH 0
