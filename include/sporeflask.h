@@ -19,7 +19,11 @@
 extern "C" {
 #endif
 
-/* The version of this header and of the formats that it names. */
+/* The version of this header, of the formats that it names and of the replies; it stands nowhere else. A change of
+   the first number: some well-formed question gets another reply, or a name, a size or the layout of a slice is
+   another or gone, so look at your host; of the second: something is added (a code, a mode, a kind, a function), and
+   every question that was well-formed gets the reply that it got; of the third: replies, names and layout are as they
+   were. */
 #define SPOREFLASK_VERSION_MAJOR 1
 #define SPOREFLASK_VERSION_MINOR 0
 #define SPOREFLASK_VERSION_PATCH 0
@@ -45,7 +49,7 @@ enum {
    question. From the bound of docs/STACK.md, with at least 128 KB for the caller and a signal handler, in steps of
    64 KB; the slices that sporeflask_check is lent are not in it. Let the stack have a guard page, as threads have
    unless told otherwise: then too small a stack ends in SIGSEGV and overwrites nothing. The figures belong to the
-   archive that docs/STACK.md names. SPOREFLASK_CHECK_STACK_BYTES evaluates its argument more than once. */
+   archive that docs/runs/STACK.md names. SPOREFLASK_CHECK_STACK_BYTES evaluates its argument more than once. */
 #define SPOREFLASK_ANSWER_STACK_BYTES ((size_t)720896)
 #define SPOREFLASK_CHECK_STACK_BYTES(budget)                         \
     ((((size_t)(budget) <= 492    ? (size_t)592576                   \

@@ -1,5 +1,5 @@
 #!/usr/bin/env python3
-"""Small edits to the definition, one at a time, and what notices each. Not part of the gate; docs/MUTATIONS.md has the figures.
+"""Small edits to the definition, one at a time, and what notices each. Not part of the gate; docs/runs/MUTATIONS.md has the figures.
 
 usage: definition.py [--count N --seed S] [--file NAME] [--again LOG..] [--quick] [--scratch DIR] [--minutes M]
        definition.py --list             counts all edits, by file and kind

@@ -1,5 +1,5 @@
 #!/usr/bin/env python3
-"""Small edits to the source, one at a time, and what the prover says of each. Not part of the gate; docs/MUTATIONS.md has the figures.
+"""Small edits to the source, one at a time, and what the prover says of each. Not part of the gate; docs/runs/MUTATIONS.md has the figures.
 
 usage: run.py --count N --seed S [--crate NAME] [--automatic] [--scratch DIR] [--minutes M] [--limit SECONDS]
        run.py --list                    counts all edits, by crate and kind
