@@ -13,7 +13,7 @@ import sys
 
 HERE = pathlib.Path(__file__).resolve().parent
 sys.path.insert(0, str(HERE.parent))
-from desk import SIZES, ask, program, recorded, same_at_the_desk, verdict  # noqa: E402
+from shared.desk import SIZES, ask, program, recorded, same_at_the_desk, verdict  # noqa: E402
 from notation import Notation  # noqa: E402
 from paper import derived  # noqa: E402
 

@@ -13,7 +13,7 @@ import sys
 
 sys.path.insert(0, str(pathlib.Path(__file__).resolve().parent.parent))
 import paper  # noqa: E402
-from desk import answers, files, verdict  # noqa: E402
+from shared.desk import answers, files, verdict  # noqa: E402
 from run import entries  # noqa: E402
 from paper import (  # noqa: E402
     ARROW, BOOL, E_ABS, E_ANN, E_APP, E_BOOL, E_INT, E_VAR, ETVAR, ETVARBND, FORALL, INT, MARK, SETVARBND, TVARBND, VAR,

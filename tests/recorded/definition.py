@@ -13,7 +13,7 @@ import sys
 from computed import check, write
 
 sys.path.insert(0, str(pathlib.Path(__file__).resolve().parent.parent))
-from desk import answers, verdict  # noqa: E402
+from shared.desk import answers, verdict  # noqa: E402
 
 # a folder without this file was not made here, and is left alone
 MADE_HERE = ".made-by-definition.py"

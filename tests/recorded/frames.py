@@ -6,7 +6,7 @@ import struct
 import sys
 
 sys.path.insert(0, str(pathlib.Path(__file__).resolve().parent.parent))
-from desk import SIZES, answers, files, same_at_the_desk  # noqa: E402
+from shared.desk import SIZES, answers, files, same_at_the_desk  # noqa: E402
 
 # no budget needs more work; longer work changes no reply
 MOST_WORK = 266_240 + 300

@@ -17,7 +17,7 @@ import tempfile
 from computed import check_within, write_within
 
 sys.path.insert(0, str(pathlib.Path(__file__).resolve().parent.parent))
-from desk import files, recorded, verdict  # noqa: E402
+from shared.desk import files, recorded, verdict  # noqa: E402
 
 FAULT = re.compile(r"# (\w+): (.+) => (.+)")
 

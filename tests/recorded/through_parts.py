@@ -5,7 +5,7 @@ import pathlib
 import sys
 
 sys.path.insert(0, str(pathlib.Path(__file__).resolve().parent.parent))
-from desk import SIZES, answers, ask_all, files, same_at_the_desk, verdict  # noqa: E402
+from shared.desk import SIZES, answers, ask_all, files, same_at_the_desk, verdict  # noqa: E402
 
 
 def no_room_at_the_desk(line):

@@ -6,7 +6,7 @@ import subprocess
 import sys
 
 sys.path.insert(0, str(pathlib.Path(__file__).resolve().parent.parent))
-from desk import answers, files, program, verdict  # noqa: E402
+from shared.desk import answers, files, program, verdict  # noqa: E402
 
 # what the program lends
 MOST_ROOM = 4_096

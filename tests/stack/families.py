@@ -6,7 +6,7 @@ import sys
 
 ROOT = pathlib.Path(__file__).resolve().parent.parent
 sys.path.insert(0, str(ROOT))
-from desk import recorded  # noqa: E402
+from shared.desk import recorded  # noqa: E402
 
 MOST = 2048
 TRUE, ONE, X = [23, 1], [22, 1, 0], [16, 5]

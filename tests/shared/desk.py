@@ -9,7 +9,7 @@ import struct
 import subprocess
 import sys
 
-PROGRAMS = pathlib.Path(__file__).resolve().parent.parent / "target/bin"
+PROGRAMS = pathlib.Path(__file__).resolve().parents[2] / "target/bin"
 # budget, work and room of the desk program
 SIZES = "384 16384 4096"
 KIT = "/opt/rattle"

@@ -29,7 +29,7 @@ import time
 
 from edits import KINDS, mutants
 
-ROOT = pathlib.Path(__file__).resolve().parent.parent.parent
+ROOT = pathlib.Path(__file__).resolve().parents[3]
 sys.path.insert(0, str(ROOT / "tools"))
 from answers import needs  # noqa: E402
 

@@ -15,8 +15,8 @@ import pathlib
 import re
 import sys
 
-sys.path.insert(0, str(pathlib.Path(__file__).resolve().parent.parent.parent))
-from desk import ask, program  # noqa: E402
+sys.path.insert(0, str(pathlib.Path(__file__).resolve().parent.parent))
+from shared.desk import ask, program  # noqa: E402
 
 USAGE = "usage: compile.py [--ask] [--strict] FORMULAS"
 

@@ -7,9 +7,9 @@ import pathlib
 import struct
 import sys
 
-ROOT = pathlib.Path(__file__).resolve().parent.parent
+ROOT = pathlib.Path(__file__).resolve().parents[2]
 sys.path[:0] = [str(ROOT), str(ROOT / "stack")]
-from desk import recorded  # noqa: E402
+from shared.desk import recorded  # noqa: E402
 from families import LOOP, nested, question  # noqa: E402
 
 

@@ -33,10 +33,10 @@ import time
 from definition_edits import KINDS, edits
 from run import table
 
-ROOT = pathlib.Path(__file__).resolve().parent.parent.parent
+ROOT = pathlib.Path(__file__).resolve().parents[3]
 sys.path[:0] = [str(ROOT / "tests"), str(ROOT / "tests/recorded")]
 from computed import HEAD, theorem  # noqa: E402
-from desk import answers  # noqa: E402
+from shared.desk import answers  # noqa: E402
 
 RECORDED = ["tests/recorded/guards.txt", "tests/recorded/answers.txt", "tests/differences/questions.txt"]
 VERDICTS = ["no type", "answers", "cases", "laws", "survives", "slow", "none"]

@@ -12,22 +12,22 @@ mod timing;
 
 // The oracle's own reading, conversion and makers.
 #[allow(dead_code)]
-#[path = "../../oracle/src/convert.rs"]
+#[path = "../../../oracle/src/convert.rs"]
 mod convert;
 #[allow(dead_code)]
-#[path = "../../oracle/src/make_damage.rs"]
+#[path = "../../../oracle/src/make_damage.rs"]
 mod make_damage;
 #[allow(dead_code)]
-#[path = "../../oracle/src/make_types.rs"]
+#[path = "../../../oracle/src/make_types.rs"]
 mod make_types;
 #[allow(dead_code)]
-#[path = "../../oracle/src/question.rs"]
+#[path = "../../../oracle/src/question.rs"]
 mod question;
 #[allow(dead_code)]
-#[path = "../../oracle/src/reading.rs"]
+#[path = "../../../oracle/src/reading.rs"]
 mod reading;
 #[allow(dead_code)]
-#[path = "../../oracle/src/rng.rs"]
+#[path = "../../../oracle/src/rng.rs"]
 mod rng;
 
 use cases::Class;
