@@ -16,11 +16,11 @@ import re
 import sys
 
 sys.path.insert(0, str(pathlib.Path(__file__).resolve().parent.parent))
-from shared.desk import ask, program  # noqa: E402
+from shared.desk import SIZES, ask  # noqa: E402
+from shared.programs import program  # noqa: E402
+from shared.script import refuse, text  # noqa: E402
 
-USAGE = "usage: compile.py [--ask] [--strict] FORMULAS"
-
-DESK = "384 16384 4096"
+USAGE = "compile.py [--ask] [--strict] FORMULAS"
 TOKEN = re.compile(r"\s*(/\\|->|==|!=|<=|>=|&&|\|\||[A-Za-z_]\w*|\d+|[\\.:=()\[\]<>+*/-])")
 OPERATORS = {op: number + 1 for number, op in enumerate("+ - * / && || == != < <= > >=".split())}
 LEVELS = [["||"], ["&&"], ["==", "!=", "<", "<=", ">", ">="], ["+", "-"], ["*", "/"]]
@@ -226,7 +226,7 @@ class House:
 
 def formulas(file):
     house = House()
-    for number, line in enumerate(pathlib.Path(file).read_text(encoding="utf-8").splitlines(), 1):
+    for number, line in enumerate(text(pathlib.Path(file), USAGE).splitlines(), 1):
         try:
             yield from house.line(line)
         except Mistake as mistake:
@@ -243,16 +243,15 @@ def main():
     options, files = ([word for word in sys.argv[1:] if word.startswith("-") == dashed] for dashed in (True, False))
     asks, strict = "--ask" in options, "--strict" in options
     if set(options) - {"--ask", "--strict"} or len(files) != 1 or not pathlib.Path(files[0]).is_file():
-        print(USAGE, file=sys.stderr)
-        sys.exit(2)
-    if asks and not pathlib.Path(program("desk")[-1]).exists():
-        sys.exit("no desk program in target/bin: `rt check desk` makes it")
+        refuse(USAGE)
+    if asks:
+        program("desk")
     faults = 0
     for name, accepted, words in formulas(files[0]):
         claimed = "accepted" if accepted else "refused"
         words[1] = int(strict)
         verdict, held = asked(accepted, words) if asks else (f"claimed {claimed}", True)
-        print(f"{name} | {verdict} | {DESK} | {' '.join(map(str, words))}")
+        print(f"{name} | {verdict} | {SIZES} | {' '.join(map(str, words))}")
         if not held:
             faults += 1
             how = "" if accepted else " by a type error (11 to 17)"

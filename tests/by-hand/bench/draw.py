@@ -1,10 +1,17 @@
 #!/usr/bin/env python3
-"""draw.py CURVE SVG WHERE: time against units of the generated questions, as a picture.
+"""Time against units of the generated questions, as a picture.
+
+usage: draw.py CURVE SVG WHERE     WHERE says in words how it was run
 
 CURVE has lines of units and nanoseconds: exported, plain, original ('-' where one was not asked).
 """
+import pathlib
 import sys
 
+sys.path.insert(0, str(pathlib.Path(__file__).resolve().parents[2]))
+from shared.script import refuse  # noqa: E402
+
+USAGE = "draw.py CURVE SVG WHERE"
 WIDTH, HEIGHT, LEFT, BOTTOM, TOP = 460, 320, 70, 60, 60
 NAMES = ["exported function", "plain program", "original Rust"]
 COLOURS = ["#0b6e4f", "#1f4e9c", "#b3541e"]
@@ -59,12 +66,28 @@ def panel(rows, x, shown):
         yield f'<text x="{x + LEFT + 18}" y="{y}">{NAMES[which]}, microseconds</text>'
 
 
-def main():
-    curve, svg, where = sys.argv[1:4]
-    rows = []
-    for line in open(curve, encoding="utf-8"):
+def read(curve):
+    """For each line its units, and the time of each contender that was asked."""
+    for line in pathlib.Path(curve).read_text(encoding="utf-8").splitlines():
         units, *times = line.split()
-        rows.append([int(units)] + [None if time == "-" else float(time) for time in times])
+        if len(times) != len(NAMES):
+            raise ValueError(f"not a line of a curve: {line[:80]}")
+        yield [int(units)] + [None if time == "-" else float(time) for time in times]
+
+
+def arguments():
+    """The curve's rows, the picture's name, and how it was run."""
+    if len(sys.argv) != 4 or not pathlib.Path(sys.argv[1]).is_file() or not pathlib.Path(sys.argv[2]).parent.is_dir():
+        refuse(USAGE)
+    try:
+        rows = list(read(sys.argv[1]))
+    except ValueError as fault:
+        refuse(USAGE, fault)
+    return rows or refuse(USAGE, "no line in CURVE"), *sys.argv[2:]
+
+
+def main():
+    rows, svg, where = arguments()
     asked = [which for which in range(3) if rows[0][1 + which] is not None]
     parts = [*panel(rows, 0, [which for which in asked if which < 2]), *panel(rows, WIDTH, [2])]
     caption = f"Well-typed questions at budget 8,192, time by units charged. Run {where}."

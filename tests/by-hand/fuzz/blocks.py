@@ -1,9 +1,17 @@
 #!/usr/bin/env python3
-"""Lists where the archive's blocks begin in a linked program: blocks.py PROGRAM prints lines of offset from sporeflask_check, function."""
+"""Lists where the archive's blocks begin in a linked program.
+
+usage: blocks.py PROGRAM     prints lines of offset from sporeflask_check, function
+"""
+import pathlib
 import re
 import subprocess
 import sys
 
+sys.path.insert(0, str(pathlib.Path(__file__).resolve().parents[2]))
+from shared.script import files, refuse  # noqa: E402
+
+USAGE = "blocks.py PROGRAM"
 HEAD = re.compile(r"^([0-9a-f]+) <(.+)>:$")
 LINE = re.compile(r"^ *([0-9a-f]+):\t(\S+) *(\S*)")
 
@@ -30,10 +38,12 @@ def blocks(listing):
 
 
 def main():
-    program = sys.argv[1]
-    listing = subprocess.run(["x86_64-linux-gnu-objdump", "-d", "--no-show-raw-insn", program], stdout=subprocess.PIPE, check=True, text=True)
+    program = files(USAGE, most=1)[0].resolve()
+    listing = subprocess.run(["x86_64-linux-gnu-objdump", "-d", "--no-show-raw-insn", str(program)], stdout=subprocess.PIPE, text=True)
     found, code = blocks(listing.stdout.splitlines())
-    origin = min(at for at, name in code.items() if name == "sporeflask_check")
+    origin = min((at for at, name in code.items() if name == "sporeflask_check"), default=None)
+    if listing.returncode != 0 or origin is None:
+        refuse(USAGE, "it is linked with the archive")
     for at, name in found:
         print(at - origin, name)
 

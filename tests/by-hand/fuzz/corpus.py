@@ -1,5 +1,7 @@
 #!/usr/bin/env python3
-"""Makes the first corpus: corpus.py FOLDER. The recorded questions with their own sizes, and deep and vast ones at two budgets.
+"""Makes the first corpus: the recorded questions with their own sizes, and deep and vast ones at two budgets.
+
+usage: corpus.py FOLDER
 
 Sides and offsets vary; of 16, one has a reply of less than 16 bytes, and one a question that isn't whole words.
 """
@@ -9,8 +11,9 @@ import sys
 
 ROOT = pathlib.Path(__file__).resolve().parents[2]
 sys.path[:0] = [str(ROOT), str(ROOT / "stack")]
-from shared.desk import recorded  # noqa: E402
 from families import LOOP, nested, question  # noqa: E402
+from shared.recorded import ANSWERS, of  # noqa: E402
+from shared.script import refuse  # noqa: E402
 
 
 def first_bytes(number, budget, work, room):
@@ -43,7 +46,7 @@ def vast(copies, lets, part):
 
 def asked():
     """Budget, work, room and words of each seed."""
-    for number, answer in enumerate(recorded((ROOT / "recorded/answers.txt").read_text().splitlines())):
+    for number, answer in enumerate(of(ANSWERS)):
         yield *sizes(number, answer), [int(word) for word in answer.question.split()]
     large = [words for _, words in nested()] + [vast(45, 40, 700), vast(10, 10, 50), question(1, (), LOOP)]
     for budget in (384, 8192):
@@ -52,8 +55,10 @@ def asked():
 
 
 def main():
-    folder = pathlib.Path(sys.argv[1])
-    folder.mkdir(parents=True, exist_ok=True)
+    folder = pathlib.Path(*sys.argv[1:2])
+    if len(sys.argv) != 2 or folder.name.startswith("-") or not folder.parent.is_dir() or folder.exists() and not folder.is_dir():
+        refuse("corpus.py FOLDER")
+    folder.mkdir(exist_ok=True)
     for number, (budget, work, room, words) in enumerate(asked()):
         packed = struct.pack(f"<{len(words)}I", *words)
         cut = len(packed) - (number // 16 % 4 if number % 16 == 9 else 0)

@@ -36,13 +36,14 @@ from run import table
 ROOT = pathlib.Path(__file__).resolve().parents[3]
 sys.path[:0] = [str(ROOT / "tests"), str(ROOT / "tests/recorded")]
 from computed import HEAD, theorem  # noqa: E402
-from shared.desk import answers  # noqa: E402
+from shared.recorded import ANSWERS, GUARDS, QUESTIONS, of  # noqa: E402
+from shared.script import number, ours  # noqa: E402
 
-RECORDED = ["tests/recorded/guards.txt", "tests/recorded/answers.txt", "tests/differences/questions.txt"]
+SPECS = ROOT / "crates/definition/specs"
 VERDICTS = ["no type", "answers", "cases", "laws", "survives", "slow", "none"]
 ERROR = re.compile(r"/(specs|proofs)/(\w+)\.antt:\d+:\d+: error: `([^`]+)`")
 MOST_KB = 6_000_000
-# a folder without this file was not made here, and is left alone
+# what a folder has that was made here
 MADE_HERE = ".made-by-definition.py"
 
 
@@ -90,9 +91,9 @@ class Line:
 
 
 def recorded():
-    files = [ROOT / name for name in RECORDED]
-    guards = set(answers(files[:1]))
-    return [Line(number, line, line in guards) for number, line in enumerate(answers(files), 1)]
+    guards = dict.fromkeys(of(GUARDS))
+    every = dict.fromkeys([*guards, *of(ANSWERS), *of(QUESTIONS)])
+    return [Line(number, line, line in guards) for number, line in enumerate(every, 1)]
 
 
 # ---- Asking the prover
@@ -276,25 +277,24 @@ def earlier(logs, said):
 
 def options():
     parser = argparse.ArgumentParser(description=__doc__, formatter_class=argparse.RawDescriptionHelpFormatter)
-    parser.add_argument("--count", type=int)
-    parser.add_argument("--seed", type=int, default=1)
-    parser.add_argument("--file")
+    parser.add_argument("--count", type=number(1, 100_000))
+    parser.add_argument("--seed", type=number(0, 2**63), default=1)
+    parser.add_argument("--file", choices=sorted(file.stem for file in SPECS.glob("*.antt")))
     parser.add_argument("--again", type=pathlib.Path, nargs="+", default=[])
     parser.add_argument("--quick", action="store_true")
     parser.add_argument("--scratch", type=pathlib.Path)
-    parser.add_argument("--minutes", type=float, default=600)
+    parser.add_argument("--minutes", type=number(0.1, 10_080, float), default=600)
     parser.add_argument("--list", action="store_true")
-    return parser.parse_args()
+    given = parser.parse_args()
+    if not all(log.is_file() for log in given.again) or given.scratch and not ours(given.scratch, MADE_HERE):
+        parser.error("--again has files, --scratch is new or was made here")
+    return given
 
 
 def main():
     given = options()
-    texts, found = edits(ROOT / "crates/definition/specs")
+    texts, found = edits(SPECS)
     said = names(found, texts)
-    ours = not given.scratch or not given.scratch.exists() or (given.scratch / MADE_HERE).is_file()
-    if given.file not in (None, *texts) or not all(log.is_file() for log in given.again) or not ours:
-        print(f"usage: definition.py: --file is one of {' '.join(texts)}, --again has files, --scratch is new or was made here", file=sys.stderr)
-        sys.exit(2)
     found = [edit for edit in found if given.file in (None, edit.path)]
     if given.list:
         return table("file", list(texts), KINDS, collections.Counter((edit.path, edit.kind) for edit in found))

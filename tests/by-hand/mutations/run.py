@@ -4,7 +4,7 @@
 usage: run.py --count N --seed S [--crate NAME] [--automatic] [--scratch DIR] [--minutes M] [--limit SECONDS]
        run.py --list                    counts all edits, by crate and kind
 
-The edits are made in a copy of the repository (DIR, which is kept and used again; else a temporary one). Each is asked of `rt dev`, which
+The edits are made in a copy of the repository (DIR, which is new or was made here, and is kept; else a temporary one). Each is asked of `rt dev`, which
 looks only at what the edit changes; an edit that is accepted is asked again with nothing kept. The sample takes one edit of every kind
 from every crate in turn (of one kind from a slow crate), so that S fixes the order and N how far it goes, M at most. A refusal counts as
   compiler  the edit does not parse, type-check or borrow-check
@@ -30,9 +30,12 @@ import time
 from edits import KINDS, mutants
 
 ROOT = pathlib.Path(__file__).resolve().parents[3]
-sys.path.insert(0, str(ROOT / "tools"))
+sys.path[:0] = [str(ROOT / "tests"), str(ROOT / "tools")]
 from answers import needs  # noqa: E402
+from shared.script import number, ours  # noqa: E402
 
+# what a folder has that was made here
+MADE_HERE = ".made-by-run.py"
 # each crate's obligations without an edit
 KNOWN = {}
 # crates in which an edit costs the most time
@@ -151,6 +154,8 @@ def diff(mutant):
 
 def prepare(scratch):
     """A copy of the repository in which rt may write, with the proofs that target/ keeps."""
+    scratch.mkdir(parents=True, exist_ok=True)
+    (scratch / MADE_HERE).touch()
     if not (scratch / "crates.txt").exists():
         shutil.copytree(ROOT, scratch, symlinks=True, dirs_exist_ok=True, ignore=shutil.ignore_patterns(".git"))
     shutil.rmtree(scratch / "crates")
@@ -193,17 +198,24 @@ def tell(results):
     table("crate", crates, VERDICTS, collections.Counter((mutant.crate, found) for mutant, found in results))
 
 
-def main():
+def arguments():
     parser = argparse.ArgumentParser(description=__doc__, formatter_class=argparse.RawDescriptionHelpFormatter)
-    parser.add_argument("--count", type=int, default=150)
-    parser.add_argument("--seed", type=int, default=1)
-    parser.add_argument("--crate")
+    parser.add_argument("--count", type=number(1, 100_000), default=150)
+    parser.add_argument("--seed", type=number(0, 2**63), default=1)
+    parser.add_argument("--crate", choices=sorted(folder.name for folder in (ROOT / "crates").iterdir()))
     parser.add_argument("--automatic", action="store_true")
     parser.add_argument("--scratch", type=pathlib.Path)
-    parser.add_argument("--minutes", type=float, default=45)
-    parser.add_argument("--limit", type=int, default=300)
+    parser.add_argument("--minutes", type=number(0.1, 10_080, float), default=45)
+    parser.add_argument("--limit", type=number(1, 86_400), default=300)
     parser.add_argument("--list", action="store_true")
     options = parser.parse_args()
+    if options.scratch and not ours(options.scratch, MADE_HERE):
+        parser.error("--scratch is new or was made here")
+    return options, parser
+
+
+def main():
+    options, parser = arguments()
     found = [mutant for mutant in mutants(ROOT) if options.crate in (None, mutant.crate)]
     if options.automatic:
         found = [mutant for mutant in found if (mutant.crate, mutant.function) not in by_hand()]
@@ -214,8 +226,6 @@ def main():
         return table("crate", crates, list(KINDS), collections.Counter((mutant.crate, mutant.kind) for mutant in found))
     with tempfile.TemporaryDirectory() as room:
         scratch = (options.scratch or pathlib.Path(room)).resolve()
-        if (scratch / ".git").exists():
-            parser.error(f"--scratch: {scratch} is a repository, and its crates would be written over")
         prepare(scratch)
         tell(run(scratch, sample(found, options.count, options.seed), options.limit, options.minutes))
 
