@@ -4,9 +4,10 @@
 usage: run.py --count N --seed S [--crate NAME] [--automatic] [--scratch DIR] [--minutes M] [--limit SECONDS]
        run.py --list                    counts all edits, by crate and kind
 
-The edits are made in a copy of the repository (DIR, which is new or was made here, and is kept; else a temporary one). Each is asked of `rt dev`, which
-looks only at what the edit changes; an edit that is accepted is asked again with nothing kept. The sample takes one edit of every kind
-from every crate in turn (of one kind from a slow crate), so that S fixes the order and N how far it goes, M at most. A refusal counts as
+The edits are made in a copy of the repository (DIR, which is new or was made here, and is kept; else a temporary one). Each is asked of
+`rt dev`, which looks only at what the edit changes; an edit that is accepted is asked again with nothing kept. The sample takes one edit of
+every kind from every crate in turn (of one kind from a slow crate), so that S fixes the order and N how far it goes, M at most. A refusal
+counts as
   compiler  the edit does not parse, type-check or borrow-check
   fact      something that was to be proved is not, or is another statement than the one that the proof proves
   both      that, and the obligations are others than those that the proof names: a fact may fail only because a name means another
