@@ -68,7 +68,7 @@ def panel(rows, x, shown):
 
 def read(curve):
     """For each line its units, and the time of each contender that was asked."""
-    for line in pathlib.Path(curve).read_text(encoding="utf-8").splitlines():
+    for line in curve.read_text(encoding="utf-8").splitlines():
         units, *times = line.split()
         if len(times) != len(NAMES):
             raise ValueError(f"not a line of a curve: {line[:80]}")
@@ -77,13 +77,14 @@ def read(curve):
 
 def arguments():
     """The curve's rows, the picture's name, and how it was run."""
-    if len(sys.argv) != 4 or not pathlib.Path(sys.argv[1]).is_file() or not pathlib.Path(sys.argv[2]).parent.is_dir():
+    curve, svg = map(pathlib.Path, sys.argv[1:3] if len(sys.argv) == 4 else ["", ""])
+    if not curve.is_file() or not svg.parent.is_dir() or svg.is_dir():
         refuse(USAGE)
     try:
-        rows = list(read(sys.argv[1]))
+        rows = list(read(curve))
     except ValueError as fault:
         refuse(USAGE, fault)
-    return rows or refuse(USAGE, "no line in CURVE"), *sys.argv[2:]
+    return rows or refuse(USAGE, "no line in CURVE"), svg, sys.argv[3]
 
 
 def main():

@@ -9,6 +9,7 @@ import subprocess
 import sys
 
 sys.path.insert(0, str(pathlib.Path(__file__).resolve().parents[2]))
+from shared.programs import x86  # noqa: E402
 from shared.script import files, refuse  # noqa: E402
 
 USAGE = "blocks.py PROGRAM"
@@ -39,7 +40,7 @@ def blocks(listing):
 
 def main():
     program = files(USAGE, most=1)[0].resolve()
-    listing = subprocess.run(["x86_64-linux-gnu-objdump", "-d", "--no-show-raw-insn", str(program)], stdout=subprocess.PIPE, text=True)
+    listing = subprocess.run([x86("binutils")[0] + "objdump", "-d", "--no-show-raw-insn", str(program)], stdout=subprocess.PIPE, text=True)
     found, code = blocks(listing.stdout.splitlines())
     origin = min((at for at, name in code.items() if name == "sporeflask_check"), default=None)
     if listing.returncode != 0 or origin is None:
