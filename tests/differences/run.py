@@ -13,12 +13,14 @@ import sys
 
 HERE = pathlib.Path(__file__).resolve().parent
 sys.path.insert(0, str(HERE.parent))
-from desk import SIZES, ask, program, recorded, same_at_the_desk, verdict  # noqa: E402
 from notation import Notation  # noqa: E402
 from paper import derived  # noqa: E402
+from shared.desk import SIZES, ask, same_at_the_desk  # noqa: E402
+from shared.programs import program  # noqa: E402
+from shared.recorded import QUESTIONS, recorded  # noqa: E402
+from shared.script import refuse, verdict  # noqa: E402
 
-USAGE = "usage: run.py [--blocks]"
-QUESTIONS, PAGE = HERE / "questions.txt", HERE.parent.parent / "docs/DIFFERENCES.md"
+PAGE = HERE.parent.parent / "docs/DIFFERENCES.md"
 # words past which a question is not written as a formula
 MOST_WORDS = 100
 # words of a report past which part S leaves out its tree
@@ -105,16 +107,14 @@ def desk_faults(lines):
 
 def main():
     if sys.argv[1:] not in ([], ["--blocks"]):
-        print(USAGE, file=sys.stderr)
-        sys.exit(2)
+        refuse("run.py [--blocks]")
     listed, notation = entries(), dict(notations())
     wanted = {name: [block(name, line, notation[name]) for line in lines] for name, lines in listed}
     if sys.argv[1:]:
         for name, blocks in wanted.items():
             print(name, *(f"```\n{text}\n```" for text in blocks), sep="\n\n", end="\n\n")
         return
-    if not pathlib.Path(program("desk")[-1]).exists():
-        sys.exit("no desk program in target/bin: `rt check desk` makes it")
+    program("desk")
     lines = [line for _, all_lines in listed for line in all_lines]
     asked = [line for line in lines if same_at_the_desk(line)]
     held = [*page_faults(wanted), *desk_faults(asked)]

@@ -13,8 +13,9 @@ import sys
 
 sys.path.insert(0, str(pathlib.Path(__file__).resolve().parent.parent))
 import paper  # noqa: E402
-from desk import answers, files, verdict  # noqa: E402
 from run import entries  # noqa: E402
+from shared.recorded import given  # noqa: E402
+from shared.script import verdict  # noqa: E402
 from paper import (  # noqa: E402
     ARROW, BOOL, E_ABS, E_ANN, E_APP, E_BOOL, E_INT, E_VAR, ETVAR, ETVARBND, FORALL, INT, MARK, SETVARBND, TVARBND, VAR,
                    VARBND, at, put, section)
@@ -245,7 +246,7 @@ def hidden(name, lines):
 
 
 def main():
-    lines, listed = answers(files("switches.py ANSWERS..")), dict(entries())
+    lines, listed = given("switches.py ANSWERS.."), dict(entries())
     lines = [line for line in [*lines, *(line for own in listed.values() for line in own)] if told(line)]
     found = [*(list(faults_of(line)) for line in lines),
              *([f"{name}: no question shows it"] if hidden(name, listed.get(name, [])) else [] for name in sorted(SWITCHES))]

@@ -1,5 +1,7 @@
 #!/usr/bin/env python3
-"""Writes the two test copies of the Rust: copy.py ZOO ORACLE OUT.
+"""Writes the two test copies of the Rust.
+
+usage: copy.py ZOO ORACLE OUT     folders: of the Rust, of this program, of the copies
 
 OUT/original is the Rust with its private functions and fields opened (and, where
 EXACT is set, with a Display of types that tells any two of them apart).
@@ -11,6 +13,9 @@ import os
 import pathlib
 import shutil
 import sys
+
+sys.path.insert(0, str(pathlib.Path(__file__).resolve().parent.parent))
+from shared.script import refuse  # noqa: E402
 
 PRIVATE = [
     "fresh_tyvar", "is_mono", "free_vars", "subst_type", "apply_ctx_type_once",
@@ -113,7 +118,9 @@ def write(out, own, texts):
 
 
 def main():
-    zoo, oracle, out = map(pathlib.Path, sys.argv[1:4])
+    if len(sys.argv) != 4 or not all(map(os.path.isfile, [f"{sys.argv[1]}/typecheck.rs", f"{sys.argv[2]}/counted/lib.rs"])):
+        refuse("copy.py ZOO ORACLE OUT")
+    zoo, oracle, out = map(pathlib.Path, sys.argv[1:])
     ast = (zoo / "ast.rs").read_text()
     errors = without_crates((zoo / "errors.rs").read_text())
     typecheck = opened((zoo / "typecheck.rs").read_text())

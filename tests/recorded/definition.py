@@ -13,29 +13,26 @@ import sys
 from computed import check, write
 
 sys.path.insert(0, str(pathlib.Path(__file__).resolve().parent.parent))
-from desk import answers, verdict  # noqa: E402
+from shared.recorded import answers  # noqa: E402
+from shared.script import ours, refuse, verdict  # noqa: E402
 
-# a folder without this file was not made here, and is left alone
+USAGE = "definition.py ANSWERS.. FOLDER"
+# what a folder has that was made here
 MADE_HERE = ".made-by-definition.py"
 
 
 def arguments():
     *files, folder = map(pathlib.Path, sys.argv[1:] or [""])
     if not files or not all(file.is_file() for file in files):
-        sys.exit(usage("ANSWERS.. are files"))
-    if folder.name.startswith("-") or folder.suffix or folder.exists() and not (folder / MADE_HERE).is_file():
-        sys.exit(usage(f"{folder} is no name for a folder, or is there already and was not made by this script"))
+        refuse(USAGE, "ANSWERS.. are files")
+    if folder.name.startswith("-") or folder.suffix or not ours(folder, MADE_HERE):
+        refuse(USAGE, f"{folder} is no name for a folder, or is there already and was not made by this script")
     return files, folder
-
-
-def usage(why):
-    print(f"usage: definition.py ANSWERS.. FOLDER ({why})", file=sys.stderr)
-    return 2
 
 
 def main():
     files, folder = arguments()
-    lines = answers(files)
+    lines = answers(files, USAGE)
     shutil.rmtree(folder, ignore_errors=True)
     write(folder, lines)
     (folder / MADE_HERE).touch()

@@ -6,7 +6,8 @@ import struct
 import sys
 
 sys.path.insert(0, str(pathlib.Path(__file__).resolve().parent.parent))
-from desk import SIZES, answers, files, same_at_the_desk  # noqa: E402
+from shared.desk import SIZES, same_at_the_desk  # noqa: E402
+from shared.recorded import given  # noqa: E402
 
 # no budget needs more work; longer work changes no reply
 MOST_WORK = 266_240 + 300
@@ -20,7 +21,7 @@ def frame(sizes, line):
 
 
 def main():
-    for line in answers(files("frames.py ANSWERS..")):
+    for line in given("frames.py ANSWERS.."):
         sys.stdout.buffer.write(frame(line.sizes, line))
         if line.sizes != SIZES and same_at_the_desk(line):
             sys.stdout.buffer.write(frame(SIZES, line))

@@ -17,8 +17,10 @@ import tempfile
 from computed import check_within, write_within
 
 sys.path.insert(0, str(pathlib.Path(__file__).resolve().parent.parent))
-from desk import files, recorded, verdict  # noqa: E402
+from shared.recorded import recorded  # noqa: E402
+from shared.script import files, refuse, verdict  # noqa: E402
 
+USAGE = "guarded.py GUARDS"
 FAULT = re.compile(r"# (\w+): (.+) => (.+)")
 
 
@@ -55,7 +57,10 @@ def told(fault, lines):
 
 
 def main():
-    found = groups(files("guarded.py GUARDS")[0].read_text(encoding="utf-8"))
+    try:
+        found = groups(files(USAGE, most=1)[0].read_text(encoding="utf-8"))
+    except ValueError as fault:
+        refuse(USAGE, fault)
     asked = [(fault, lines) for faults, lines in found for fault in faults]
     with concurrent.futures.ThreadPoolExecutor(os.cpu_count()) as pool:
         wrong = list(pool.map(lambda pair: told(*pair), asked))

@@ -4,11 +4,13 @@ import pathlib
 import sys
 
 sys.path.insert(0, str(pathlib.Path(__file__).resolve().parent.parent))
-from desk import answers, ask_all, files, same_at_the_desk, verdict  # noqa: E402
+from shared.desk import ask_all, same_at_the_desk  # noqa: E402
+from shared.recorded import given  # noqa: E402
+from shared.script import verdict  # noqa: E402
 
 
 def main():
-    lines = answers(files("through_desk.py ANSWERS.."))
+    lines = given("through_desk.py ANSWERS..")
     asked = [line for line in lines if same_at_the_desk(line)]
     differ = [line for line, said in zip(asked, ask_all(asked)) if said != f"{line.numbers}\n{line.report}\n"]
     for line in differ:

@@ -5,7 +5,9 @@ import pathlib
 import sys
 
 sys.path.insert(0, str(pathlib.Path(__file__).resolve().parent.parent))
-from desk import SIZES, answers, ask_all, files, same_at_the_desk, verdict  # noqa: E402
+from shared.desk import SIZES, ask_all, same_at_the_desk  # noqa: E402
+from shared.recorded import given  # noqa: E402
+from shared.script import verdict  # noqa: E402
 
 
 def no_room_at_the_desk(line):
@@ -45,7 +47,7 @@ def seven_lines(line):
 
 
 def main():
-    lines = answers(files("through_parts.py ANSWERS.."))
+    lines = given("through_parts.py ANSWERS..")
     asked = [line for line in lines if same_at_the_desk(line) or no_room_at_the_desk(line)]
     differ = [line for line, said in zip(asked, ask_all(asked, "parts")) if said != seven_lines(line)]
     for line in differ:

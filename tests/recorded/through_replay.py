@@ -6,7 +6,9 @@ import subprocess
 import sys
 
 sys.path.insert(0, str(pathlib.Path(__file__).resolve().parent.parent))
-from desk import answers, files, program, verdict  # noqa: E402
+from shared.programs import program  # noqa: E402
+from shared.recorded import given  # noqa: E402
+from shared.script import verdict  # noqa: E402
 
 # what the program lends
 MOST_ROOM = 4_096
@@ -28,7 +30,7 @@ def reply(line):
 
 
 def main():
-    lines = answers(files("through_replay.py ANSWERS.."))
+    lines = given("through_replay.py ANSWERS..")
     asked = [line for line in lines if words(line.sizes)[2] <= MOST_ROOM]
     ran = subprocess.run(program("replay"), input=b"".join(map(frame, asked)), stdout=subprocess.PIPE, check=True)
     at = 0

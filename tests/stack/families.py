@@ -1,12 +1,10 @@
-#!/usr/bin/env python3
 """Questions that nest as deeply as 2,048 words allow, a family for each way to go deep; then samples: the recorded answers, fuzz inputs."""
 import pathlib
 import struct
 import sys
 
-ROOT = pathlib.Path(__file__).resolve().parent.parent
-sys.path.insert(0, str(ROOT))
-from desk import recorded  # noqa: E402
+sys.path.insert(0, str(pathlib.Path(__file__).resolve().parent.parent))
+from shared.recorded import ANSWERS, of  # noqa: E402
 
 MOST = 2048
 TRUE, ONE, X = [23, 1], [22, 1, 0], [16, 5]
@@ -88,7 +86,7 @@ def combined():
 
 
 def samples(folders):
-    for answer in recorded((ROOT / "recorded/answers.txt").read_text().splitlines()):
+    for answer in of(ANSWERS):
         yield "recorded", answer.question.split()
     for folder in folders:
         for path in pathlib.Path(folder).iterdir():

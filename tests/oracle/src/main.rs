@@ -27,6 +27,7 @@ mod run;
 mod strings;
 mod tally;
 
+use std::path::Path;
 use std::process::ExitCode;
 
 /// Deep questions recurse deeply, in the Rust and here.
@@ -51,17 +52,26 @@ fn number(arguments: &[String], name: &str) -> Result<u64, String> {
     flag(arguments, name)?.parse().map_err(|_| format!("{name} wants a number\n{USAGE}"))
 }
 
+/// More than a billion is taken for a slip.
+fn counted(arguments: &[String]) -> Result<u64, String> {
+    match number(arguments, "--count")? {
+        count @ 1..=1_000_000_000 => Ok(count),
+        _ => Err(format!("--count is 1 to 1,000,000,000\n{USAGE}")),
+    }
+}
+
 fn command(arguments: &[String]) -> Result<(), String> {
-    let count = || number(arguments, "--count");
+    let count = || counted(arguments);
     let seed = || number(arguments, "--seed");
-    match arguments.first().map(String::as_str) {
-        Some("compare") => compare::compare(count()?, seed()?),
-        Some("record") => record::record(count()? as usize, seed()?, flag(arguments, "--date")?),
-        Some("generate") => replay::generate(count()?, seed()?),
-        Some("answer") => replay::answer(),
-        Some("frames") => frames::frames(count()?, seed()?),
-        Some("desk") => frames::desk(count()?, seed()?),
-        Some("replay") if arguments.len() > 1 => replay::replay(&arguments[1..]),
+    let files = || arguments[1..].iter().all(|file| Path::new(file).is_file());
+    match (arguments.first().map_or("", String::as_str), arguments.len()) {
+        ("compare", 5) => compare::compare(count()?, seed()?),
+        ("record", 7) => record::record(count()? as usize, seed()?, flag(arguments, "--date")?),
+        ("generate", 5) => replay::generate(count()?, seed()?),
+        ("answer", 1) => replay::answer(),
+        ("frames", 5) => frames::frames(count()?, seed()?),
+        ("desk", 5) => frames::desk(count()?, seed()?),
+        ("replay", 2..) if files() => replay::replay(&arguments[1..]),
         _ => Err(USAGE.to_string()),
     }
 }

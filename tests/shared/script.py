@@ -1,0 +1,51 @@
+"""What the scripts of tests/ and tools/ share: a plain mistake in the arguments, files, folders and numbers as arguments, and the verdict."""
+import argparse
+import pathlib
+import sys
+
+
+def refuse(usage, why=""):
+    """A usage line and status 2."""
+    print(f"usage: {usage}" + (f" ({why})" if why else ""), file=sys.stderr)
+    sys.exit(2)
+
+
+def files(usage, least=1, most=None):
+    """The arguments as files that are there, else they are refused."""
+    found = [pathlib.Path(argument) for argument in sys.argv[1:]]
+    if not least <= len(found) <= (most or len(found)) or not all(file.is_file() for file in found):
+        refuse(usage)
+    return found
+
+
+def text(file, usage):
+    """The text of a file that is an argument; one that is no text is refused."""
+    try:
+        return file.read_text(encoding="utf-8")
+    except ValueError:
+        return refuse(usage, f"{file} is no text")
+
+
+def ours(folder, mark):
+    """Whether a folder can be made, or was made by a script that leaves this mark in it: others are left alone."""
+    return (folder / mark).is_file() if folder.exists() else not any(each.is_file() for each in folder.resolve().parents)
+
+
+def number(least, most, kind=int):
+    """What argparse takes for an argument: a number within bounds."""
+    def read(word):
+        try:
+            found = kind(word)
+        except ValueError:
+            found = None
+        if found is None or not least <= found <= most:
+            raise argparse.ArgumentTypeError(f"a number from {least} to {most} is wanted")
+        return found
+    return read
+
+
+def verdict(passed, failed):
+    """The last line, by which the gate goes; nothing tested is a failure."""
+    failed += not passed and not failed
+    print(f"{passed} passed, {failed} failed", flush=True)
+    sys.exit(1 if failed else 0)
