@@ -1,4 +1,4 @@
--- Every question that is read is alike itself: `AlikeQuestions` leaves out no well-formed question.
+-- Every question that is read is alike itself: `AlikeQuestions` leaves out no well-formed question. One that is not has a fault, 4 or 5.
 use mathlib.Core.Path.{_≡_, refl, sym, ap, _∙_}
 use Prim.Native.Nat.{ℕ, zero, suc, _≤_, _<_}
 use native.Mathlib.Omega.{arith}
@@ -16,10 +16,15 @@ use Rattle.alike.proofs.Words.{done, under, item, join, sect, lastSect}
 
 -- ## What a reading took
 
+-- BadShape and ReservedName
+pub data IsFault : ℕ → Type 0 where
+  shape : IsFault 4
+  name : IsFault 5
+
 -- of the words ws, a reading that succeeds took some words u of which F holds, and left the rest
 data Took {A : Type 0} (F : A → List ℕ → Type 0) (ws : List ℕ) : Read A → Type 0 where
   took : {a : A} {q : ℕ} (u r : List ℕ) → F a u → ws ≡ u ++ r → Took F ws (got a q r)
-  failed : {c p : ℕ} → Took F ws (fault c p)
+  failed : {c p : ℕ} → IsFault c → Took F ws (fault c p)
 
 record Only {A : Type 0} (m : Reader A) (F : A → List ℕ → Type 0) : Type 0 where
   at : (p : ℕ) (ws : List ℕ) → Took F ws (m p ws)
@@ -31,7 +36,7 @@ module _ {A : Type 0} {F : A → List ℕ → Type 0} where
 
   faultO : (p : ℕ) → Only (badShape p) F
   unfolding badShape
-  faultO p = record { at = λ q ws. failed }
+  faultO p = record { at = λ q ws. failed shape }
 
   nextO : {B : Type 0} {G : B → List ℕ → Type 0} {ws : List ℕ} {o : Read B} (f : B → Reader A) → Took G ws o
       → ((b : B) (u : List ℕ) → G b u → Only (f b) (λ a v. F a (u ++ v))) → Took F ws (next o f)
@@ -40,8 +45,8 @@ module _ {A : Type 0} {F : A → List ℕ → Type 0} where
     where
       more : {ws r : List ℕ} {o : Read A} (u : List ℕ) → ws ≡ u ++ r → Took (λ a v. F a (u ++ v)) r o → Took F ws o
       more u e (took v s f e′) = took (u ++ v) s f (e ∙ ap (λ l. u ++ l) e′ ∙ sym (append-assoc u v s))
-      more u e failed = failed
-  nextO f failed h = failed
+      more u e (failed h) = failed h
+  nextO f (failed h) k = failed h
 
   bindO : {B : Type 0} {G : B → List ℕ → Type 0} {m : Reader B} (f : B → Reader A) → Only m G
       → ((b : B) (u : List ℕ) → G b u → Only (f b) (λ a v. F a (u ++ v))) → Only (_>>=_ m f) F
@@ -53,7 +58,7 @@ module _ {A : Type 0} {F : A → List ℕ → Type 0} where
       → Took F ws (next o λ b. give (f b))
   unfolding next give
   lastTook f (took u r g e) h = took u r (h _ u g) e
-  lastTook f failed h = failed
+  lastTook f (failed h) k = failed h
 
   lastO : {B : Type 0} {G : B → List ℕ → Type 0} {m : Reader B} (f : B → A) → Only m G → ((b : B) (u : List ℕ) → G b u → F (f b) u)
       → Only (_>>=_ m λ b. give (f b)) F
@@ -67,11 +72,11 @@ module _ {A : Type 0} {F : A → List ℕ → Type 0} where
 
   consO : {o : Read A} {w : ℕ} {ws : List ℕ} → Took (λ a v. F a (w ∷ v)) ws o → Took F (w ∷ ws) o
   consO {w = w} (took u r f e) = took (w ∷ u) r f (ap (λ l. w ∷ l) e)
-  consO failed = failed
+  consO (failed h) = failed h
 
   wordO : (k : ℕ → ℕ → Reader A) → ((p w : ℕ) → Only (k p w) (λ a v. F a (w ∷ v))) → Only (word k) F
   unfolding word
-  wordO k h = record { at = λ p. elim [ [] ↦ failed | w ∷ ws ↦ consO (h p w .at (suc p) ws) ] }
+  wordO k h = record { at = λ p. elim [ [] ↦ failed shape | w ∷ ws ↦ consO (h p w .at (suc p) ws) ] }
 
 -- ## Words
 
@@ -95,7 +100,7 @@ anyO = wordO _ (λ p w. giveO w (lone tt))
 
 nameO : Only written (Lone (λ w. w < 1_000_000))
 unfolding written reservedName
-nameO = wordO _ (λ p w. pickO (ltb w 1_000_000) (λ t. giveO w (lone (ltb→lt w 1_000_000 t))) (λ t. record { at = λ q ws. failed }))
+nameO = wordO _ (λ p w. pickO (ltb w 1_000_000) (λ t. giveO w (lone (ltb→lt w 1_000_000 t))) (λ t. record { at = λ q ws. failed name }))
 
 variableO : Only (variable written) (λ x. Lone (λ w. w < 1_000_000) (x .number))
 unfolding variable
@@ -164,7 +169,7 @@ tyRowsO ty h =
 
 readTyO : (d : ℕ) → Only (readTy written d) (λ A. Own IsTy)
 unfolding readTy
-readTyO zero = record { at = λ p ws. failed }
+readTyO zero = record { at = λ p ws. failed shape }
 readTyO (suc d) = record { at = λ p ws. oneOfO (tyRowsO _ (record { at = λ q vs. readTyO d .at q vs })) .at p ws }
 
 typeO : Only (type written) (λ A. Own IsTy)
@@ -192,7 +197,7 @@ exprRowsO p expr h =
 
 readExprO : (d : ℕ) → Only (readExpr d) (λ e. Own IsExpr)
 unfolding readExpr
-readExprO zero = record { at = λ p ws. failed }
+readExprO zero = record { at = λ p ws. failed shape }
 readExprO (suc d) = record { at = λ p ws. oneOfO (exprRowsO p _ (record { at = λ q vs. readExprO d .at q vs })) .at p ws }
 
 expressionO : Only expression (λ e. Own IsExpr)
@@ -243,8 +248,8 @@ wholeTook {G = G} n ws h (took {a = a} u [] g e) =
     let long : n ≡ length u = sym (length-take-le n ws h) ∙ ap length taken in
     let full : SectionWords G a (n ∷ u) = rw long (inSection g) in
     took u (drop n ws) full (sym (take-append-drop n ws) ∙ ap (λ l. l ++ drop n ws) taken)
-wholeTook n ws h (took u (x ∷ r) g e) = failed
-wholeTook n ws h failed = failed
+wholeTook n ws h (took u (x ∷ r) g e) = failed shape
+wholeTook n ws h (failed k) = failed k
 
 countedO : {A : Type 0} {G : A → List ℕ → Type 0} {m : Reader A} → Only m G → Only (counted m) (SectionWords G)
 unfolding counted whole badShape pick _>>=_ next
@@ -253,7 +258,7 @@ countedO {G = G} {m} h = wordO _ (λ p n. record { at = λ q ws. by p n q ws (le
     by : (p n q : ℕ) (ws : List ℕ) (b : Bool) → leb n (length ws) ≡ b
         → Took (λ a v. SectionWords G a (n ∷ v)) ws (pick b (whole n m) (badShape p) q ws)
     by p n q ws true e = wholeTook n ws (leb→le n (length ws) (rw e tt)) (h .at q (take n ws))
-    by p n q ws false e = failed
+    by p n q ws false e = failed shape
 
 module _ {A : Type 0} {F : A → List ℕ → Type 0} where
   sectionO : {B : Type 0} {G : B → List ℕ → Type 0} {m : Reader B} (f : B → Reader A) → Only m G
@@ -291,7 +296,7 @@ unknownO = oneOfO (record { at = λ p ws. only (typeNameO .at p ws) } ⨾ noRow)
   where
     only : {ws : List ℕ} {o : Read TyVar} → Took (λ a. Lone (λ w. w < 1_000_000) (a .number)) ws o → Took (λ a v. Unknown a (4 ∷ v)) ws o
     only (took u r (lone l) e) = took u r (unknownWords (InQuestions.typeNames (record { paired = refl; low = l; low′ = l }))) e
-    only failed = failed
+    only (failed h) = failed h
 
 onUnknown : {A : Type 0} {F : A → List ℕ → Type 0} (f : TyVar → Reader A)
     → ((a : TyVar) → InQuestions itself Label.typeName (a .number) (a .number) → Only (f a) (λ b v. F b (2 ∷ 4 ∷ a .number ∷ v)))
@@ -343,7 +348,7 @@ kindRowsO m h =
 
 endO : Only end (λ t u. u ≡ [])
 unfolding end
-endO = record { at = λ p. elim [ [] ↦ took [] [] refl refl | w ∷ ws ↦ failed ] }
+endO = record { at = λ p. elim [ [] ↦ took [] [] refl refl | w ∷ ws ↦ failed shape ] }
 
 questionO : Only question (λ q u. Own IsQuestion u)
 unfolding question
@@ -355,8 +360,17 @@ questionO =
 allRead : {q : Question} {p : ℕ} {ws : List ℕ} {o : Read Question} → Took (λ q u. Own IsQuestion u) ws o → o ≡ got q p []
     → AlikeQuestions itself ws ws
 allRead {q} {p} (took u r h e) g = let z : r ≡ [] = cc in rw (e, z, append-nil u) h
-allRead {q} {p} failed g = let z : _≡_ {A = ℕ} 0 1 = cc in absurd (omega arith)
+allRead {q} {p} (failed h) g = let z : _≡_ {A = ℕ} 0 1 = cc in absurd (omega arith)
 
 pub alike-itself : {ws : List ℕ} → WellFormed ws → AlikeQuestions itself ws ws
 unfolding readQuestion
 alike-itself {ws} h = allRead (questionO .at 0 ws) (h .read)
+
+faulted : {c p : ℕ} {ws : List ℕ} {o : Read Question} → Took (λ q u. Own IsQuestion u) ws o → o ≡ fault c p → IsFault c
+faulted (took u r h e) g = let z : _≡_ {A = ℕ} 0 1 = cc in absurd (omega arith)
+faulted {c} (failed {c = d} h) g = let e : d ≡ c = cc in rw (← e) h
+
+-- "one reading from left to right, and its first fault decides between 4 and 5"
+pub four-or-five : (ws : List ℕ) {c p : ℕ} → readQuestion ws ≡ fault c p → IsFault c
+unfolding readQuestion
+four-or-five ws e = faulted (questionO .at 0 ws) e

@@ -1,19 +1,23 @@
 -- The count through the contracts of both functions for C: "6 Budget: the next charge would pass the budget", and at no other time.
-use mathlib.Core.Path.{_≡_, sym, ap, _∙_}
-use mathlib.Core.Logic.{_↔_}
+use mathlib.Core.Path.{_≡_, refl, sym, ap, _∙_}
+use mathlib.Core.Bool.{Bool, true, false, _||_}
+use mathlib.Core.Logic.{_↔_, _≢_}
 use mathlib.Core.List.{List}
-use Prim.Native.Nat.{ℕ, _-_, _/_, _%_, _≤_, min}
+use Prim.Native.Nat.{ℕ, zero, suc, _-_, _/_, _%_, _≤_, min}
+use native.Mathlib.Omega.{arith}
 use lib.ListN.{length}
-use lib.Dec.{ltb}
+use lib.Dec.{ltb, eqb}
 use mir.Facts.{no-ltb}
+use borrow.Author.Tests.{ltb-false, eqb-false, eqb-true}
 use Rattle.definition.specs.Syntax.{pick}
-use Rattle.definition.specs.Question.{Question}
-use Rattle.definition.specs.Reply.{Reply, refusal}
+use Rattle.definition.specs.Question.{Read, got, fault, Question, readQuestion}
+use Rattle.definition.specs.Reply.{Reply, refusal, readReply, workWords, reply}
 use Rattle.definition.specs.Memory.{call}
-use Rattle.definition.specs.Host.{wordsOf, hostCall}
+use Rattle.definition.specs.Host.{wordsOf, deskReply, byteReply, HostCall, hostCall}
 use Rattle.laws.specs.Count.{countTo, Passes, IsRun}
 use Rattle.laws.proofs.Count.{six-exactly-past-count-to}
 use Rattle.laws.proofs.Steps.{is-false}
+use Rattle.alike.proofs.WellFormed.{IsFault, shape, name, four-or-five}
 use Rattle.sized.proofs.Answering.{whole}
 use Rattle.host.specs.Host.{Answered, Checked}
 
@@ -34,3 +38,67 @@ answer-6-exactly-past-count {b} {s} h k a c =
     let x = six-exactly-past-count-to a 8192 (a .high) (min room 4096) in
     let e = rw (is-false (ltb (length s) 16) (no-ltb h), whole room b k) at (c .returns) in
     (λ i. x .0 (sym e ∙ i), λ p. e ∙ ap (λ (R : Reply). R .code) (x .1 p))
+
+-- ## And at no other time: a call that gets 6 is one that is run
+
+neither : (a b : Bool) → (a || b) ≡ false → (a ≡ false) × (b ≡ false)
+neither true b e = let z : _≡_ {A = ℕ} 0 1 = cc in absurd (omega arith)
+neither false b e = (refl, e)
+
+positive : (n : ℕ) → n ≢ 0 → 1 ≤ n
+positive zero h = absurd (h refl)
+positive (suc n) h = omega arith
+
+-- what was read, after each test
+run-of : {budget work : ℕ} (room : ℕ) {ws : List ℕ} → 1 ≤ budget → budget ≤ 8192 → workWords budget ≤ work → length ws ≤ 2048
+    → (r : Read Question) → readQuestion ws ≡ r → readReply budget room r .code ≡ 6 → (q : Question) × IsRun budget work ws q
+unfolding readReply refusal
+run-of room low high enough few (got q p vs) read e = (q, record { low = low; high = high; enough = enough; few = few; place = p; rest = vs; read = read })
+run-of room {ws} low high enough few (fault c p) read e = go (four-or-five ws read) e
+  where
+    go : {A : Type 0} {c : ℕ} → IsFault c → c ≡ 6 → A
+    go shape e = absurd (omega (arith, e))
+    go name e = absurd (omega (arith, e))
+
+pub six-is-run : (budget work room : ℕ) (ws : List ℕ) → reply budget work room ws .code ≡ 6 → (q : Question) × IsRun budget work ws q
+unfolding reply refusal pick
+six-is-run budget work room ws =
+    let size : Bool = eqb (length ws) 0 || ltb 2048 (length ws) in
+    let many : Bool = eqb budget 0 || ltb 8192 budget in tested many refl (ltb work (workWords budget)) refl size refl
+  where
+    tested : (x : Bool) → (eqb budget 0 || ltb 8192 budget) ≡ x → (y : Bool) → ltb work (workWords budget) ≡ y
+        → (z : Bool) → (eqb (length ws) 0 || ltb 2048 (length ws)) ≡ z
+        → pick x (refusal 1 0 0) (pick y (refusal 2 0 0) (pick z (refusal 3 0 0) (readReply budget room (readQuestion ws)))) .code ≡ 6
+        → (q : Question) × IsRun budget work ws q
+    tested true a y b z c e = absurd (omega (arith, e))
+    tested false a true b z c e = absurd (omega (arith, e))
+    tested false a false b true c e = absurd (omega (arith, e))
+    tested false a false b false c e =
+        let (some, high) = neither (eqb budget 0) (ltb 8192 budget) a in
+        let (none, few) = neither (eqb (length ws) 0) (ltb 2048 (length ws)) c in
+        let low : 1 ≤ budget = positive budget (eqb-false budget 0 some) in
+        run-of room low (ltb-false 8192 budget high) (ltb-false work (workWords budget) b) (ltb-false 2048 (length ws) few) (readQuestion ws) refl e
+
+-- of both functions
+pub check-6-is-run : {budget : ℕ} {q w w′ s s′ ns : List ℕ} {r : ℕ} → Checked budget q w w′ s s′ ns r → r ≡ 6 → (Q : Question) × IsRun budget (length w) q Q
+unfolding call
+check-6-is-run {budget} {q} {w} {s = s} c e = six-is-run budget (length w) (length s) q (sym (c .returns) ∙ e)
+
+pub answer-6-is-run : {b s s′ : List ℕ} {r : ℕ} → Answered b s s′ r → r ≡ 6
+    → (16 ≤ length s) × (length b % 4 ≡ 0) × ((Q : Question) × IsRun 384 16384 (wordsOf b (length b / 4)) Q)
+unfolding hostCall byteReply deskReply pick refusal
+answer-6-is-run {b} {s} c e = go (ltb (length s) 16) refl (eqb (length b % 4) 0) refl _ (sym (c .returns) ∙ e)
+  where
+    room : ℕ
+    room = min ((length s - 16) / 4) 4096
+
+    ws : List ℕ
+    ws = wordsOf b (length b / 4)
+
+    go : (x : Bool) → ltb (length s) 16 ≡ x → (y : Bool) → eqb (length b % 4) 0 ≡ y → (u : List ℕ)
+        → pick {A = HostCall} x (record { returns = 8; replySlice = s })
+        (record { returns = pick y (reply 384 16384 room ws) (refusal 3 0 0) .code; replySlice = u }) .returns ≡ 6
+        → (16 ≤ length s) × (length b % 4 ≡ 0) × ((Q : Question) × IsRun 384 16384 ws Q)
+    go true a y k u h = absurd (omega (arith, h))
+    go false a true k u h = (ltb-false (length s) 16 a, eqb-true (length b % 4) 0 k, six-is-run 384 16384 room ws h)
+    go false a false k u h = absurd (omega (arith, h))

@@ -1,5 +1,6 @@
 -- Every theorem of the three demands, restated: what is read after what the functions for C promise (crates/host/specs/Host.antt) and the
--- definition (crates/definition/specs). Each is proved by the theorem of its name; docs/THEOREMS.md says what it does not say.
+-- definition (crates/definition/specs). Each is proved by the theorem of its name; docs/THEOREMS.md says what it does not say. Computed tables
+-- stand in crates/laws/proofs/Cases.antt and crates/alike/proofs/Examples.antt.
 use mathlib.Core.Path.{_≡_}
 use mathlib.Core.List.{List, [], _∷_, map}
 use mathlib.Core.Logic.{_↔_, _≢_}
@@ -9,7 +10,7 @@ use lib.ListN.{length, take}
 use lib.Dec.{eqb}
 use Rattle.definition.specs.Syntax as syntax
 use Rattle.definition.specs.Syntax.{pick, TyVar, Ty, Ctx, Judgement, treeWords}
-use Rattle.definition.specs.Question.{Question, got, readQuestion}
+use Rattle.definition.specs.Question.{Question, got, fault, readQuestion}
 use Rattle.definition.specs.Run.{Out, done, stop, M}
 use Rattle.definition.specs.Types.{apply}
 use Rattle.definition.specs.Rules.{Result, Here, judge}
@@ -22,6 +23,7 @@ use Rattle.laws.proofs.Cases.{seen, asked, cases}
 use Rattle.laws.proofs as laws-proofs
 use Rattle.laws.proofs.LaterPasses.{calls}
 use Rattle.alike.specs.Alike.{Label, IsQuestion, Pairing, itself, typeName, InReplies, InQuestions, Each, AlikeQuestions, AlikeReplies, AlikeCalls, WellFormed}
+use Rattle.alike.proofs.WellFormed.{IsFault}
 use Rattle.alike.proofs.Changes.{Change, pairing, change}
 use Rattle.alike.proofs.Deciding.{labelsOf, areAlike, Decided}
 use Rattle.alike.proofs.Examples.{All, PairHolds, pairs}
@@ -50,7 +52,8 @@ use Rattle.promises.proofs as promises-proofs
 -- # Demand 1: "Every question, made of any words, with any budget and buffers of any length, gets exactly one reply of document 01 and the
 -- call ends. Nothing is left for the caller to have tested."
 
--- That the functions ask for nothing, end, and promise `Answered`, `Checked` and `Replied` is proved of src/lib.rt. No second reply meets these:
+-- That the functions ask for nothing, end, and promise `Answered`, `Checked` and `Replied` is proved of crates/promises/src/lib.rt. No second
+-- reply meets these.
 pub one-answer : {b s s₁ s₂ : List ℕ} {r₁ r₂ : ℕ} → Answered b s s₁ r₁ → Answered b s s₂ r₂ → SameAnswers r₁ r₂ s₁ s₂
 one-answer = promises-proofs.One.one-answer
 
@@ -69,7 +72,8 @@ read-enough = sized-proofs.Answering.read-enough
 
 -- ## "running out of budget is reported when the counted work passes the budget and at no other time"
 
--- what each function for C returns; Q is the question that the words are read as
+-- crates/laws/specs/Count.antt has the words: `IsRun`, a call that none of 1 to 5 refuses, and the question Q that its words are; `Count`, a
+-- run's count, a number or none; `countTo`, which computes it as far as a bound; `Passes`. What each function for C returns:
 pub check-6-exactly-past-count : {budget : ℕ} {q w w′ s s′ ns : List ℕ} {r : ℕ} {Q : Question} → IsRun budget (length w) q Q
     → Checked budget q w w′ s s′ ns r → (r ≡ 6) ↔ Passes (countTo 8192 Q) budget
 check-6-exactly-past-count = promises-proofs.Count.check-6-exactly-past-count
@@ -78,7 +82,18 @@ pub answer-6-exactly-past-count : {b s s′ : List ℕ} {r : ℕ} {Q : Question}
     → IsRun 384 16384 (wordsOf b (length b / 4)) Q → Answered b s s′ r → (r ≡ 6) ↔ Passes (countTo 8192 Q) 384
 answer-6-exactly-past-count = promises-proofs.Count.answer-6-exactly-past-count
 
--- the definition's reply R to a question that is run: by its count, a number or none, and by its count as far as any bound
+-- at no other time: what gets 6 is such a call
+pub check-6-is-run : {budget : ℕ} {q w w′ s s′ ns : List ℕ} {r : ℕ} → Checked budget q w w′ s s′ ns r → r ≡ 6 → (Q : Question) × IsRun budget (length w) q Q
+check-6-is-run = promises-proofs.Count.check-6-is-run
+
+pub answer-6-is-run : {b s s′ : List ℕ} {r : ℕ} → Answered b s s′ r → r ≡ 6
+    → (16 ≤ length s) × (length b % 4 ≡ 0) × ((Q : Question) × IsRun 384 16384 (wordsOf b (length b / 4)) Q)
+answer-6-is-run = promises-proofs.Count.answer-6-is-run
+
+-- the same of the definition's reply, and R, its reply to such a call: by its count, and by its count as far as any bound
+pub six-is-run : (budget work room : ℕ) (ws : List ℕ) → reply budget work room ws .code ≡ 6 → (q : Question) × IsRun budget work ws q
+six-is-run = promises-proofs.Count.six-is-run
+
 module _ {budget work : ℕ} {ws : List ℕ} {q : Question} (run : IsRun budget work ws q) (room : ℕ) where
   abbrev R : Reply
   R = reply budget work room ws
@@ -94,7 +109,7 @@ module _ {budget work : ℕ} {ws : List ℕ} {q : Question} (run : IsRun budget 
   pub units-are-the-count : R .code ≢ 6 → Count (answer q) 0 (some (R .units))
   units-are-the-count = laws-proofs.Count.units-are-the-count run room
 
-  -- "A solution that leads back to itself therefore ends in 6."
+  -- "A solution that leads back to itself therefore ends in 6": with the budget l, the run comes to apply Γ to A (crates/laws/specs/Rings.antt)
   pub ring-gets-6 : {Γ : Ctx} {a : TyVar} {A : Ty} {l : ℕ} → Ring Γ a → Leads Γ a A → Applies Γ A Result (answer q) l 0 → budget ≤ l
       → R ≡ refusal 6 0 budget
   ring-gets-6 r h a b = laws-proofs.Rings.ring-gets-6 r h a run b room
@@ -114,7 +129,7 @@ question-counted = laws-proofs.Count.question-counted
 pub judgement-counted : (h : Here) (j : Judgement) (l n u : ℕ) → charged l (judge h j l n) ≡ some u → Count (judge h j) n (some u)
 judgement-counted = laws-proofs.Count.judgement-counted
 
--- "Each judgement returns its charge, proved equal to the definition's count"
+-- "Each judgement returns its charge, proved equal to the definition's count"; in the program's words, z is what its function returns
 pub charge-is-count : {h : judging.Here} {q w w₁ : List ℕ} {s : State} {g : Span} {a : Ask} {z : Step} → Judged h q w w₁ s g a z
     → {j : Judgement} → Asks q w (s .top) g a j → {u : ℕ} → chargeOf z ≡ some u → Count (judge (here h) j) (s .fresh) (some u)
 charge-is-count = judging-proofs.Whole.charge-is-count
@@ -139,9 +154,14 @@ module _ (budget work room : ℕ) (low : 1 ≤ budget) (high : budget ≤ 8192) 
   pub ring-made : reply budget work room (5 ∷ 0 ∷ 2 ∷ 34 ∷ 1 ∷ 0 ∷ 2 ∷ 4 ∷ 1 ∷ 5 ∷ 5 ∷ 4 ∷ 1 ∷ 4 ∷ 1 ∷ []) ≡ refusal 6 0 budget
   ring-made = laws-proofs.Endless.ring-made budget work room low high enough
 
+-- "one reading from left to right, and its first fault decides between 4 and 5"
+pub four-or-five : (ws : List ℕ) {c p : ℕ} → readQuestion ws ≡ fault c p → IsFault c
+four-or-five = alike-proofs.WellFormed.four-or-five
+
 -- ## A report's sections, "the part of the caller's report slice it fills, count excluded, empty where there is none", and its tree's nodes
 
--- whatever the slice s held: of a reply, of how a run came out, of a refusal
+-- `handed x R s` is what is handed out as section x after the reply R, whatever the slice s held (crates/sections/specs): a section of the
+-- reply's own report; what the run came to has of it; nothing after a refusal
 pub every-reply : (budget work room : ℕ) (q : List ℕ) (x : Section) (s : List ℕ)
     → handed x (reply budget work room q) s ≡ partOf x (reply budget work room q .code) (reply budget work room q .report)
 every-reply = sections-proofs.Reports.every-reply
@@ -153,7 +173,8 @@ every-outcome = sections-proofs.Reports.every-outcome
 pub after-refusal : (c p u : ℕ) (x : Section) (s : List ℕ) → handed x (refusal c p u) s ≡ []
 after-refusal = sections-proofs.Reports.after-refusal
 
--- of any words; of a tree's words; of how a run came out; of a question that is accepted
+-- `nodeIn` is the node at a place, `statedIn` the nodes that a walk meets: of any words; of a tree's words, in the tree's order; of what is
+-- handed out as the tree, by how the run came out; of a question that is accepted
 pub finds : (ws : List ℕ) (at : ℕ) → Finds ws at (nodeIn ws at)
 finds = sections-proofs.Nodes.finds
 
@@ -181,11 +202,11 @@ module _ {budget : ℕ} {q w w′ s s′ : List ℕ} {r : program.Reply} (a : Re
 -- # Demand 2: "They are proved against a definition of document 01's rules": `Answered`, `Checked` and `Replied` are equations with it, and
 -- each judgement's function is held to it by `Judged` (crates/judging/specs/Ending.antt)
 
--- "Cases (a) to (o) are one proved table under a single theorem"; their edges stand beside it (crates/laws/proofs/Cases.antt)
+-- "Cases (a) to (o) are one proved table under a single theorem", crates/laws/proofs/Cases.antt, where its edges stand too
 pub fifteen : map (λ c. seen (asked c) (c .2)) cases ≡ map (λ c. c .2) cases
 fifteen = laws-proofs.Cases.fifteen
 
--- "Later passes of apply_ctx_type change nothing"
+-- "Later passes of apply_ctx_type change nothing": B again, for one charge for each of its parts
 pub later-pass : (Γ : Ctx) (A B : Ty) (l n l′ n′ k : ℕ) → apply Γ A l n ≡ done B l′ n′ → apply Γ B (calls Γ B + k) n ≡ done B k n
 later-pass = laws-proofs.LaterPasses.later-pass
 
@@ -249,7 +270,7 @@ module _ (c : Change) {ws : List ℕ} (h : WellFormed ws) where
   pub replies-changed : (budget work room : ℕ) → AlikeReplies (pairing c) (reply budget work room ws) (reply budget work room after)
   replies-changed = alike-proofs.Changes.replies-changed c h
 
--- ## and not wide: a test decides it, a question has one list of labels, a fresh name pairs with itself alone; a table of pairs
+-- ## and not wide: a test that computes decides it, a question has one list of labels, a fresh name pairs with itself alone; a table of pairs
 
 pub decided : (u u′ : List ℕ) → Decided (areAlike u u′) u u′
 decided = alike-proofs.Deciding.decided
