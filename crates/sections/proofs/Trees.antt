@@ -1,4 +1,4 @@
--- After a call: a walk through what is handed out as the tree meets the nodes of the definition's tree.
+-- A walk through what is handed out as the tree of a reply meets the nodes of the definition's tree.
 use mathlib.Core.Path.{_≡_, refl, sym, ap, _∙_}
 use mathlib.Core.Bool.{Bool, true, false}
 use mathlib.Core.List.{List, [], _∷_}
