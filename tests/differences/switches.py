@@ -246,8 +246,11 @@ def hidden(name, lines):
 
 
 def main():
-    lines, listed = given("switches.py ANSWERS.."), dict(entries())
-    lines = [line for line in [*lines, *(line for own in listed.values() for line in own)] if told(line)]
+    lines, listed = list(filter(told, given("switches.py ANSWERS.."))), dict(entries())
+    if not lines:
+        print("switches: no answer of ANSWERS.. tells an outcome of the paper's expressions")
+        verdict(0, 0)
+    lines += [line for own in listed.values() for line in own if told(line)]
     found = [*(list(faults_of(line)) for line in lines),
              *([f"{name}: no question shows it"] if hidden(name, listed.get(name, [])) else [] for name in sorted(SWITCHES))]
     faults = [fault for each in found for fault in each]

@@ -15,8 +15,9 @@ import shutil
 import sys
 
 sys.path.insert(0, str(pathlib.Path(__file__).resolve().parent.parent))
-from shared.script import refuse  # noqa: E402
+from shared.script import makeable, refuse, text  # noqa: E402
 
+USAGE = "copy.py ZOO ORACLE OUT"
 PRIVATE = [
     "fresh_tyvar", "is_mono", "free_vars", "subst_type", "apply_ctx_type_once",
     "before", "occurs_check", "inst_l", "inst_r", "subtype", "check", "infer_app",
@@ -118,12 +119,12 @@ def write(out, own, texts):
 
 
 def main():
-    if len(sys.argv) != 4 or not all(map(os.path.isfile, [f"{sys.argv[1]}/typecheck.rs", f"{sys.argv[2]}/counted/lib.rs"])):
-        refuse("copy.py ZOO ORACLE OUT")
-    zoo, oracle, out = map(pathlib.Path, sys.argv[1:])
-    ast = (zoo / "ast.rs").read_text()
-    errors = without_crates((zoo / "errors.rs").read_text())
-    typecheck = opened((zoo / "typecheck.rs").read_text())
+    zoo, oracle, out = map(pathlib.Path, sys.argv[1:] if len(sys.argv) == 4 else [""] * 3)
+    own = [oracle / name / "lib.rs" for name in ("original", "counted")]
+    if not all(map(os.path.isfile, own)) or not makeable(out / "original") or not makeable(out / "counted"):
+        refuse(USAGE)
+    ast, errors, typecheck = (text(zoo / name, USAGE) for name in ("ast.rs", "errors.rs", "typecheck.rs"))
+    errors, typecheck = without_crates(errors), opened(typecheck)
     write(out / "original", oracle / "original",
           {"ast.rs": exact(ast) if "EXACT" in os.environ else ast,
            "errors.rs": errors, "typecheck.rs": typecheck})

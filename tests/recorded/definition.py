@@ -18,7 +18,7 @@ from shared.script import ours, refuse, verdict  # noqa: E402
 
 USAGE = "definition.py ANSWERS.. FOLDER"
 # what a folder has that was made here
-MADE_HERE = ".made-by-definition.py"
+MADE_HERE = ".made-by-recorded-definition.py"
 
 
 def arguments():
@@ -26,8 +26,8 @@ def arguments():
     if not files or not all(file.is_file() for file in files):
         refuse(USAGE, "ANSWERS.. are files")
     if folder.name.startswith("-") or folder.suffix or not ours(folder, MADE_HERE):
-        refuse(USAGE, f"{folder} is no name for a folder, or is there already and was not made by this script")
-    return files, folder
+        refuse(USAGE, f"{folder} can't be made, or is there already and was not made by this script")
+    return files, folder.resolve()
 
 
 def main():

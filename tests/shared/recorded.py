@@ -31,7 +31,7 @@ def answers(found, usage):
     """The recorded answers of files, each once; a file of something else is refused as a mistake in the arguments."""
     try:
         return list(dict.fromkeys(line for file in found for line in of(file)))
-    except ValueError as fault:
+    except (OSError, ValueError) as fault:
         return refuse(usage, fault)
 
 

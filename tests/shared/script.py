@@ -1,5 +1,6 @@
 """What the scripts of tests/ and tools/ share: a plain mistake in the arguments, files, folders and numbers as arguments, and the verdict."""
 import argparse
+import os
 import pathlib
 import sys
 
@@ -19,16 +20,33 @@ def files(usage, least=1, most=None):
 
 
 def text(file, usage):
-    """The text of a file that is an argument; one that is no text is refused."""
+    """The text of a file that is an argument; one that can't be read, or is no text, is refused."""
     try:
         return file.read_text(encoding="utf-8")
-    except ValueError:
-        return refuse(usage, f"{file} is no text")
+    except (OSError, ValueError):
+        return refuse(usage, f"{file} can't be read, or is no text")
+
+
+def makeable(folder):
+    """Whether a folder is there or can be made: it is tried, and what was made is taken away again. Nothing is made through a dead link."""
+    if any(os.path.islink(each) and not os.path.exists(each) for each in (folder, *folder.parents)):
+        return False
+    whole = pathlib.Path(os.path.realpath(folder))
+    new = [each for each in (whole, *whole.parents) if not os.path.lexists(each)]
+    try:
+        whole.mkdir(parents=True, exist_ok=True)
+        return True
+    except OSError:
+        return False
+    finally:
+        for each in filter(os.path.isdir, new):
+            each.rmdir()
 
 
 def ours(folder, mark):
     """Whether a folder can be made, or was made by a script that leaves this mark in it: others are left alone."""
-    return (folder / mark).is_file() if folder.exists() else not any(each.is_file() for each in folder.resolve().parents)
+    whole = os.path.realpath(folder)
+    return os.path.isfile(os.path.join(whole, mark)) if os.path.lexists(whole) else makeable(folder)
 
 
 def number(least, most, kind=int):

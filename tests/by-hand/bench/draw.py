@@ -3,13 +3,14 @@
 
 usage: draw.py CURVE SVG WHERE     WHERE says in words how it was run
 
-CURVE has lines of units and nanoseconds: exported, plain, original ('-' where one was not asked).
+CURVE has lines of units and nanoseconds: exported ('-' in every line where it was not asked), plain, original.
 """
+import math
 import pathlib
 import sys
 
 sys.path.insert(0, str(pathlib.Path(__file__).resolve().parents[2]))
-from shared.script import refuse  # noqa: E402
+from shared.script import refuse, text  # noqa: E402
 
 USAGE = "draw.py CURVE SVG WHERE"
 WIDTH, HEIGHT, LEFT, BOTTOM, TOP = 460, 320, 70, 60, 60
@@ -66,13 +67,21 @@ def panel(rows, x, shown):
         yield f'<text x="{x + LEFT + 18}" y="{y}">{NAMES[which]}, microseconds</text>'
 
 
+def amount(word):
+    found = float(word)
+    if not 0 < found < math.inf:
+        raise ValueError(f"not a number above 0: {word}")
+    return found
+
+
 def read(curve):
-    """For each line its units, and the time of each contender that was asked."""
-    for line in curve.read_text(encoding="utf-8").splitlines():
-        units, *times = line.split()
-        if len(times) != len(NAMES):
+    """For each line its units, and the time of each contender; None where the exported function was not asked."""
+    for line in curve.splitlines():
+        words = line.split()
+        if len(words) != 1 + len(NAMES):
             raise ValueError(f"not a line of a curve: {line[:80]}")
-        yield [int(units)] + [None if time == "-" else float(time) for time in times]
+        units, exported, *others = words
+        yield [amount(units), None if exported == "-" else amount(exported), *map(amount, others)]
 
 
 def arguments():
@@ -81,9 +90,11 @@ def arguments():
     if not curve.is_file() or not svg.parent.is_dir() or svg.is_dir():
         refuse(USAGE)
     try:
-        rows = list(read(curve))
+        rows = list(read(text(curve, USAGE)))
     except ValueError as fault:
         refuse(USAGE, fault)
+    if len({row[1] is None for row in rows}) > 1:
+        refuse(USAGE, "the exported function was asked in some lines alone")
     return rows or refuse(USAGE, "no line in CURVE"), svg, sys.argv[3]
 
 
@@ -92,10 +103,12 @@ def main():
     asked = [which for which in range(3) if rows[0][1 + which] is not None]
     parts = [*panel(rows, 0, [which for which in asked if which < 2]), *panel(rows, WIDTH, [2])]
     caption = f"Well-typed questions at budget 8,192, time by units charged. Run {where}."
-    with open(svg, "w", encoding="utf-8") as out:
-        out.write(f'<svg xmlns="http://www.w3.org/2000/svg" width="{2 * WIDTH}" height="{HEIGHT}" font-family="sans-serif" font-size="12">\n')
-        out.write(f'<rect width="100%" height="100%" fill="white"/>\n<text x="12" y="18">{caption}</text>\n')
-        out.write("\n".join(parts) + "\n</svg>\n")
+    head = [f'<svg xmlns="http://www.w3.org/2000/svg" width="{2 * WIDTH}" height="{HEIGHT}" font-family="sans-serif" font-size="12">',
+            '<rect width="100%" height="100%" fill="white"/>', f'<text x="12" y="18">{caption}</text>']
+    try:
+        svg.write_text("\n".join([*head, *parts, "</svg>\n"]), encoding="utf-8")
+    except OSError:
+        refuse(USAGE, f"{svg} can't be written")
     print(f"drawn: {svg}")
 
 

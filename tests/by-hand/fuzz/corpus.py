@@ -1,7 +1,7 @@
 #!/usr/bin/env python3
 """Makes the first corpus: the recorded questions with their own sizes, and deep and vast ones at two budgets.
 
-usage: corpus.py FOLDER
+usage: corpus.py FOLDER     new, or with nothing in it but seeds
 
 Sides and offsets vary; of 16, one has a reply of less than 16 bytes, and one a question that isn't whole words.
 """
@@ -13,7 +13,9 @@ ROOT = pathlib.Path(__file__).resolve().parents[2]
 sys.path[:0] = [str(ROOT), str(ROOT / "stack")]
 from families import LOOP, nested, question  # noqa: E402
 from shared.recorded import ANSWERS, of  # noqa: E402
-from shared.script import refuse  # noqa: E402
+from shared.script import makeable, refuse  # noqa: E402
+
+USAGE = "corpus.py FOLDER"
 
 
 def first_bytes(number, budget, work, room):
@@ -56,8 +58,10 @@ def asked():
 
 def main():
     folder = pathlib.Path(*sys.argv[1:2])
-    if len(sys.argv) != 2 or folder.name.startswith("-") or not folder.parent.is_dir() or folder.exists() and not folder.is_dir():
-        refuse("corpus.py FOLDER")
+    if len(sys.argv) != 2 or not folder.name or folder.name.startswith("-") or not folder.parent.is_dir() or not makeable(folder):
+        refuse(USAGE)
+    if folder.is_dir() and not all(entry.name.startswith("seed-") for entry in folder.iterdir()):
+        refuse(USAGE, f"{folder} has other things in it than seeds")
     folder.mkdir(exist_ok=True)
     for number, (budget, work, room, words) in enumerate(asked()):
         packed = struct.pack(f"<{len(words)}I", *words)

@@ -37,14 +37,14 @@ ROOT = pathlib.Path(__file__).resolve().parents[3]
 sys.path[:0] = [str(ROOT / "tests"), str(ROOT / "tests/recorded")]
 from computed import HEAD, theorem  # noqa: E402
 from shared.recorded import ANSWERS, GUARDS, QUESTIONS, of  # noqa: E402
-from shared.script import number, ours  # noqa: E402
+from shared.script import number, ours, text  # noqa: E402
 
 SPECS = ROOT / "crates/definition/specs"
 VERDICTS = ["no type", "answers", "cases", "laws", "survives", "slow", "none"]
 ERROR = re.compile(r"/(specs|proofs)/(\w+)\.antt:\d+:\d+: error: `([^`]+)`")
 MOST_KB = 6_000_000
 # what a folder has that was made here
-MADE_HERE = ".made-by-definition.py"
+MADE_HERE = ".made-by-mutations-definition.py"
 
 
 # ---- The recorded answers, in blocks: the first is small and shows most of what there is
@@ -271,7 +271,7 @@ def tell(results, said):
 def earlier(logs, said):
     """What earlier outputs have as no type or answers: more answers change neither."""
     line = re.compile(r"^ *\d+ (no type|answers) +[\d.]+ s  (.*?)  \[.*\]$", re.MULTILINE)
-    noticed = {match[2]: match[1] for log in logs for match in line.finditer(log.read_text())}
+    noticed = {match[2]: match[1] for log in logs for match in line.finditer(log)}
     return [(edit, noticed[said[edit]]) for edit in said if said[edit] in noticed]
 
 
@@ -288,6 +288,7 @@ def options():
     given = parser.parse_args()
     if not all(log.is_file() for log in given.again) or given.scratch and not ours(given.scratch, MADE_HERE):
         parser.error("--again has files, --scratch is new or was made here")
+    given.again = [text(log, "definition.py --again LOG..") for log in given.again]
     return given
 
 
