@@ -5,6 +5,7 @@ use Prim.Native.Nat.{ℕ, _+_, _-_, _*_, _≤_, _<_}
 use lib.ListN.{length, getD}
 use Rattle.definition.specs.Syntax.{TyVar, Entry, Ctx}
 use Rattle.definition.specs.Contexts.{Key, _▹_, replace, solved, solvedAndRight}
+use Rattle.layout.specs.Sizes.{CAP}
 use Rattle.layout.specs.Words.{Keep, Copied}
 use Rattle.layout.specs.Denotes.{AsEntry, Run}
 use Rattle.layout.specs.declared.Entry as program
@@ -17,7 +18,7 @@ pub record Space (w : List ℕ) (s : State) (g : Span) (m : ℕ) : Type 0 where
   pub below : g .at + 4 * g .n ≤ s .top
   pub room : s .top + 4 * (g .n + m) ≤ s .low
   pub low : s .low ≤ length w
-  pub cap : length w ≤ 1000000
+  pub cap : length w ≤ CAP
 
 -- o is the run of n entries at top, and the state past it
 pub record Past (s : State) (n : ℕ) (o : Opened) : Type 0 where

@@ -2,6 +2,7 @@
 ghost use Prim.Native.Nat.{_+_, _-_, _*_, _≤_, _<_, _^_};
 ghost use mathlib.Core.Path.{_≡_};
 ghost use lib.ListN.{length, getD};
+ghost use Rattle.layout.specs.Sizes.{CAP};
 ghost use Rattle.layout.specs.Names.{ty, key};
 ghost use Rattle.layout.specs.Denotes.{SmallEntry};
 ghost use Rattle.contexts.specs.Search.{First, Split, Before, Right};
@@ -98,7 +99,7 @@ pub fn right_of(work: &[u32], g: Span, k: Key) -> Span
 
 // The run of n entries at top, and the state past it.
 fn past(st: State, n: usize) -> Opened
-    requires { ⌜ st .top + 4 * n ≤ 1000000 ⌝ }
+    requires { ⌜ st .top + 4 * n ≤ CAP ⌝ }
     ensures { λ o. ⌜ Past st n o ⌝ }
 {
     let top = st.top;

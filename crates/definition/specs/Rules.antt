@@ -191,7 +191,7 @@ instRule h judge s Γ a (etvar b) = pick (before Γ a b) (reach h s Γ a b) (sol
 instRule h judge s Γ a (arrow A B) = instArrow h judge s Γ a A B
 instRule h judge s Γ a (forall b T) = instForall h judge s Γ a b T
 
--- ---- subtype: Γ ⊢ A <: B ⊣ Δ. "SubAllR comes before SubAllL, both before SubInstL, that before SubInstR."
+-- ---- subtype: Γ ⊢ A <: B ⊣ Δ
 
 -- Γ ⊢ B₁ <: A₁ ⊣ Δ    Δ ⊢ A₂ <: B₂ ⊣ Θ
 -- -------------------------------------- SubArr: "SubArr does not apply the context between its halves; InstLArr and InstRArr do."
@@ -241,6 +241,8 @@ same (some a) (some b) = sameName a b
 
 -- ------------------- SubRefl, and of Bool        ----------------- SubReflTVar        ------------------- SubReflETVar
 -- Γ ⊢ Int <: Int ⊣ Γ                              Γ ⊢ a <: a ⊣ Γ                       Γ ⊢ ^a <: ^a ⊣ Γ
+--
+-- "SubAllR comes before SubAllL, both before SubInstL, that before SubInstR."
 unfoldable pub subtypeRule : Here → Judge → Ctx → Ty → Ty → M Fired
 subtypeRule h judge Γ A B =
     when (sameBase A B) (closes Syntax.SubRefl Γ)
@@ -253,7 +255,7 @@ subtypeRule h judge Γ A B =
     orElse on (notIn A (asETVar B)) (subInst h judge Syntax.SubInstR onR Γ A)
     orElse refuse (subtypingError A B)
 
--- ---- check: Γ ⊢ e ⇐ B ⊣ Δ. "ChkAll before ChkSub."
+-- ---- check: Γ ⊢ e ⇐ B ⊣ Δ
 
 unfoldable pub exprCode : Expr → ℕ
 exprCode (evar p x) = 16
@@ -317,6 +319,8 @@ chkSub h judge Γ e B = do
 
 -- ----------------- ChkLitInt        --------------------- ChkLitBool
 -- Γ ⊢ 1 ⇐ Int ⊣ Γ                    Γ ⊢ true ⇐ Bool ⊣ Γ
+--
+-- "ChkAll before ChkSub."
 unfoldable pub checkRule : Here → Judge → Ctx → Expr → Ty → M Fired
 checkRule h judge Γ e B =
     when (eqb (exprCode e) 22 && eqb (tyCode B) 1) (closes Syntax.ChkLitInt Γ)

@@ -31,7 +31,7 @@ fn answer(
     requires { ⌜ (Lent (now words) (now work) (now report)) × (length (now out) ≡ 45102) ⌝ }
     ensures { λ z. ⌜ Said (now (input .entry)) (now (out .exit)) z ⌝ }
 {
-    let r = sized::answer(input, words, work, report, 4096);
+    let r = sized::answer(input, words, work, report, sized::REPORT);
     say(out, r, report)
 }
 
@@ -45,11 +45,11 @@ fn desk(bytes: &mut [u8], words: &mut [u32], work: &mut [u32], report: &mut [u32
 }
 
 fn main() {
-    let mut bytes = [0u8; 8196];
-    let mut words = [0u32; 2048];
-    let mut work = [0u32; 16384];
-    let mut report = [0u32; 4096];
+    let mut bytes = [0u8; 4 * definition::QUESTION_MOST + 4];
+    let mut words = [0u32; definition::QUESTION_MOST];
+    let mut work = [0u32; sized::WORK];
+    let mut report = [0u32; sized::REPORT];
     // 11 bytes for each word of both lines, and 2
-    let mut out = [0u8; 45102];
+    let mut out = [0u8; 11 * (4 + sized::REPORT) + 2];
     desk(&mut bytes, &mut words, &mut work, &mut report, &mut out);
 }

@@ -12,6 +12,7 @@ use Rattle.definition.specs.Run.{_>>=_}
 use Rattle.definition.specs.Rules.{outside, judge}
 use Rattle.definition.specs.Reply.{answer}
 use Rattle.laws.specs.Count.{charged}
+use Rattle.layout.specs.Sizes.{BASE}
 use Rattle.layout.specs.Denotes.{Run, written}
 use Rattle.layout.specs.declared.Span.{Span}
 use Rattle.layout.specs.declared.State.{State}
@@ -49,7 +50,7 @@ module _ {q w : List ℕ} {t : ℕ} {g : Span} {x : Question} (run : (Γ : Ctx) 
 
 -- ## Small enough to be written
 
-places-small : {q : List ℕ} {x : Question} {k : ℕ} {j : Judgement} → AsksAt q x k j → (x .expr < 2048) × (x .left < 2048) × (x .right < 2048)
+places-small : {q : List ℕ} {x : Question} {k : ℕ} {j : Judgement} → AsksAt q x k j → (x .expr < BASE) × (x .left < BASE) × (x .right < BASE)
 places-small (infers-at c e l r) = let a = expr-code e in (a .inside, omega arith, omega arith)
 places-small (checks-at c e l r) = let a = expr-code e in let b = ty-code r in (a .inside, omega arith, b .inside)
 places-small (applies-at c e l r) = let a = expr-code e in let b = ty-code l in (a .inside, b .inside, omega arith)
@@ -66,7 +67,7 @@ module _ {q w : List ℕ} {x : Question} {st : State} {g : Span} (pre : AskPre q
   asked-as acc = rw (sym (acc .kind) ∙ is) at (acc .asks)
 
   -- the judgement may be asked
-  pub kind-pre : ((x .expr < 2048) × (x .left < 2048) × (x .right < 2048) → Small a) → JudgePre q w st g a
+  pub kind-pre : ((x .expr < BASE) × (x .left < BASE) × (x .right < BASE) → Small a) → JudgePre q w st g a
   kind-pre sm = record {
     ready = pre .ready;
     small = sm (places-small (pre .accepted .asks));

@@ -11,6 +11,7 @@ use Rattle.definition.specs.Syntax.{Ctx}
 use Rattle.definition.specs.Run.{Out, andThen, _>>=_, give}
 use Rattle.definition.specs.Types.{apply}
 use Rattle.definition.specs.Rules.{Result, outside}
+use Rattle.layout.specs.Sizes.{CAP}
 use Rattle.layout.specs.declared.State.{State}
 use Rattle.judging.specs.declared.Step.{Step}
 use Rattle.judging.specs.Ending.{EndsJ, chargeOf}
@@ -114,7 +115,7 @@ lengthOf (NoRoom n) = n
 -- a run from the state s came to z, which is R in the definition, and was charged what R was
 pub record FinishPre (q w : List ℕ) (s : State) (z : Step) : Type 0 where
   pub low : s .low ≤ length w
-  pub cap : length w ≤ 1000000
+  pub cap : length w ≤ CAP
   pub budget : s .left ≤ 8192
   pub R : Out Result
   pub ends : EndsJ q w s z R

@@ -5,6 +5,7 @@ use Prim.Native.Nat.{ℕ, _+_, _-_, _<_}
 use native.Mathlib.Omega.{arith}
 use lib.ListN.{length, getD}
 use Rattle.definition.specs.Syntax.{Ty, Expr, evar, abs, tapp, tabs, ann, litInt, litBool, letIn, binOp}
+use Rattle.layout.specs.Sizes.{ENDS}
 use Rattle.layout.specs.Places.{exprSize, size, CodeAt, TyAt, ExprAt, evar-at, app-at, abs-at, tapp-at, tabs-at, ann-at, litInt-at, litBool-at, letIn-at, ifThenElse-at, binOp-at}
 use Rattle.layout.specs.Denotes.{Base}
 use Rattle.layout.proofs.Places.{expr-code, ty-code}
@@ -27,7 +28,7 @@ pub record IsLitBool (p : ℕ) (e : Expr) : Type 0 where
 module _ (q w : List ℕ) (p : ℕ) where
   -- the place past the item at i, by the table
   abbrev past : ℕ → ℕ
-  past i = getD w (16 + i) 0
+  past i = getD w (ENDS + i) 0
 
   -- the name, or the operator, behind the code
   abbrev name : ℕ
@@ -54,10 +55,10 @@ module _ (q w : List ℕ) (p : ℕ) where
 
 module _ {q w : List ℕ} (b : Base q w (length w)) where
   -- the part behind an expression, or behind a type
-  after : {i m : ℕ} {f : Expr} → ExprAt q i f → i + exprSize f ≡ m → getD w (16 + i) 0 ≡ m
+  after : {i m : ℕ} {f : Expr} → ExprAt q i f → i + exprSize f ≡ m → getD w (ENDS + i) 0 ≡ m
   after x m = b .past-expr _ _ x ∙ m
 
-  after-type : {i m : ℕ} {A : Ty} → TyAt q i A → i + size A ≡ m → getD w (16 + i) 0 ≡ m
+  after-type : {i m : ℕ} {A : Ty} → TyAt q i A → i + size A ≡ m → getD w (ENDS + i) 0 ≡ m
   after-type x m = b .past-ty _ _ x ∙ m
 
   form : {p : ℕ} {e : Expr} (k : ℕ) → getD q p 0 ≡ k → ExprAt q p e → Form q w p e k
@@ -96,7 +97,7 @@ pub name-within : {q w : List ℕ} {p k : ℕ} → Shaped q w p k → p + 1 < le
 name-within s = second-word (s .at)
 
 -- the table has a word for the place of a part
-in-table : {q w : List ℕ} {p k i : ℕ} {f : Expr} → Shaped q w p k → ExprAt q i f → 16 + i < length w
+in-table : {q w : List ℕ} {p k i : ℕ} {f : Expr} → Shaped q w p k → ExprAt q i f → ENDS + i < length w
 in-table s x = omega (arith, expr-code x .inside, s .base .floor)
 
 -- ## What they need and give
@@ -109,54 +110,54 @@ module _ {q w : List ℕ} {p : ℕ} where
   pub var-of : Shaped q w p 16 → VarOf q p (record { 0 = getD q (p + 1) 0 })
   var-of s = record { is = λ x. told s x }
 
-  pub app-table : Shaped q w p 17 → 16 + (p + 1) < length w
+  pub app-table : Shaped q w p 17 → ENDS + (p + 1) < length w
   app-table s = in-table s (told s (s .at) .func)
 
-  pub app-of : {m : ℕ} → Shaped q w p 17 → m ≡ getD w (16 + (p + 1)) 0 → AppOf q p (record { func = p + 1; arg = m })
+  pub app-of : {m : ℕ} → Shaped q w p 17 → m ≡ getD w (ENDS + (p + 1)) 0 → AppOf q p (record { func = p + 1; arg = m })
   app-of s h = record { is = λ x. rw h (told s x) }
 
-  pub abs-table : Shaped q w p 18 → 16 + (p + 2) < length w
+  pub abs-table : Shaped q w p 18 → ENDS + (p + 2) < length w
   abs-table s = omega (arith, ty-code (told s (s .at) .type) .inside, s .base .floor)
 
-  pub abs-of : {m : ℕ} → Shaped q w p 18 → m ≡ getD w (16 + (p + 2)) 0
+  pub abs-of : {m : ℕ} → Shaped q w p 18 → m ≡ getD w (ENDS + (p + 2)) 0
       → AbsOf q p (record { x = record { 0 = getD q (p + 1) 0 }; ty = p + 2; body = m })
   abs-of s h = record { is = λ x. rw h (told s x) }
 
-  pub ann-table : Shaped q w p 21 → 16 + (p + 1) < length w
+  pub ann-table : Shaped q w p 21 → ENDS + (p + 1) < length w
   ann-table s = in-table s (told s (s .at) .part)
 
-  pub ann-of : {m : ℕ} → Shaped q w p 21 → m ≡ getD w (16 + (p + 1)) 0 → TypedOf ann q p (record { e = p + 1; ty = m })
+  pub ann-of : {m : ℕ} → Shaped q w p 21 → m ≡ getD w (ENDS + (p + 1)) 0 → TypedOf ann q p (record { e = p + 1; ty = m })
   ann-of s h = record { is = λ x. rw h (told s x) }
 
-  pub tapp-table : Shaped q w p 19 → 16 + (p + 1) < length w
+  pub tapp-table : Shaped q w p 19 → ENDS + (p + 1) < length w
   tapp-table s = in-table s (told s (s .at) .part)
 
-  pub tapp-of : {m : ℕ} → Shaped q w p 19 → m ≡ getD w (16 + (p + 1)) 0 → TypedOf tapp q p (record { e = p + 1; ty = m })
+  pub tapp-of : {m : ℕ} → Shaped q w p 19 → m ≡ getD w (ENDS + (p + 1)) 0 → TypedOf tapp q p (record { e = p + 1; ty = m })
   tapp-of s h = record { is = λ x. rw h (told s x) }
 
   pub tabs-of : Shaped q w p 20 → TAbsOf q p (record { a = record { 0 = getD q (p + 1) 0 }; body = p + 2 })
   tabs-of s = record { is = λ x. told s x }
 
-  pub let-table : Shaped q w p 24 → 16 + (p + 2) < length w
+  pub let-table : Shaped q w p 24 → ENDS + (p + 2) < length w
   let-table s = in-table s (told s (s .at) .first)
 
-  pub let-of : {m : ℕ} → Shaped q w p 24 → m ≡ getD w (16 + (p + 2)) 0
+  pub let-of : {m : ℕ} → Shaped q w p 24 → m ≡ getD w (ENDS + (p + 2)) 0
       → LetOf q p (record { x = record { 0 = getD q (p + 1) 0 }; first = p + 2; body = m })
   let-of s h = record { is = λ x. rw h (told s x) }
 
-  pub if-table : Shaped q w p 25 → 16 + (p + 1) < length w
+  pub if-table : Shaped q w p 25 → ENDS + (p + 1) < length w
   if-table s = in-table s (told s (s .at) .cond)
 
-  module _ {m : ℕ} (s : Shaped q w p 25) (h : m ≡ getD w (16 + (p + 1)) 0) where
-    pub if-table₂ : 16 + m < length w
+  module _ {m : ℕ} (s : Shaped q w p 25) (h : m ≡ getD w (ENDS + (p + 1)) 0) where
+    pub if-table₂ : ENDS + m < length w
     if-table₂ = rw h (in-table s (told s (s .at) .yes))
 
-    pub if-of : {n : ℕ} → n ≡ getD w (16 + m) 0 → IfOf q p (record { cond = p + 1; yes = m; no = n })
+    pub if-of : {n : ℕ} → n ≡ getD w (ENDS + m) 0 → IfOf q p (record { cond = p + 1; yes = m; no = n })
     if-of i = record { is = λ x. rw (i, h) (told s x) }
 
-  pub binop-table : Shaped q w p 26 → 16 + (p + 2) < length w
+  pub binop-table : Shaped q w p 26 → ENDS + (p + 2) < length w
   binop-table s = in-table s (told s (s .at) .left)
 
-  pub binop-of : {o m : ℕ} → Shaped q w p 26 → o ≡ getD q (p + 1) 0 → m ≡ getD w (16 + (p + 2)) 0
+  pub binop-of : {o m : ℕ} → Shaped q w p 26 → o ≡ getD q (p + 1) 0 → m ≡ getD w (ENDS + (p + 2)) 0
       → BinOpOf q p (record { op = o; left = p + 2; right = m })
   binop-of s i h = record { is = λ x. rw (i, h) (told s x) }

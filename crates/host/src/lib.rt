@@ -10,7 +10,11 @@ fn room_for(n: usize) -> usize
     ensures { λ r. ⌜ r ≡ min ((n - 16) / 4) 4096 ⌝ }
 {
     let most = (n - 16) / 4;
-    if 4096 < most { 4096 } else { most }
+    if sized::REPORT < most {
+        sized::REPORT
+    } else {
+        most
+    }
 }
 
 // The telephone host's function, in what it lends itself.
@@ -39,9 +43,9 @@ fn answer_in(
 pub extern "C" fn sporeflask_answer(question: &[u8], reply: &mut [u8]) -> u32
     ensures { λ r. ⌜ Answered (now (question .entry)) (now (reply .entry)) (now (reply .exit)) r ⌝ }
 {
-    let mut words = [0u32; 2048];
-    let mut work = [0u32; 16384];
-    let mut report = [0u32; 4096];
+    let mut words = [0u32; definition::QUESTION_MOST];
+    let mut work = [0u32; sized::WORK];
+    let mut report = [0u32; sized::REPORT];
     answer_in(question, reply, &mut words, &mut work, &mut report)
 }
 

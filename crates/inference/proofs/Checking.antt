@@ -11,6 +11,7 @@ use Rattle.definition.specs.Contexts.{kVar, kTVar, _▹_, rightOf}
 use Rattle.definition.specs.Types.{apply}
 use Rattle.definition.specs.Rules as rules
 use Rattle.definition.specs.Rules.{Result, Judge, _from_, judge, tyCode, exprCode, parameter, chkLam, chkAll, chkSub, checkRule, branch}
+use Rattle.layout.specs.Sizes.{INT}
 use Rattle.layout.specs.Names.{tm, ty}
 use Rattle.layout.specs.Denotes.{Den, written, Run, SmallEntry}
 use Rattle.layout.specs.declared.Span.{Span}
@@ -147,7 +148,7 @@ module _ (m : Here) {q w : List ℕ} {s : State} {g : Span} {ex r : ℕ} (pre : 
             pub lam-back : {j : Judgement} (k : At (pre .rule) j) → Returns lam-asks call k t
             lam-back k = returns lam-asks call d k
 
-            pub lam-done : {w₄ : List ℕ} {y : Step} → KeepOut false w₃ w₄ t (kVar (tm (l .x))) 2048 19 1 y → Fires m q w w₄ s g (checkAsk ex r) y
+            pub lam-done : {w₄ : List ℕ} {y : Step} → KeepOut false w₃ w₄ t (kVar (tm (l .x))) INT 19 1 y → Fires m q w w₄ s g (checkAsk ex r) y
             unfolding ruleNumber children kept
             lam-done f = record {
               run = λ j k.
@@ -201,7 +202,7 @@ module _ (m : Here) {q w : List ℕ} {s : State} {g : Span} {ex r : ℕ} (pre : 
       pub all-back : {j : Judgement} (k : At (pre .rule) j) → Returns all-asks call k t
       all-back k = returns all-asks call d k
 
-      pub all-done : {w₃ : List ℕ} {y : Step} → KeepOut false w₂ w₃ t (kTVar (ty (o .b))) 2048 20 1 y → Fires m q w w₃ s g (checkAsk ex r) y
+      pub all-done : {w₃ : List ℕ} {y : Step} → KeepOut false w₂ w₃ t (kTVar (ty (o .b))) INT 20 1 y → Fires m q w w₃ s g (checkAsk ex r) y
       unfolding ruleNumber children kept
       all-done f = record {
         run = λ j k.
@@ -274,7 +275,7 @@ module _ {t : ℕ} (c : SubInferred t) where
     pub sub-else₂ : NotDone y → Fires (c .on .m) (c .on .q) (c .on .w) w₂ (c .on .s) (c .on .g) (checkAsk (c .on .ex) (c .on .r)) y
     sub-else₂ nd = record { run = λ j k. otherwise _ _ (sub-way₂ k) (sub-runs k) nd }
 
-    pub sub-done : {v : Answer} {o : Step} → y ≡ Done v → PlainOut (v .st) (v .g) 2048 21 2 o
+    pub sub-done : {v : Answer} {o : Step} → y ≡ Done v → PlainOut (v .st) (v .g) INT 21 2 o
         → Fires (c .on .m) (c .on .q) (c .on .w) w₂ (c .on .s) (c .on .g) (checkAsk (c .on .ex) (c .on .r)) o
     unfolding ruleNumber children
     sub-done d₂ fin = record {

@@ -9,6 +9,7 @@ use lib.ListN.{length, getD}
 use Rattle.definition.specs.Syntax
 use Rattle.definition.specs.Syntax.{pick, Expr, evar, app, abs, tapp, tabs, ann, litInt, litBool, letIn, ifThenElse, binOp, ruleNumber}
 use Rattle.definition.specs.Rules.{when, exprCode, infBoth, infEq, infBinOp, _orElse_}
+use Rattle.layout.specs.Sizes.{INT, BOOL}
 use Rattle.layout.specs.declared.Span.{Span}
 use Rattle.layout.specs.declared.State.{State}
 use Rattle.layout.proofs.Places.{expr-code}
@@ -66,19 +67,19 @@ module _ {q w : List ℕ} {s : State} {g : Span} {ex : ℕ} (pre : RulePre q w s
 -- ## Operators
 
 module _ {o : ℕ} where
-  pub is-arith : o ≤ 4 → Operates o (false, 2048, 2048, 8)
+  pub is-arith : o ≤ 4 → Operates o (false, INT, INT, 8)
   unfolding ruleNumber infBinOp infBoth when pick _orElse_
   is-arith u = record { r = Syntax.InfArith; A = _; C = _; number = refl; side = int-den; gives = int-den; is = λ i m judge Γ e e′. rw (le-leb o 4 u) refl }
 
-  pub is-bool : 4 < o → o ≤ 6 → Operates o (false, 2049, 2049, 9)
+  pub is-bool : 4 < o → o ≤ 6 → Operates o (false, BOOL, BOOL, 9)
   unfolding ruleNumber infBinOp infBoth when pick _orElse_
   is-bool l u = record { r = Syntax.InfBool; A = _; C = _; number = refl; side = bool-den; gives = bool-den; is = λ i m judge Γ e e′. rw (lt-leb o 4 l, le-leb o 6 u) refl }
 
-  pub is-eq : 6 < o → o ≤ 8 → Operates o (true, 2048, 2049, 11)
+  pub is-eq : 6 < o → o ≤ 8 → Operates o (true, INT, BOOL, 11)
   unfolding ruleNumber infBinOp infEq when pick _orElse_
   is-eq l u = record { r = Syntax.InfEq; A = _; C = _; number = refl; side = int-den; gives = bool-den; is = λ i m judge Γ e e′. let j : 4 < o = omega arith in rw (lt-leb o 4 j, lt-leb o 6 l, le-leb o 8 u) refl }
 
-  pub is-cmp : (1 ≤ o → 8 < o) → Operates o (false, 2048, 2049, 10)
+  pub is-cmp : (1 ≤ o → 8 < o) → Operates o (false, INT, BOOL, 10)
   unfolding ruleNumber infBinOp infBoth when pick _orElse_
   is-cmp l = record { r = Syntax.InfCmp; A = _; C = _; number = refl; side = int-den; gives = bool-den; is = λ i m judge Γ e e′. let h : 4 < o = omega (arith, l i) in let j : 6 < o = omega (arith, l i) in rw (lt-leb o 4 h, lt-leb o 6 j, lt-leb o 8 (l i)) refl }
 

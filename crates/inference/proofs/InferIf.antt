@@ -7,6 +7,7 @@ use Rattle.definition.specs.Syntax
 use Rattle.definition.specs.Syntax.{bool, Judgement, infer, check, subtype, ruleNumber, leaf, _&_, children}
 use Rattle.definition.specs.Run.{_>>=_, give}
 use Rattle.definition.specs.Rules.{judge, inferRule, infIf, branch}
+use Rattle.layout.specs.Sizes.{BOOL}
 use Rattle.layout.proofs.Denotes.{bool-den}
 use Rattle.judging.specs.declared.Answer.{Answer}
 use Rattle.expressions.specs.Forms.{IsIf, IfOf}
@@ -31,7 +32,7 @@ pub record ConditionChecked (t : ℕ) : Type 0 where
   pub w : List ℕ
   pub z : Step
   pub r : Answer
-  pub call : Judged (on .m) (on .q) (on .w) w (on .s) (on .g) (checkAsk (on .p .cond) 2049) z
+  pub call : Judged (on .m) (on .q) (on .w) w (on .s) (on .g) (checkAsk (on .p .cond) BOOL) z
   pub done : z ≡ Done r
 
 -- its first branch was inferred
@@ -73,7 +74,7 @@ module _ {t : ℕ} (i : RuleAsked IfOf t) where
   unfolding inferRule infIf
   if-way k = begin-infer (i .m) (i .rule) (infer-asked (i .ex) k .is) (ifs k .is) refl
 
-  pub if-asks : Premise (i .m) (i .rule) _ _ (λ j k. if-way k) (i .g) (checkAsk (i .p .cond) 2049)
+  pub if-asks : Premise (i .m) (i .rule) _ _ (λ j k. if-way k) (i .g) (checkAsk (i .p .cond) BOOL)
   if-asks = record { at = λ j k. ask-check (infer-asked (i .ex) k .run) (ifs k .cond) (bool-den (i .rule .room .base)) }
 
 -- ## Its branches

@@ -11,6 +11,7 @@ use Rattle.definition.specs.Run.{_>>=_, andThen, give, fresh}
 use Rattle.definition.specs.Contexts.{kVar, kTVar, _▹_, solvedAndRight}
 use Rattle.definition.specs.Types.{apply}
 use Rattle.definition.specs.Rules.{_from_, judge, inferRule, infAnn, infLam, infTAbs, infTApp, instantiate}
+use Rattle.layout.specs.Sizes.{INT}
 use Rattle.layout.specs.Names.{tm, ty}
 use Rattle.layout.specs.Denotes.{written, SmallEntry}
 use Rattle.layout.specs.declared.State.{State}
@@ -56,7 +57,7 @@ pub record TAbsOpened (t : ℕ) : Type 0 where
   pub w : List ℕ
   pub e : Entry
   pub o : Opened
-  pub made : EntryFrom (on .m) (TVar (on .p .a)) 2048 e
+  pub made : EntryFrom (on .m) (TVar (on .p .a)) INT e
   pub call : Pushed (on .w) w (on .s) (on .g) e o
 
 -- its body was inferred
@@ -155,7 +156,7 @@ module _ {t : ℕ} (i : RuleAsked TAbsOf t) where
   pub tabs : {j : Judgement} (k : At (i .rule) j) → IsTAbs (i .q) (i .ex) (i .p) (infer-asked (i .ex) k .e)
   tabs k = i .parts .is (infer-asked (i .ex) k .at)
 
-  pub tabs-space : {n : Entry} → EntryFrom (i .m) (TVar (i .p .a)) 2048 n → Space (i .w) (i .s) (i .g) 1 × SmallEntry n
+  pub tabs-space : {n : Entry} → EntryFrom (i .m) (TVar (i .p .a)) INT n → Space (i .w) (i .s) (i .g) 1 × SmallEntry n
   tabs-space en = (room-space (i .rule .room) (i .g) 1 (infer-asked (i .ex) (i .rule .asks) .run) (omega arith), entry-small en (omega arith))
 
 module _ {t : ℕ} (n : TAbsOpened t) where

@@ -9,6 +9,7 @@ use Rattle.definition.specs.Syntax.{Ty, int, etvar, arrow, Side, Judgement, ins
 use Rattle.definition.specs.Run.{Out, done, andThen, give}
 use Rattle.definition.specs.Types.{apply}
 use Rattle.definition.specs.Rules.{Fired, other, instArr, split, rule, judge}
+use Rattle.layout.specs.Sizes.{INT}
 use Rattle.layout.specs.Denotes.{Den}
 use Rattle.layout.specs.Room.{Room}
 use Rattle.layout.specs.declared.Made.{Made}
@@ -243,7 +244,7 @@ module _ {t : ℕ} (b : Between t) where
     pub arr-else₂ : NotDone z → Ends asked w₄ z
     arr-else₂ nd = else-fires (λ j k. record { ts = _; so = so₃ k; i = _; asks = asks₂ k; next = _; says = says₃ k }) call nd
 
-    pub arr-done : {v : Answer} {y : Step} → z ≡ Done v → PlainOut (v .st) (v .g) 2048 (asked .n) 2 y → Ends asked w₄ y
+    pub arr-done : {v : Answer} {y : Step} → z ≡ Done v → PlainOut (v .st) (v .g) INT (asked .n) 2 y → Ends asked w₄ y
     unfolding children
     arr-done d th = record {
       run = λ j k. through-ends (so₃ k) (call) (asks₂ k) d (instArr (asked .sd)) (asked .number) (λ t. refl) (omega arith) th _ (says₃ k);

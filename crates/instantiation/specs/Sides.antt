@@ -6,6 +6,7 @@ use Prim.Native.Nat.{ℕ, _<_}
 use Rattle.definition.specs.Syntax.{TyVar, Ty, etvar, Ctx, Side}
 use Rattle.definition.specs.Contexts.{before}
 use Rattle.definition.specs.Rules.{tyCode}
+use Rattle.layout.specs.Sizes.{INT}
 use Rattle.layout.specs.Denotes.{Den, Run}
 use Rattle.layout.specs.Names.{ty}
 use Rattle.layout.specs.declared.Entry.{Entry}
@@ -60,4 +61,4 @@ pub record SolvedBy (h : Here) (w w′ : List ℕ) (s : State) (g : Span) (a : d
   pub e : Entry
   pub made : EntryFrom h (SETVar a) r e
   pub replaced : Replaced w w′ s g (ty a) e o
-  pub is : z ≡ Done (record { st = o .st; g = o .g; ty = 2048; rule = n; kids = 0; charge = 0 })
+  pub is : z ≡ Done (record { st = o .st; g = o .g; ty = INT; rule = n; kids = 0; charge = 0 })

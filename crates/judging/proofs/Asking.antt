@@ -4,6 +4,7 @@ use mathlib.Core.List.{List, [], _∷_}
 use Prim.Native.Nat.{ℕ, _-_, _<_, _^_}
 use native.Mathlib.Omega.{arith}
 use Rattle.definition.specs.Syntax.{TyVar, Ty, etvar, Expr, Ctx, Side, onL, onR, Judgement, infer, check, inferApp, subtype, inst}
+use Rattle.layout.specs.Sizes.{BASE}
 use Rattle.layout.specs.Places.{ExprAt}
 use Rattle.layout.specs.Denotes.{Den, Run}
 use Rattle.layout.specs.declared.Span.{Span}
@@ -13,13 +14,13 @@ use Rattle.judging.specs.Asking.{Asks, as-infer, as-check, as-app, as-su
 
 -- ## Small enough to be written
 
-pub small-infer : (e : ℕ) → e < 2048 → Small (inferAsk e)
+pub small-infer : (e : ℕ) → e < BASE → Small (inferAsk e)
 small-infer e h = record { kind = omega arith; ex = omega arith; left = omega arith; right = omega arith }
 
-pub small-check : (e B : ℕ) → e < 2048 → B < 2 ^ 32 → Small (checkAsk e B)
+pub small-check : (e B : ℕ) → e < BASE → B < 2 ^ 32 → Small (checkAsk e B)
 small-check e B h k = record { kind = omega arith; ex = omega arith; left = omega arith; right = k }
 
-pub small-app : (A e : ℕ) → A < 2 ^ 32 → e < 2048 → Small (appAsk A e)
+pub small-app : (A e : ℕ) → A < 2 ^ 32 → e < BASE → Small (appAsk A e)
 small-app A e h k = record { kind = omega arith; ex = omega arith; left = h; right = omega arith }
 
 pub small-sub : {A B : ℕ} → A < 2 ^ 32 → B < 2 ^ 32 → Small (subAsk A B)

@@ -8,6 +8,7 @@ use lib.ListN.{length}
 use Rattle.definition.specs.Syntax.{Ty, Ctx, Judgement, Rule, ruleNumber, Trees, leaf, _&_, children, TypeError}
 use Rattle.definition.specs.Run.{Out, done, fail, stop, M, andThen}
 use Rattle.definition.specs.Rules.{Fired, Result, judge}
+use Rattle.layout.specs.Sizes.{CAP}
 use Rattle.layout.specs.Words.{Keep}
 use Rattle.layout.specs.Denotes.{Den, Run}
 use Rattle.layout.specs.Room.{Room}
@@ -31,7 +32,7 @@ use Rattle.judging.proofs.Steps.{NotDone, Came, came, else-ends}
 
 -- after words were built and units paid
 pub room-on : {q w w′ : List ℕ} {s : State} {k : ℕ} (s′ : State) (k′ : ℕ) {h : ℕ} → Room q w s k → Keep (s .top) h w w′ → s .top ≤ s′ .top
-    → s′ .low ≤ s .low → s′ .top + 32 * s′ .left + k′ ≤ s′ .low → s′ .fresh + 2 * s′ .left ≤ 1000000 → Room q w′ s′ k′
+    → s′ .low ≤ s .low → s′ .top + 32 * s′ .left + k′ ≤ s′ .low → s′ .fresh + 2 * s′ .left ≤ CAP → Room q w′ s′ k′
 room-on s′ k′ r kp up down ft nm = record {
   base = base-frame kp up (r .base);
   fits = ft;

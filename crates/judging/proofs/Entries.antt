@@ -5,6 +5,7 @@ use Prim.Native.Nat.{ℕ, _<_, _^_}
 use Rattle.definition.specs.Syntax.{Ty, varBnd, tvarBnd, etvarBnd, setvarBnd, mark}
 use Rattle.definition.specs.Contexts.{bindingKey, keyOf, bindingType, held}
 use Rattle.definition.specs.Rules.{_from_}
+use Rattle.layout.specs.Sizes.{INT}
 use Rattle.layout.specs.Names.{tm, ty}
 use Rattle.layout.specs.Denotes.{Den, AsEntry, SmallEntry, Base}
 use Rattle.layout.specs.declared.Entry.{Entry}
@@ -29,15 +30,15 @@ module _ {h : Here} {n : Entry} where
     unfolding bindingKey bindingType
     as-solved e d = e .is refl d
 
-    pub as-tvar : {a : TyVar} → EntryFrom h (TVar a) 2048 n → Base q w t → AsEntry q w t n (tvarBnd (ty a) from here h)
+    pub as-tvar : {a : TyVar} → EntryFrom h (TVar a) INT n → Base q w t → AsEntry q w t n (tvarBnd (ty a) from here h)
     unfolding bindingKey bindingType
     as-tvar e b = e .is refl (int-den b)
 
-    pub as-unsolved : {a : TyVar} → EntryFrom h (ETVar a) 2048 n → Base q w t → AsEntry q w t n (etvarBnd (ty a) from here h)
+    pub as-unsolved : {a : TyVar} → EntryFrom h (ETVar a) INT n → Base q w t → AsEntry q w t n (etvarBnd (ty a) from here h)
     unfolding bindingKey bindingType
     as-unsolved e b = e .is refl (int-den b)
 
-    pub as-mark : {a : TyVar} → EntryFrom h (Mark a) 2048 n → Base q w t → AsEntry q w t n (mark (ty a) from here h)
+    pub as-mark : {a : TyVar} → EntryFrom h (Mark a) INT n → Base q w t → AsEntry q w t n (mark (ty a) from here h)
     unfolding bindingKey bindingType
     as-mark e b = e .is refl (int-den b)
 

@@ -8,6 +8,7 @@ use Rattle.definition.specs.Question as question
 use Rattle.definition.specs.Contexts.{bindingKey, bindingType}
 use Rattle.definition.specs.Rules as rules
 use Rattle.definition.specs.Rules.{_from_}
+use Rattle.layout.specs.Sizes.{CAP}
 use Rattle.layout.specs.Names.{key}
 use Rattle.layout.specs.Places.{ExprAt}
 use Rattle.layout.specs.Denotes.{Den, AsEntry, SmallEntry, Run, Base}
@@ -75,8 +76,8 @@ pub record Ready (q w : List ℕ) (s : State) (g : Span) : Type 0 where
   pub fits : s .top + 32 * s .left ≤ s .low + 4 * g .n
   pub over : s .top ≤ s .low
   pub low : s .low ≤ length w
-  pub cap : length w ≤ 1000000
-  pub names : s .fresh + 2 * s .left ≤ 1000000
+  pub cap : length w ≤ CAP
+  pub names : s .fresh + 2 * s .left ≤ CAP
 
 -- what a judgement requires
 pub record JudgePre (q w : List ℕ) (s : State) (g : Span) (a : Ask) : Type 0 where
@@ -88,7 +89,7 @@ pub record JudgePre (q w : List ℕ) (s : State) (g : Span) (a : Ask) : Type 0 w
 -- what a rule requires: what entering paid for stands ready
 pub record RulePre (q w : List ℕ) (s : State) (g : Span) (a : Ask) : Type 0 where
   pub room : Room q w s (20 + 28 * g .n)
-  pub names : s .fresh + 2 * s .left + 2 ≤ 1000000
+  pub names : s .fresh + 2 * s .left + 2 ≤ CAP
   pub small : Small a
   pub j : Judgement
   pub asks : Asks q w (s .top) g a j

@@ -3,6 +3,7 @@ use mathlib.Core.Path.{_≡_}
 use mathlib.Core.List.{List}
 use Prim.Native.Nat.{ℕ, _+_, _-_, _≤_, _<_, _^_}
 use lib.ListN.{length}
+use Rattle.layout.specs.Sizes.{CAP}
 use Rattle.layout.specs.States.{paid, lowered}
 use Rattle.layout.specs.Words.{Keep}
 use Rattle.layout.specs.declared.Span.{Span}
@@ -20,7 +21,7 @@ use Rattle.judging.specs.Nodes.{NodeWords}
 -- where entering can be paid, a node can be reserved
 pub record Entering (s : State) (g : Span) : Type 0 where
   pub node : g .n < s .left → 12 ≤ s .low
-  pub entries : g .n < 1000000
+  pub entries : g .n < CAP
 
 -- the state in which the rule starts
 abbrev pub inner : State → Span → State

@@ -7,6 +7,7 @@ use native.Mathlib.Omega.{arith}
 use lib.ListN.{length, getD}
 use Rattle.definition.specs.Syntax.{TyVar, Ty, int, bool, etvar, arrow, forall, Binding, Entry, ofQuestion, Ctx}
 use Rattle.definition.specs.Contexts.{Key, kVar, kTVar, kETVar, kSETVar, kMark, bindingKey, keyOf, kindOf, nameOf, bindingType, held}
+use Rattle.layout.specs.Sizes.{BASE, INT, BOOL, ENDS}
 use Rattle.layout.specs.Words.{Keep, Put2, Put4}
 use Rattle.layout.specs.Places.{size, TyAt}
 use Rattle.layout.specs.Denotes.{capped, MadeAt, Den, written, int-made, bool-made, etvar-made, arrow-made, forall-made, AsEntry, EntryAt, PutEntry, CtxAt, nil, cons, Run, Base}
@@ -44,7 +45,7 @@ den-frame kp le (forall-made {i = i} m y n g s d) =
     (den-frame kp le d)
 
 -- a reference below 2048 is a place of the question
-pub den-written : {q w : List ℕ} {t r : ℕ} {T : Ty} → r < 2048 → Den q w t r T → TyAt q r T
+pub den-written : {q w : List ℕ} {t r : ℕ} {T : Ty} → r < BASE → Den q w t r T → TyAt q r T
 den-written h (written d) = d
 den-written h (int-made m) = absurd (omega (arith, m .ref))
 den-written h (bool-made m) = absurd (omega (arith, m .ref))
@@ -52,7 +53,7 @@ den-written h (etvar-made m n) = absurd (omega (arith, m .ref))
 den-written h (arrow-made m x y f g s d e) = absurd (omega (arith, m .ref))
 den-written h (forall-made m y n g s d) = absurd (omega (arith, m .ref))
 
-pub den-small : {q w : List ℕ} {t r : ℕ} {T : Ty} → Den q w t r T → r < 2048 + t
+pub den-small : {q w : List ℕ} {t r : ℕ} {T : Ty} → Den q w t r T → r < BASE + t
 den-small (written d) = let c = ty-code d in omega (arith, c .inside)
 den-small (int-made m) = omega (arith, m .ref, m .below)
 den-small (bool-made m) = omega (arith, m .ref, m .below)
@@ -62,18 +63,18 @@ den-small (forall-made m y n g s d) = omega (arith, m .ref, m .below)
 
 -- ## What is put at t is a type
 
-pub etvar-put : {q w w′ : List ℕ} {t n : ℕ} (a : TyVar) → n ≡ a .number → Put2 w w′ t 4 n → Den q w′ (t + 2) (2048 + t) (etvar a)
+pub etvar-put : {q w w′ : List ℕ} {t n : ℕ} (a : TyVar) → n ≡ a .number → Put2 w w′ t 4 n → Den q w′ (t + 2) (BASE + t) (etvar a)
 etvar-put {t = t} a e p = etvar-made {i = t} (record { ref = refl; below = omega arith; is = p .w0 }) (p .w1 ∙ e)
 
 pub arrow-put : {q w w′ : List ℕ} {t l m n : ℕ} {A B : Ty} → Put4 w w′ t 5 l m n → n ≡ capped (size (arrow A B)) → Den q w t l A → Den q w t m B
-    → Den q w′ (t + 4) (2048 + t) (arrow A B)
+    → Den q w′ (t + 4) (BASE + t) (arrow A B)
 arrow-put {t = t} p s d e =
     arrow-made {i = t} (record { ref = refl; below = omega arith; is = p .w0 }) (den-small d) (den-small e) (p .w1) (p .w2) (p .w3 ∙ s)
     (den-frame (p .keep) (omega arith) d)
     (den-frame (p .keep) (omega arith) e)
 
 pub forall-put : {q w w′ : List ℕ} {t b m n : ℕ} {A : Ty} (a : TyVar) → b ≡ a .number → Put4 w w′ t 6 b m n → n ≡ capped (size (forall a A))
-    → Den q w t m A → Den q w′ (t + 4) (2048 + t) (forall a A)
+    → Den q w t m A → Den q w′ (t + 4) (BASE + t) (forall a A)
 forall-put {t = t} a f p s d =
     forall-made {i = t} (record { ref = refl; below = omega arith; is = p .w0 }) (den-small d) (p .w1 ∙ f) (p .w2) (p .w3 ∙ s)
     (den-frame (p .keep) (omega arith) d)
@@ -85,14 +86,14 @@ base-frame kp le b = record {
   floor = le-trans (b .floor) le;
   int-is = sym (kp .below 0 (omega (arith, b .floor))) ∙ b .int-is;
   bool-is = sym (kp .below 1 (omega (arith, b .floor))) ∙ b .bool-is;
-  past-ty = λ p A d. let c = ty-code d in sym (kp .below (16 + p) (omega (arith, b .floor, c .inside))) ∙ b .past-ty p A d;
-  past-expr = λ p e d. let c = expr-code d in sym (kp .below (16 + p) (omega (arith, b .floor, c .inside))) ∙ b .past-expr p e d;
+  past-ty = λ p A d. let c = ty-code d in sym (kp .below (ENDS + p) (omega (arith, b .floor, c .inside))) ∙ b .past-ty p A d;
+  past-expr = λ p e d. let c = expr-code d in sym (kp .below (ENDS + p) (omega (arith, b .floor, c .inside))) ∙ b .past-expr p e d;
 }
 
-pub int-den : {q w : List ℕ} {t : ℕ} → Base q w t → Den q w t 2048 int
+pub int-den : {q w : List ℕ} {t : ℕ} → Base q w t → Den q w t INT int
 int-den b = int-made {i = 0} (record { ref = refl; below = omega (arith, b .floor); is = b .int-is })
 
-pub bool-den : {q w : List ℕ} {t : ℕ} → Base q w t → Den q w t 2049 bool
+pub bool-den : {q w : List ℕ} {t : ℕ} → Base q w t → Den q w t BOOL bool
 bool-den b = bool-made {i = 1} (record { ref = refl; below = omega (arith, b .floor); is = b .bool-is })
 
 -- ## Runs of entries

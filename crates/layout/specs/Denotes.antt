@@ -6,6 +6,7 @@ use lib.ListN.{length, getD}
 use Rattle.definition.specs.Syntax.{TyVar, Ty, int, bool, etvar, arrow, forall, Expr, Entry, Ctx}
 use Rattle.definition.specs.Contexts.{keyOf, kindOf, nameOf, held}
 use Rattle.definition.specs.Reply.{most}
+use Rattle.layout.specs.Sizes.{BASE, ENDS, FLOOR}
 use Rattle.layout.specs.Words.{Put4}
 use Rattle.layout.specs.Places.{size, exprSize, TyAt, ExprAt}
 use Rattle.layout.specs.Names.{key}
@@ -17,7 +18,7 @@ capped n = min n most
 
 -- r refers to the record of n words at place i of work, below t, whose first word is the code k
 pub record MadeAt (w : List ℕ) (t r i n k : ℕ) : Type 0 where
-  pub ref : r ≡ 2048 + i
+  pub ref : r ≡ BASE + i
   pub below : i + n ≤ t
   pub is : getD w i 0 ≡ k
 
@@ -66,8 +67,8 @@ pub record Run (q w : List ℕ) (t at n : ℕ) (Γ : Ctx) : Type 0 where
 
 -- the bottom of work: the records of Int and Bool, and the place past each item of the question
 pub record Base (q w : List ℕ) (t : ℕ) : Type 0 where
-  pub floor : 2064 ≤ t
+  pub floor : FLOOR ≤ t
   pub int-is : getD w 0 0 ≡ 1
   pub bool-is : getD w 1 0 ≡ 2
-  pub past-ty : (p : ℕ) (A : Ty) → TyAt q p A → getD w (16 + p) 0 ≡ p + size A
-  pub past-expr : (p : ℕ) (e : Expr) → ExprAt q p e → getD w (16 + p) 0 ≡ p + exprSize e
+  pub past-ty : (p : ℕ) (A : Ty) → TyAt q p A → getD w (ENDS + p) 0 ≡ p + size A
+  pub past-expr : (p : ℕ) (e : Expr) → ExprAt q p e → getD w (ENDS + p) 0 ≡ p + exprSize e

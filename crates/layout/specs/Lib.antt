@@ -1,4 +1,5 @@
 -- What words of the question and of work denote.
+pub mod Sizes
 pub mod Names
 pub mod States
 pub mod Words

@@ -4,6 +4,7 @@ use mathlib.Core.List.{List}
 use Prim.Native.Nat.{ℕ, _+_, _≤_, _<_}
 use lib.ListN.{length, getD}
 use Rattle.definition.specs.Syntax.{TmVar, TyVar, Ty, int, bool, var, etvar, arrow, forall, Expr, evar, app, abs, tapp, tabs, ann, litInt, litBool, letIn, ifThenElse, binOp}
+use Rattle.layout.specs.Sizes.{BASE}
 
 -- how many words an item has
 abbrev pub size : Ty → ℕ
@@ -29,7 +30,7 @@ exprSize (binOp p o e e′) = 2 + exprSize e + exprSize e′
 
 -- the code k stands at place p
 pub record CodeAt (q : List ℕ) (p k : ℕ) : Type 0 where
-  pub inside : p < 2048
+  pub inside : p < BASE
   pub within : p < length q
   pub is : getD q p 0 ≡ k
 

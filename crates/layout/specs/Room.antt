@@ -2,6 +2,7 @@
 use mathlib.Core.List.{List}
 use Prim.Native.Nat.{ℕ, _+_, _*_, _≤_}
 use lib.ListN.{length}
+use Rattle.layout.specs.Sizes.{CAP}
 use Rattle.layout.specs.Denotes.{Base}
 use Rattle.layout.specs.declared.State.{State}
 
@@ -10,5 +11,5 @@ pub record Room (q w : List ℕ) (s : State) (k : ℕ) : Type 0 where
   pub base : Base q w (s .top)
   pub fits : s .top + 32 * s .left + k ≤ s .low
   pub low : s .low ≤ length w
-  pub cap : length w ≤ 1000000
-  pub names : s .fresh + 2 * s .left ≤ 1000000
+  pub cap : length w ≤ CAP
+  pub names : s .fresh + 2 * s .left ≤ CAP

@@ -2,6 +2,7 @@
 use mathlib.Core.Path.{_≡_}
 use Prim.Native.Nat.{ℕ, suc, _+_, _-_, _≤_, _<_}
 use Rattle.definition.specs.Syntax as syntax
+use Rattle.layout.specs.Sizes.{FLOOR}
 use Rattle.layout.specs.Names.{ty}
 use Rattle.layout.specs.declared.State.{State}
 use Rattle.layout.specs.declared.Drawn.{Drawn}
@@ -14,7 +15,7 @@ freshName k = record { number = 1_000_000 + k }
 
 -- a run starts
 abbrev pub started : ℕ → ℕ → State
-started low budget = record { top = 2064; low = low; left = budget; fresh = 0 }
+started low budget = record { top = FLOOR; low = low; left = budget; fresh = 0 }
 
 abbrev pub paid : State → ℕ → State
 paid s c = record { top = s .top; low = s .low; left = s .left - c; fresh = s .fresh }

@@ -3,24 +3,25 @@ ghost use mathlib.Core.Path.{_≡_};
 ghost use Prim.Native.Nat.{_+_, _-_, _≤_, _<_, _^_};
 ghost use lib.ListN.{length, getD, set};
 ghost use Rattle.definition.specs.Contexts.{kindOf, nameOf};
+ghost use Rattle.layout.specs.Sizes.{CAP};
 ghost use Rattle.layout.specs.Names.{key};
 ghost use Rattle.layout.specs.Words.{Put2, Put4, Copied};
 ghost use Rattle.layout.specs.Denotes.{SmallEntry, PutEntry};
 ghost use Rattle.layout.specs.States.{started, raised, lowered, Draws, Charges};
 
 // A type reference below this is a place in the question; from here on, this plus a place in work.
-pub const BASE: usize = 2048;
+pub const BASE: usize = definition::QUESTION_MOST;
 
 // The records of Int and Bool stand at the bottom of work.
-pub const INT: usize = 2048;
+pub const INT: usize = BASE;
 
-pub const BOOL: usize = 2049;
+pub const BOOL: usize = BASE + 1;
 
 // From here on work holds, for each place of the question, the place past the item that stands there.
 pub const ENDS: usize = 16;
 
 // Types and runs of entries grow up from here.
-pub const FLOOR: usize = 2064;
+pub const FLOOR: usize = ENDS + BASE;
 
 // A length in words stops at this.
 pub const MOST: usize = 4_294_967_295;
@@ -125,7 +126,7 @@ impl State {
 
     // Takes the next fresh name.
     pub fn draw(self) -> Drawn
-        requires { ⌜ self .fresh < 1000000 ⌝ }
+        requires { ⌜ self .fresh < CAP ⌝ }
         ensures { λ d. ⌜ Draws self d ⌝ }
     {
         let taken = self.fresh;
@@ -142,7 +143,7 @@ impl State {
 
     // Past n words that were built at top.
     pub fn raise(self, n: usize) -> State
-        requires { ⌜ self .top + n ≤ 1000000 ⌝ }
+        requires { ⌜ self .top + n ≤ CAP ⌝ }
         ensures { λ s. ⌜ s ≡ raised self n ⌝ }
     {
         let top = self.top;

@@ -8,6 +8,7 @@ use native.Mathlib.Nat.{le-refl}
 use lib.ListN.{length, getD}
 use Rattle.definition.specs.Syntax.{Ty, int, Binding, Entry, Ctx}
 use Rattle.definition.specs.Contexts.{bindingKey, kindOf, bindingType, held}
+use Rattle.layout.specs.Sizes.{ENDS}
 use Rattle.layout.specs.States.{raised}
 use Rattle.layout.specs.Words.{Keep, Put4}
 use Rattle.layout.specs.Denotes.{Den, written, EntryAt, Base, CtxAt, nil, cons}
@@ -48,7 +49,7 @@ pub rested : {q w : List ℕ} {t p m : ℕ} {x : Entry} {r : Rest} → Base q w 
 unfolding kindOf bindingKey bindingType held
 rested {q} {w} {t} {p} {m} {x} {r} b e h = let z = go (e .binds .rest) (e .binds .kind .is) in record { den = z .0; next = z .1 }
   where
-    held-at : {A : Ty} {m : ℕ} → (r .ty ≡ p + 2) × (r .next ≡ getD w (16 + (p + 2)) 0) → TyTo q (p + 2) A m
+    held-at : {A : Ty} {m : ℕ} → (r .ty ≡ p + 2) × (r .next ≡ getD w (ENDS + (p + 2)) 0) → TyTo q (p + 2) A m
         → Den q w t (r .ty) A × (r .next ≡ m)
     held-at {A} u d = (rw (u .0) (written (d .at)), u .1 ∙ b .past-ty (p + 2) A (d .at) ∙ d .to)
 
@@ -67,7 +68,7 @@ pub reads : {q w : List ℕ} {t p m : ℕ} {x : Entry} → Base q w t → t ≤ 
 unfolding kindOf bindingKey
 reads {q} {w} {t} {p} b l e = record { place = e .binds .kind .inside; table = go (e .binds .rest) (e .binds .kind .is) }
   where
-    go : {y : Binding} {m : ℕ} → RestTo q (p + 2) y m → getD q p 0 ≡ kindOf (bindingKey y) → TypedKind (getD q p 0) → 16 + (p + 2) < length w
+    go : {y : Binding} {m : ℕ} → RestTo q (p + 2) y m → getD q p 0 ≡ kindOf (bindingKey y) → TypedKind (getD q p 0) → ENDS + (p + 2) < length w
     go (var-rest d) k h = let c = ty-code (d .at) in omega (arith, c .inside, b .floor)
     go tvar-rest k h = absurd (⊎-elim (λ f. omega arith) (λ f. omega arith) h)
     go etvar-rest k h = absurd (⊎-elim (λ f. omega arith) (λ f. omega arith) h)

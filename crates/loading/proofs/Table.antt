@@ -14,6 +14,7 @@ use mir.Val.{hasKey}
 use types.Run.{OneOf, hit}
 use Rattle.definition.specs.Syntax.{pick}
 use Rattle.laws.proofs.Steps.{pick-false}
+use Rattle.layout.specs.Sizes.{ENDS, FLOOR}
 use Rattle.layout.specs.Places.{size, exprSize, int-at, bool-at, var-at, etvar-at, arrow-at, forall-at, evar-at, app-at, abs-at, tapp-at, tabs-at, ann-at, litInt-at, litBool-at, letIn-at, ifThenElse-at, binOp-at}
 use Rattle.layout.specs.Words.{Keep, Put2}
 use Rattle.layout.specs.Denotes.{Base}
@@ -166,25 +167,25 @@ pub table-none : (q w : List ℕ) → Table q w (length q)
 table-none q w = record { ends = λ i m h s. absurd (omega (arith, spans-within s .0)) }
 
 -- one place more
-pub table-more : {q w : List ℕ} {i e : ℕ} → 16 + i < length w → EndIs q i e → Table q w (i + 1) → Table q (set w (16 + i) e) i
+pub table-more : {q w : List ℕ} {i e : ℕ} → ENDS + i < length w → EndIs q i e → Table q w (i + 1) → Table q (set w (ENDS + i) e) i
 table-more {q} {w} {i} {e} l x t = record { ends = λ j m h s. elim (decLe j i) [ yes k ↦ here j m (le-antisymm k h) s | no k ↦ there j m (lt-of-not-le k) s ] }
   where
-    here : (j m : ℕ) → j ≡ i → Spans q j m → getD (set w (16 + i) e) (16 + j) 0 ≡ m
-    here j m k s = rw k (getD-set-same w (16 + i) e 0 l ∙ x .is m (rw k at s))
+    here : (j m : ℕ) → j ≡ i → Spans q j m → getD (set w (ENDS + i) e) (ENDS + j) 0 ≡ m
+    here j m k s = rw k (getD-set-same w (ENDS + i) e 0 l ∙ x .is m (rw k at s))
 
-    there : (j m : ℕ) → i < j → Spans q j m → getD (set w (16 + i) e) (16 + j) 0 ≡ m
-    there j m k s = getD-set-other w (16 + i) (16 + j) e 0 (omega arith) ∙ t .ends j m (omega arith) s
+    there : (j m : ℕ) → i < j → Spans q j m → getD (set w (ENDS + i) e) (ENDS + j) 0 ≡ m
+    there j m k s = getD-set-other w (ENDS + i) (ENDS + j) e 0 (omega arith) ∙ t .ends j m (omega arith) s
 
 pub table-at : {q w : List ℕ} {p p′ : ℕ} → p ≡ p′ → Table q w p → Table q w p′
 table-at e t = rw e at t
 
-pub laid : {q w w₁ w′ : List ℕ} → Put2 w w₁ 0 1 2 → Keep 16 2064 w₁ w′ → Table q w′ 0 → Laid q w w′
+pub laid : {q w w₁ w′ : List ℕ} → Put2 w w₁ 0 1 2 → Keep ENDS FLOOR w₁ w′ → Table q w′ 0 → Laid q w w′
 laid {q} p k t =
-    let b : Base q _ 2064 = record {
-      floor = le-refl 2064;
+    let b : Base q _ FLOOR = record {
+      floor = le-refl FLOOR;
       int-is = sym (k .below 0 (omega arith)) ∙ p .w0;
       bool-is = sym (k .below 1 (omega arith)) ∙ p .w1;
       past-ty = λ i A d. t .ends i (i + size A) (omega arith) (ty-spans d refl);
       past-expr = λ i f d. t .ends i (i + exprSize f) (omega arith) (expr-spans d refl);
     } in
-    record { base = b; keep = keep-trans (keep-less (omega arith) (omega arith) (p .keep)) (keep-less (omega arith) (le-refl 2064) k) }
+    record { base = b; keep = keep-trans (keep-less (omega arith) (omega arith) (p .keep)) (keep-less (omega arith) (le-refl FLOOR) k) }

@@ -5,6 +5,7 @@ use mathlib.Core.Logic.{_⊎_}
 use Prim.Native.Nat.{ℕ, _+_, _*_, _≤_, _<_, _^_}
 use lib.ListN.{length, getD}
 use Rattle.definition.specs.Syntax.{Ctx}
+use Rattle.layout.specs.Sizes.{BASE, INT, ENDS, CAP}
 use Rattle.layout.specs.Words.{Keep}
 use Rattle.layout.specs.Denotes.{Base, CtxAt, Run}
 use Rattle.layout.specs.declared.State.{State}
@@ -18,20 +19,20 @@ abbrev pub TypedKind : ℕ → Type 0
 TypedKind kind = (kind ≡ 32) ⊎ (kind ≡ 35)
 
 pub record Readable (w : List ℕ) (kind p : ℕ) : Type 0 where
-  pub place : p < 2048
-  pub table : TypedKind kind → 16 + (p + 2) < length w
+  pub place : p < BASE
+  pub table : TypedKind kind → ENDS + (p + 2) < length w
 
 -- the type stands after the name, and ends where the table says
 pub record EntryRest (w : List ℕ) (kind p : ℕ) (r : Rest) : Type 0 where
-  pub held : TypedKind kind → (r .ty ≡ p + 2) × (r .next ≡ getD w (16 + (p + 2)) 0)
-  pub bare : (TypedKind kind → ⊥) → (r .ty ≡ 2048) × (r .next ≡ p + 2)
+  pub held : TypedKind kind → (r .ty ≡ p + 2) × (r .next ≡ getD w (ENDS + (p + 2)) 0)
+  pub bare : (TypedKind kind → ⊥) → (r .ty ≡ INT) × (r .next ≡ p + 2)
   pub small : r .ty < 2 ^ 32
 
 -- n entries stand in the question from p on, and there is room for them from a place of work on, above the table
 pub record Loads (q w : List ℕ) (p at n : ℕ) : Type 0 where
   pub base : Base q w at
   pub room : at + 4 * n ≤ length w
-  pub cap : length w ≤ 1000000
+  pub cap : length w ≤ CAP
   pub Γ : Ctx
   pub end : ℕ
   pub list : ListTo q p Γ n end

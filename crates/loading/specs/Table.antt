@@ -4,6 +4,7 @@ use mathlib.Core.Path.{_≡_}
 use mathlib.Core.List.{List}
 use lib.ListN.{length, getD}
 use Rattle.definition.specs.Syntax.{Ty, Expr}
+use Rattle.layout.specs.Sizes.{ENDS, FLOOR}
 use Rattle.layout.specs.Places.{size, exprSize, TyAt, ExprAt}
 use Rattle.layout.specs.Words.{Keep}
 use Rattle.layout.specs.Denotes.{Base}
@@ -16,11 +17,11 @@ pub data Spans (q : List ℕ) (p m : ℕ) : Type 0 where
 -- question and work are as long as the table wants
 pub record Sized (q w : List ℕ) : Type 0 where
   pub small : length q ≤ 2048
-  pub room : 2064 ≤ length w
+  pub room : FLOOR ≤ length w
 
 -- from p on, work holds the place past each item
 pub record Table (q w : List ℕ) (p : ℕ) : Type 0 where
-  pub ends : (i m : ℕ) → p ≤ i → Spans q i m → getD w (16 + i) 0 ≡ m
+  pub ends : (i m : ℕ) → p ≤ i → Spans q i m → getD w (ENDS + i) 0 ≡ m
 
 pub record ReadyAt (q w : List ℕ) (p : ℕ) : Type 0 where
   pub sized : Sized q w
@@ -29,7 +30,7 @@ pub record ReadyAt (q w : List ℕ) (p : ℕ) : Type 0 where
 
 -- what the table says of a place
 pub record PastIs (q w : List ℕ) (i r : ℕ) : Type 0 where
-  pub is : i < length q → r ≡ getD w (16 + i) 0
+  pub is : i < length q → r ≡ getD w (ENDS + i) 0
   pub fits : r < 2 ^ 32
 
 -- the item at p, where one stands, ends at e
@@ -39,5 +40,5 @@ pub record EndIs (q : List ℕ) (p e : ℕ) : Type 0 where
 
 -- the bottom of work is laid, and nothing above it changed
 pub record Laid (q w w′ : List ℕ) : Type 0 where
-  pub base : Base q w′ 2064
-  pub keep : Keep 0 2064 w w′
+  pub base : Base q w′ FLOOR
+  pub keep : Keep 0 FLOOR w w′

@@ -11,6 +11,9 @@ use replies::Reply;
 use sections::Section;
 use sections::Walked;
 
+// As many nodes as a report has room for: each has eight words at least.
+const NODES: usize = sized::REPORT / 8;
+
 // The line of one section, at a place of out; the place past it.
 fn part(out: &mut [u8], at: usize, r: Reply, report: &[u32], s: Section) -> usize
     requires { ⌜ (at + 45057 ≤ length (now out)) × (length (now report) ≡ 4096) ⌝ }
@@ -58,8 +61,7 @@ fn rule_line(out: &mut [u8], at: usize, r: Reply, report: &[u32]) -> usize
     ensures { λ z. ⌜ RuleLine r (now (report .entry)) (now (out .entry)) (now (out .exit)) at z ⌝ }
 {
     let tree = sections::section_of(report, r, Section::Tree);
-    // a node has eight words at least
-    let mut rules = [0u32; 512];
+    let mut rules = [0u32; NODES];
     let n = rules_of(tree, &mut rules);
     lines::line(out, at, &rules[..n])
 }
@@ -75,7 +77,7 @@ fn answer(
     requires { ⌜ (Lent (now words) (now work) (now report)) × (length (now out) ≡ 230963) ⌝ }
     ensures { λ z. ⌜ PartsSaid (now (input .entry)) (now (out .exit)) z ⌝ }
 {
-    let r = sized::answer(input, words, work, report, 4096);
+    let r = sized::answer(input, words, work, report, sized::REPORT);
     let z = say(out, r, report);
     rule_line(out, z, r, report)
 }
@@ -90,11 +92,11 @@ fn parts(bytes: &mut [u8], words: &mut [u32], work: &mut [u32], report: &mut [u3
 }
 
 fn main() {
-    let mut bytes = [0u8; 8196];
-    let mut words = [0u32; 2048];
-    let mut work = [0u32; 16384];
-    let mut report = [0u32; 4096];
+    let mut bytes = [0u8; 4 * definition::QUESTION_MOST + 4];
+    let mut words = [0u32; definition::QUESTION_MOST];
+    let mut work = [0u32; sized::WORK];
+    let mut report = [0u32; sized::REPORT];
     // 11 bytes for each number, were each of the five sections as long as a report and its nodes as short as can be, and 7
-    let mut out = [0u8; 230963];
+    let mut out = [0u8; 11 * (4 + 5 * sized::REPORT + NODES) + 7];
     parts(&mut bytes, &mut words, &mut work, &mut report, &mut out);
 }

@@ -3,19 +3,20 @@ use mathlib.Core.Path.{_≡_, refl, sym, ap, _∙_}
 use mathlib.Core.Bool.{Bool, true, false, _||_}
 use mathlib.Core.Logic.{_↔_, _≢_}
 use mathlib.Core.List.{List}
+use mathlib.Core.Option.{some}
 use Prim.Native.Nat.{ℕ, zero, suc, _-_, _/_, _%_, _≤_, min}
 use native.Mathlib.Omega.{arith}
-use lib.ListN.{length}
+use lib.ListN.{length, getD}
 use lib.Dec.{ltb, eqb}
 use mir.Facts.{no-ltb}
 use borrow.Author.Tests.{ltb-false, eqb-false, eqb-true}
 use Rattle.definition.specs.Syntax.{pick}
 use Rattle.definition.specs.Question.{Read, got, fault, Question, readQuestion}
-use Rattle.definition.specs.Reply.{Reply, refusal, readReply, workWords, reply}
+use Rattle.definition.specs.Reply.{Reply, refusal, answer, readReply, workWords, reply}
 use Rattle.definition.specs.Memory.{call}
-use Rattle.definition.specs.Host.{wordsOf, deskReply, byteReply, HostCall, hostCall}
-use Rattle.laws.specs.Count.{countTo, Passes, IsRun}
-use Rattle.laws.proofs.Count.{six-exactly-past-count-to}
+use Rattle.definition.specs.Host.{wordsOf, deskReply, byteReply, numbers, HostCall, hostCall}
+use Rattle.laws.specs.Count.{Count, countTo, Passes, IsRun}
+use Rattle.laws.proofs.Count.{six-exactly-past-count-to, units-are-the-count}
 use Rattle.laws.proofs.Steps.{is-false}
 use Rattle.alike.proofs.WellFormed.{IsFault, shape, name, four-or-five}
 use Rattle.sized.proofs.Answering.{whole}
@@ -28,6 +29,12 @@ unfolding call refusal
 check-6-exactly-past-count {s = s} a c =
     let x = six-exactly-past-count-to a 8192 (a .high) (length s) in
     (λ e. x .0 (sym (c .returns) ∙ e), λ p. c .returns ∙ ap (λ (R : Reply). R .code) (x .1 p))
+
+-- "Units equal this count in the definition": the fourth number, unless it is 6 that is returned
+pub check-units-are-the-count : {budget : ℕ} {q w w′ s s′ ns : List ℕ} {r : ℕ} {Q : Question} → IsRun budget (length w) q Q
+    → Checked budget q w w′ s s′ ns r → r ≢ 6 → Count (answer Q) 0 (some (getD ns 3 0))
+unfolding call numbers
+check-units-are-the-count {s = s} a c h = rw (c .four) (units-are-the-count a (length s) (λ e. h (c .returns ∙ e)))
 
 -- the telephone host, with room for the four numbers and a question of whole words
 pub answer-6-exactly-past-count : {b s s′ : List ℕ} {r : ℕ} {Q : Question} → 16 ≤ length s → length b % 4 ≡ 0
@@ -74,9 +81,9 @@ six-is-run budget work room ws =
     tested false a true b z c e = absurd (omega (arith, e))
     tested false a false b true c e = absurd (omega (arith, e))
     tested false a false b false c e =
-        let (some, high) = neither (eqb budget 0) (ltb 8192 budget) a in
+        let (more, high) = neither (eqb budget 0) (ltb 8192 budget) a in
         let (none, few) = neither (eqb (length ws) 0) (ltb 2048 (length ws)) c in
-        let low : 1 ≤ budget = positive budget (eqb-false budget 0 some) in
+        let low : 1 ≤ budget = positive budget (eqb-false budget 0 more) in
         run-of room low (ltb-false 8192 budget high) (ltb-false work (workWords budget) b) (ltb-false 2048 (length ws) few) (readQuestion ws) refl e
 
 -- of both functions

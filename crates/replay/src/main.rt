@@ -8,6 +8,9 @@ use libc::STDIN_FILENO;
 use libc::STDOUT_FILENO;
 use replies::Reply;
 
+// A frame may ask for this many words of question, and of report.
+const MOST: usize = 4096;
+
 // What stands before a question.
 struct Frame {
     budget: u32,
@@ -92,10 +95,10 @@ fn turn(
         return false;
     }
     let f = frame_at_start(bytes, work.len());
-    if 4096 < f.count {
+    if MOST < f.count {
         return false;
     }
-    if 4096 < f.report {
+    if MOST < f.report {
         return false;
     }
     if !fill(bytes, 4 * f.count) {
@@ -117,11 +120,11 @@ fn all(bytes: &mut [u8], words: &mut [u32], work: &mut [u32], report: &mut [u32]
 }
 
 fn main() {
-    let mut bytes = [0u8; 16384];
-    let mut words = [0u32; 4096];
+    let mut bytes = [0u8; 4 * MOST];
+    let mut words = [0u32; MOST];
     // what the largest budget needs, and some more
     let mut work = [0u32; 266496];
-    let mut report = [0u32; 4096];
-    let mut out = [0u8; 16400];
+    let mut report = [0u32; MOST];
+    let mut out = [0u8; 16 + 4 * MOST];
     all(&mut bytes, &mut words, &mut work, &mut report, &mut out);
 }

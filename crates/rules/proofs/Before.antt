@@ -6,6 +6,7 @@ use native.Mathlib.Nat.{le-refl}
 use native.Mathlib.Omega.{arith}
 use lib.ListN.{length}
 use Rattle.definition.specs.Syntax.{etvar, arrow}
+use Rattle.layout.specs.Sizes.{INT, CAP}
 use Rattle.layout.specs.Names.{ty}
 use Rattle.layout.specs.States.{freshName, named, raised, Draws}
 use Rattle.layout.specs.Words.{Keep}
@@ -29,7 +30,7 @@ use Rattle.rules.specs.Going.{LamPre, LamIn}
 
 -- ## A lambda
 
-pub lam-raise : {q w : List ℕ} {s : State} {g : Span} {a : ℕ} {d : Drawn} → LamPre q w s g a → Draws s d → d .st .top + 6 ≤ 1000000
+pub lam-raise : {q w : List ℕ} {s : State} {g : Span} {a : ℕ} {d : Drawn} → LamPre q w s g a → Draws s d → d .st .top + 6 ≤ CAP
 lam-raise pre one = rw (one .st) (omega (arith, pre .room .fits, pre .room .low, pre .room .cap))
 
 module _ {q w w₁ : List ℕ} {s : State} {g : Span} {a k : ℕ} {b : tyvar.TyVar} (pre : LamPre q w s g a) (e : PutETVar w w₁ (s .top) b k) where
@@ -40,7 +41,7 @@ module _ {q w w₁ : List ℕ} {s : State} {g : Span} {a k : ℕ} {b : tyvar.TyV
   lam-arrow =
       let l = kept .long in
       let n : s .top + 2 + 4 ≤ length w₁ = omega (arith, pre .room .fits, pre .room .low) in
-      let c : length w₁ ≤ 1000000 = omega (arith, pre .room .cap) in
+      let c : length w₁ ≤ CAP = omega (arith, pre .room .cap) in
       let bs : Base q w₁ (s .top + 2) = base-frame kept (omega arith) (pre .room .base) in
       record {
         room = n;
@@ -59,7 +60,7 @@ module _ {q w w₁ : List ℕ} {s : State} {g : Span} {a k : ℕ} {b : tyvar.TyV
       is-past : p ≡ s₁
       is-past = ep ∙ ap (λ (t : State). raised t 6) (one .st)
 
-      module _ {h : Here} {n n₂ : Entry} {x : TmVar} (en : EntryFrom h (Var x) a n) (en₂ : EntryFrom h (ETVar b) 2048 n₂) where
+      module _ {h : Here} {n n₂ : Entry} {x : TmVar} (en : EntryFrom h (Var x) a n) (en₂ : EntryFrom h (ETVar b) INT n₂) where
         pub lam-space : Space w₂ p g 2 × SmallEntry n × SmallEntry n₂
         lam-space =
             let l = kept₂ .long in

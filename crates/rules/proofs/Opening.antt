@@ -9,6 +9,7 @@ use Rattle.definition.specs.Syntax as syntax
 use Rattle.definition.specs.Syntax.{Ty, etvar, forall, Ctx, onL, onR}
 use Rattle.definition.specs.Run.{Out, done, stop}
 use Rattle.definition.specs.Types.{subst}
+use Rattle.layout.specs.Sizes.{INT}
 use Rattle.layout.specs.Names.{ty}
 use Rattle.layout.specs.States.{raised}
 use Rattle.layout.specs.Words.{Keep}
@@ -50,10 +51,10 @@ module _ {q w : List ℕ} {s : State} {g : Span} {r : ℕ} (pre : ForallPre q w 
   module _ {x : TyVar} {b : ℕ} (nm : Named q w (s .top) r x) (bd : BodyOf q w (s .top) r b) where
     -- ## On the right
 
-    pub right-space : {h : Here} {n : Entry} → EntryFrom h (TVar x) 2048 n → Space w s g 1 × SmallEntry n
+    pub right-space : {h : Here} {n : Entry} → EntryFrom h (TVar x) INT n → Space w s g 1 × SmallEntry n
     right-space en = (room-space (pre .room) g 1 (pre .run) (omega arith), entry-small en (omega arith))
 
-    pub opens-right : {h : Here} {n : Entry} → EntryFrom h (TVar x) 2048 n → {w₁ : List ℕ} {o : Opened} → Pushed w w₁ s g n o
+    pub opens-right : {h : Here} {n : Entry} → EntryFrom h (TVar x) INT n → {w₁ : List ℕ} {o : Opened} → Pushed w w₁ s g n o
         → OpensOn h q w w₁ s g r onR (Of (record { st = o .st; g = o .g; b = x; ty = b }))
     opens-right {h} en {w₁} {o} p =
         let on = p .grown .past in
@@ -113,14 +114,14 @@ module _ {q w : List ℕ} {s : State} {g : Span} {r : ℕ} (pre : ForallPre q w 
           run₂ : {Γ : Ctx} → Run q w (s .top) (g .at) (g .n) Γ → Run q w₂ (s₂ .top) (g .at) (g .n) Γ
           run₂ run = run-frame keep₂ (omega (arith, passed .up)) run
 
-          pub left-space : {h : Here} {k k₂ : Key} {n n₂ : Entry} → EntryFrom h k 2048 n → EntryFrom h k₂ 2048 n₂
+          pub left-space : {h : Here} {k k₂ : Key} {n n₂ : Entry} → EntryFrom h k INT n → EntryFrom h k₂ INT n₂
               → Space w₂ s₂ g 2 × SmallEntry n × SmallEntry n₂
           left-space en en₂ = (room-space room₂ g 2 (run₂ (pre .run)) (omega arith), entry-small en (omega arith), entry-small en₂ (omega arith))
 
           pub left-long : {n n₂ : Entry} {w₃ : List ℕ} {o : Opened} → Pushed2 w₂ w₃ s₂ g n n₂ o → length w₃ ≡ length w
           left-long p = let l = keep₂ .long in let m = p .grown .keep .long in omega arith
 
-          module _ {h : Here} {n n₂ : Entry} (en : EntryFrom h (ETVar x) 2048 n) (en₂ : EntryFrom h (Mark x) 2048 n₂) where
+          module _ {h : Here} {n n₂ : Entry} (en : EntryFrom h (ETVar x) INT n) (en₂ : EntryFrom h (Mark x) INT n₂) where
             pub opens-left : {w₃ : List ℕ} {o : Opened} → Pushed2 w₂ w₃ s₂ g n n₂ o
                 → OpensOn h q w w₃ s g r onL (Of (record { st = o .st; g = o .g; b = x; ty = t }))
             opens-left {w₃} {o} p =

@@ -7,6 +7,7 @@ use native.Mathlib.Omega.{arith}
 use lib.ListN.{length}
 use Rattle.definition.specs.Syntax.{Ty, etvar, arrow, Ctx}
 use Rattle.definition.specs.Rules.{split}
+use Rattle.layout.specs.Sizes.{INT, CAP}
 use Rattle.layout.specs.Names.{ty}
 use Rattle.layout.specs.States.{freshName, named, raised, Draws}
 use Rattle.layout.specs.Words.{Keep}
@@ -35,7 +36,7 @@ use Rattle.rules.specs.Parting.{PartPre, Parts}
 -- ## Two names
 
 module _ {q w : List ℕ} {s : State} {g : Span} (pre : PartPre q w s g) {d : Drawn} (one : Draws s d) where
-  pub draw-again : d .st .fresh < 1000000
+  pub draw-again : d .st .fresh < CAP
   draw-again = rw (one .st) (omega (arith, pre .names))
 
   module _ {e : Drawn} (two : Draws (d .st) e) where
@@ -45,7 +46,7 @@ module _ {q w : List ℕ} {s : State} {g : Span} (pre : PartPre q w s g) {d : Dr
     second-name : ty (e .name) ≡ freshName (suc (s .fresh))
     second-name = two .name ∙ ap (λ (t : State). freshName (t .fresh)) (one .st)
 
-    pub may-raise : e .st .top + 8 ≤ 1000000
+    pub may-raise : e .st .top + 8 ≤ CAP
     may-raise = rw twice (omega (arith, pre .room, pre .low, pre .cap))
 
 -- ## Three records
@@ -86,7 +87,7 @@ module _ {q w w₁ w₂ : List ℕ} {s : State} {g : Span} {x y : TyVar} {b c : 
     den-r : Den q w₃ (s .top + 8) r (arrow (etvar (ty x)) (etvar (ty y)))
     den-r = let t : s .top + 4 + 4 ≡ s .top + 8 = omega arith in rw t at (put .den _ _ den-b den-c)
 
-    space : {h : Here} {n n₂ n₃ : Entry} {k k₂ k₃ : Key} → EntryFrom h k r n → EntryFrom h k₂ 2048 n₂ → EntryFrom h k₃ 2048 n₃
+    space : {h : Here} {n n₂ n₃ : Entry} {k k₂ k₃ : Key} → EntryFrom h k r n → EntryFrom h k₂ INT n₂ → EntryFrom h k₃ INT n₃
         → Space w₃ past g 3 × SmallEntry n × SmallEntry n₂ × SmallEntry n₃
     space en en₂ en₃ =
         let l = keep₃ .long in (
@@ -96,8 +97,8 @@ module _ {q w w₁ w₂ : List ℕ} {s : State} {g : Span} {x y : TyVar} {b c : 
           entry-small en₃ (omega arith),
         )
 
-    module _ {h : Here} {n n₂ n₃ : Entry} {a : TyVar} (en : EntryFrom h (SETVar a) r n) (en₂ : EntryFrom h (ETVar x) 2048 n₂)
-        (en₃ : EntryFrom h (ETVar y) 2048 n₃) where
+    module _ {h : Here} {n n₂ n₃ : Entry} {a : TyVar} (en : EntryFrom h (SETVar a) r n) (en₂ : EntryFrom h (ETVar x) INT n₂)
+        (en₃ : EntryFrom h (ETVar y) INT n₃) where
       parted : {w₄ : List ℕ} {o : Opened} → ty x ≡ freshName (s .fresh) → ty y ≡ freshName (suc (s .fresh)) → Replaced3 w₃ w₄ past g (ty a) n n₂ n₃ o
           → Parts h q w w₄ s g a (record { st = o .st; g = o .g; b = b; c = c })
       unfolding split
@@ -129,18 +130,18 @@ module _ {q w w₁ w₂ w₃ : List ℕ} {s p : State} {g : Span} {d e : Drawn} 
   is-past : p ≡ raised (named (named s)) 8
   is-past = ep ∙ ap (λ (t : State). raised t 8) (twice pre one two)
 
-  pub part-space : {h : Here} {n n₂ n₃ : Entry} {k k₂ k₃ : Key} → EntryFrom h k r n → EntryFrom h k₂ 2048 n₂ → EntryFrom h k₃ 2048 n₃
+  pub part-space : {h : Here} {n n₂ n₃ : Entry} {k k₂ k₃ : Key} → EntryFrom h k r n → EntryFrom h k₂ INT n₂ → EntryFrom h k₃ INT n₃
       → Space w₃ p g 3 × SmallEntry n × SmallEntry n₂ × SmallEntry n₃
   part-space en en₂ en₃ = rw is-past (space pre put put₂ put₃ en en₂ en₃)
 
-  module _ {h : Here} {n n₂ n₃ : Entry} {a : TyVar} (en : EntryFrom h (SETVar a) r n) (en₂ : EntryFrom h (ETVar (d .name)) 2048 n₂)
-      (en₃ : EntryFrom h (ETVar (e .name)) 2048 n₃) where
+  module _ {h : Here} {n n₂ n₃ : Entry} {a : TyVar} (en : EntryFrom h (SETVar a) r n) (en₂ : EntryFrom h (ETVar (d .name)) INT n₂)
+      (en₃ : EntryFrom h (ETVar (e .name)) INT n₃) where
     pub parts : {w₄ : List ℕ} {o : Opened} → Replaced3 w₃ w₄ p g (ty a) n n₂ n₃ o → Parts h q w w₄ s g a (record { st = o .st; g = o .g; b = b; c = c })
     parts in₁ = parted pre put put₂ put₃ en en₂ en₃ (one .name) (second-name pre one two) (rw is-past at in₁)
 
 -- ## Before and after
 
-pub part-pre : {q w : List ℕ} {s : State} {g : Span} {Γ : Ctx} → Room q w s (20 + 28 * g .n) → s .fresh + 2 * s .left + 2 ≤ 1000000
+pub part-pre : {q w : List ℕ} {s : State} {g : Span} {Γ : Ctx} → Room q w s (20 + 28 * g .n) → s .fresh + 2 * s .left + 2 ≤ CAP
     → Run q w (s .top) (g .at) (g .n) Γ → PartPre q w s g
 part-pre room names run = record {
   base = room .base;

@@ -10,6 +10,7 @@ use Rattle.definition.specs.Run.{done, fail, give, refuse}
 use Rattle.definition.specs.Contexts.{kVar}
 use Rattle.definition.specs.Rules.{closes, infVar, inferRule, checkRule, tyCode, rule, judge}
 use Rattle.definition.specs.Reply.{errorCode, errorAt}
+use Rattle.layout.specs.Sizes.{INT, BOOL}
 use Rattle.layout.specs.Names.{tm}
 use Rattle.layout.specs.Denotes.{Den, Run}
 use Rattle.layout.specs.declared.Span.{Span}
@@ -78,32 +79,32 @@ is-bool T e = base-case (λ T. tyCode T ≡ 2 → T ≡ bool) T (omega arith) (�
 module _ {m : Here} {q w : List ℕ} {s : State} {g : Span} {ex : ℕ} where
   -- ## Literals
 
-  pub lit-int-done : InferPre q w s g ex 22 → Fires m q w w s g (inferAsk ex) (Done (record { st = s; g = g; ty = 2048; rule = 2; kids = 0; charge = 0 }))
+  pub lit-int-done : InferPre q w s g ex 22 → Fires m q w w s g (inferAsk ex) (Done (record { st = s; g = g; ty = INT; rule = 2; kids = 0; charge = 0 }))
   unfolding ruleNumber inferRule give
   lit-int-done pre =
-      answers (pre .rule) 2048 Syntax.InfLitInt refl
+      answers (pre .rule) INT Syntax.InfLitInt refl
       (λ j k.
       let v = infer-asked ex k in
       let f : IsLitInt ex (v .e) = told (infer-shaped pre) (v .at) in
       record { C = int; Γ = v .Γ; run = v .run; den = int-den (pre .rule .room .base); is = infers (here m) _ _ (v .is) (f .is) refl })
 
-  pub lit-bool-done : InferPre q w s g ex 23 → Fires m q w w s g (inferAsk ex) (Done (record { st = s; g = g; ty = 2049; rule = 3; kids = 0; charge = 0 }))
+  pub lit-bool-done : InferPre q w s g ex 23 → Fires m q w w s g (inferAsk ex) (Done (record { st = s; g = g; ty = BOOL; rule = 3; kids = 0; charge = 0 }))
   unfolding ruleNumber inferRule give
   lit-bool-done pre =
-      answers (pre .rule) 2049 Syntax.InfLitBool refl
+      answers (pre .rule) BOOL Syntax.InfLitBool refl
       (λ j k.
       let v = infer-asked ex k in
       let f : IsLitBool ex (v .e) = told (infer-shaped pre) (v .at) in
       record { C = bool; Γ = v .Γ; run = v .run; den = bool-den (pre .rule .room .base); is = infers (here m) _ _ (v .is) (f .is) refl })
 
   pub check-lit-done : {ty r : ℕ} → CheckPre q w s g ex ty r → r < 19
-      → Fires m q w w s g (checkAsk ex ty) (Done (record { st = s; g = g; ty = 2048; rule = r; kids = 0; charge = 0 }))
+      → Fires m q w w s g (checkAsk ex ty) (Done (record { st = s; g = g; ty = INT; rule = r; kids = 0; charge = 0 }))
   unfolding ruleNumber closes give
   check-lit-done {ty} {r} pre h = go (pre .choice)
     where
-      go : Choice (pre .k) (pre .c) r → Fires m q w w s g (checkAsk ex ty) (Done (record { st = s; g = g; ty = 2048; rule = r; kids = 0; charge = 0 }))
+      go : Choice (pre .k) (pre .c) r → Fires m q w w s g (checkAsk ex ty) (Done (record { st = s; g = g; ty = INT; rule = r; kids = 0; charge = 0 }))
       go (lit-int i e t) =
-          answers (pre .rule) 2048 Syntax.ChkLitInt i
+          answers (pre .rule) INT Syntax.ChkLitInt i
           (λ j k.
           let v = check-asked ex ty k in
           let f : IsLitInt ex (v .e) = told (check-shaped pre e) (v .at) in
@@ -111,7 +112,7 @@ module _ {m : Here} {q w : List ℕ} {s : State} {g : Span} {ex : ℕ} where
           let c : checkRule (here m) (judge (here m)) (v .Γ) (litInt ex (f .l) (f .h)) int ≡ closes Syntax.ChkLitInt (v .Γ) = chk-int _ _ _ ex (f .l) (f .h) in
           record { C = int; Γ = v .Γ; run = v .run; den = int-den (pre .rule .room .base); is = checks (here m) _ _ (v .is) (f .is) b (rw c refl) })
       go (lit-bool i e t) =
-          answers (pre .rule) 2048 Syntax.ChkLitBool i
+          answers (pre .rule) INT Syntax.ChkLitBool i
           (λ j k.
           let v = check-asked ex ty k in
           let f : IsLitBool ex (v .e) = told (check-shaped pre e) (v .at) in

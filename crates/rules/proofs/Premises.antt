@@ -8,6 +8,7 @@ use Rattle.definition.specs.Syntax.{TyVar, Ty, int, etvar, Ctx, Side, Judgement
 use Rattle.definition.specs.Run.{Out, done, stop, M, andThen, give}
 use Rattle.definition.specs.Contexts.{Key, rightOf}
 use Rattle.definition.specs.Rules.{Fired, Result, rule, judge}
+use Rattle.layout.specs.Sizes.{INT}
 use Rattle.layout.specs.Denotes.{Den, Run}
 use Rattle.layout.specs.Room.{Room}
 use Rattle.layout.specs.declared.Span.{Span}
@@ -67,8 +68,8 @@ else-fires f call nd = record { run = λ j k. let x = f j k in rw (x .says) (end
 pub ends : {q w w₁ : List ℕ} {s : State} {ts : Trees} {n k : ℕ} (s₁ : State) (g₁ : Span) (r : Rule) {Δ : Ctx} → n ≡ ruleNumber r → k ≡ children ts
     → k < 5 → Sofar q w w₁ s s₁ ts → Room q w₁ s₁ 4 → Run q w₁ (s₁ .top) (g₁ .at) (g₁ .n) Δ
     → (R : Out Fired) → R ≡ done (r, int, Δ, ts) (s₁ .left) (s₁ .fresh)
-    → RunsR q w w₁ s (Done (record { st = s₁; g = g₁; ty = 2048; rule = n; kids = k; charge = 0 })) R
-ends s₁ g₁ r en ek few so room run R e = rw (en, ek) (fires s₁ g₁ 2048 r so room (omega arith) run (int-den (room .base)) R e)
+    → RunsR q w w₁ s (Done (record { st = s₁; g = g₁; ty = INT; rule = n; kids = k; charge = 0 })) R
+ends s₁ g₁ r en ek few so room run R e = rw (en, ek) (fires s₁ g₁ INT r so room (omega arith) run (int-den (room .base)) R e)
 
 -- ## The judgement i came back, and is the rule's last
 
@@ -91,7 +92,7 @@ module _ {m : Here} {q w w₁ w₂ : List ℕ} {s s₁ : State} {ts : Trees} {g�
 
   -- the rule's output is its output
   pub through-ends : {n k : ℕ} {y : Step} (R : Rule) → n ≡ ruleNumber R → ((t : Tree) → k ≡ children (ts +++ (t & leaf))) → k < 5
-      → PlainOut (r .st) (r .g) 2048 n k y
+      → PlainOut (r .st) (r .g) INT n k y
       → (O : Out Fired) → O ≡ andThen (judge (here m) i (s₁ .left) (s₁ .fresh)) (λ u. give (R, int, u .1, ts +++ (u .2 & leaf)))
       → RunsR q w w₂ s y O
   through-ends R en ek few a O e =
@@ -100,7 +101,7 @@ module _ {m : Here} {q w w₁ w₂ : List ℕ} {s s₁ : State} {ts : Trees} {g�
 
   -- it is what stands right of a key
   pub right-ends : {n k : ℕ} {w₃ : List ℕ} {y : Step} (R : Rule) (K : Key) → n ≡ ruleNumber R → ((t : Tree) → k ≡ children (ts +++ (t & leaf))) → k < 5
-      → KeepOut false w₂ w₃ r K 2048 n k y
+      → KeepOut false w₂ w₃ r K INT n k y
       → (O : Out Fired) → O ≡ andThen (judge (here m) i (s₁ .left) (s₁ .fresh)) (λ u. give (R, int, rightOf K (u .1), ts +++ (u .2 & leaf)))
       → RunsR q w w₃ s y O
   unfolding kept

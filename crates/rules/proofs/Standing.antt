@@ -6,6 +6,7 @@ use native.Mathlib.Omega.{arith}
 use lib.ListN.{getD}
 use Rattle.definition.specs.Syntax.{TyVar, Ty, etvar, Expr, Ctx, Trees}
 use Rattle.definition.specs.Rules.{tyCode}
+use Rattle.layout.specs.Sizes.{CAP}
 use Rattle.layout.specs.Places.{ExprAt}
 use Rattle.layout.specs.Denotes.{Den, Run}
 use Rattle.layout.specs.Room.{Room}
@@ -49,7 +50,7 @@ module _ {q w : List ℕ} {s : State} {k : ℕ} (room : Room q w s k) where
   room-less k₁ h = record { base = room .base; fits = omega (arith, room .fits); low = room .low; cap = room .cap; names = room .names }
 
   -- what was built leaves room
-  pub built-room : {w₁ : List ℕ} {s₁ : State} {n : ℕ} (k₁ : ℕ) → Built w w₁ s s₁ n → n + k₁ ≤ k → s₁ .fresh + 2 * s₁ .left ≤ 1000000 → Room q w₁ s₁ k₁
+  pub built-room : {w₁ : List ℕ} {s₁ : State} {n : ℕ} (k₁ : ℕ) → Built w w₁ s s₁ n → n + k₁ ≤ k → s₁ .fresh + 2 * s₁ .left ≤ CAP → Room q w₁ s₁ k₁
   built-room k₁ b h f =
       let lo = b .low in
       room-on _ k₁ room (b .keep) (b .up) (omega arith) (omega (arith, b .built, b .less, room .fits)) f

@@ -9,6 +9,7 @@ use Rattle.definition.specs.Syntax.{TyVar, Ty, int, Ctx, Judgement, Rule, ruleN
 use Rattle.definition.specs.Run.{Out, done, andThen, give}
 use Rattle.definition.specs.Contexts.{Key, rightOf}
 use Rattle.definition.specs.Rules.{rule, judge}
+use Rattle.layout.specs.Sizes.{INT}
 use Rattle.layout.specs.Names.{ty}
 use Rattle.layout.specs.Denotes.{Den}
 use Rattle.layout.specs.Room.{Room}
@@ -101,11 +102,11 @@ module _ {m : Here} {q w w₁ : List ℕ} {s : State} {g : Span} {a : Ask} {a₁
         pub under-space : Space w₂ (r .st) (r .g) 0
         under-space = came-space so call (asks₁ (pre .asks)) c
 
-        pub under-done : {n : ℕ} {w₃ : List ℕ} {y : Step} → n ≡ ruleNumber R → KeepOut false w₂ w₃ r (K (ty (o .b))) 2048 n 1 y → Fires m q w w₃ s g a y
+        pub under-done : {n : ℕ} {w₃ : List ℕ} {y : Step} → n ≡ ruleNumber R → KeepOut false w₂ w₃ r (K (ty (o .b))) INT n 1 y → Fires m q w w₃ s g a y
         unfolding children
         under-done {n} {w₃} {y} en al = record {
           run = λ j k.
               let b = under j k .b in
-              let al′ : KeepOut false w₂ w₃ r (K b) 2048 n 1 y = rw (opened k .opens .name) at al in
+              let al′ : KeepOut false w₂ w₃ r (K b) INT n 1 y = rw (opened k .opens .name) at al in
               right-ends so call (asks₁ k) c R (K b) en (λ t. refl) (omega arith) al′ _ (says₁ k);
         }

@@ -9,6 +9,7 @@ use Rattle.definition.specs.Run.{Out, done, stop, M, _>>=_, give}
 use Rattle.definition.specs.Rules.{Fired, Result}
 use Rattle.definition.specs.Types.{apply}
 use Rattle.laws.proofs.Steps.{bind-done, bind-fail, bind-stop}
+use Rattle.layout.specs.Sizes.{CAP}
 use Rattle.layout.specs.Words.{Keep}
 use Rattle.layout.specs.Denotes.{Den, Run}
 use Rattle.layout.specs.Room.{Room}
@@ -154,7 +155,7 @@ module _ {q w w₁ : List ℕ} {s s₁ : State} {ts : Trees} {k : ℕ} {R : Out 
   -- ## Words are built, fresh names taken
 
   pub went : {K K′ : M Fired} → Way q w w₁ s s₁ ts k R K → (s₂ : State) (k′ : ℕ) {w₂ : List ℕ} → Keep (s₁ .top) (s₁ .low) w₁ w₂ → s₁ .top ≤ s₂ .top
-      → s₂ .low ≡ s₁ .low → s₂ .left ≡ s₁ .left → s₂ .top + k′ ≤ s₁ .top + k → s₂ .fresh + 2 * s₂ .left ≤ 1000000
+      → s₂ .low ≡ s₁ .low → s₂ .left ≡ s₁ .left → s₂ .top + k′ ≤ s₁ .top + k → s₂ .fresh + 2 * s₂ .left ≤ CAP
       → K (s₁ .left) (s₁ .fresh) ≡ K′ (s₂ .left) (s₂ .fresh) → Way q w w₂ s s₂ ts k′ R K′
   went y s₂ k′ kp up lo le ft nm e = record {
     so = built s₂ (y .so) kp up lo (omega arith);

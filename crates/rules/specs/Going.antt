@@ -8,6 +8,7 @@ use Rattle.definition.specs.Syntax.{TyVar, Ty, etvar, arrow, forall, varBnd, et
 use Rattle.definition.specs.Run.{Out, done, fail, stop, M, _>>=_, give}
 use Rattle.definition.specs.Rules.{_from_, parameter, branch, instantiate}
 use Rattle.definition.specs.Contexts.{Key, kTVar, _▹_, rightOf, solvedAndRight}
+use Rattle.layout.specs.Sizes.{CAP}
 use Rattle.layout.specs.Names.{tm}
 use Rattle.layout.specs.States.{freshName}
 use Rattle.layout.specs.Words.{Keep}
@@ -34,7 +35,7 @@ use Rattle.rules.specs.declared.Mid.the-variants.{On, End}
 -- a rule starts, with the written type a of the parameter
 pub record LamPre (q w : List ℕ) (s : State) (g : Span) (a : ℕ) : Type 0 where
   pub room : Room q w s (20 + 28 * g .n)
-  pub names : s .fresh + 2 * s .left + 2 ≤ 1000000
+  pub names : s .fresh + 2 * s .left + 2 ≤ CAP
   pub below : g .at + 4 * g .n ≤ s .top
   pub type : Ty
   pub den : Den q w (s .top) a type

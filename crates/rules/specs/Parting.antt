@@ -5,6 +5,7 @@ use Prim.Native.Nat.{ℕ, suc, _+_, _*_, _≤_}
 use lib.ListN.{length}
 use Rattle.definition.specs.Syntax.{etvar, Ctx}
 use Rattle.definition.specs.Rules.{split}
+use Rattle.layout.specs.Sizes.{CAP}
 use Rattle.layout.specs.Names.{ty}
 use Rattle.layout.specs.States.{freshName}
 use Rattle.layout.specs.Words.{Keep}
@@ -22,8 +23,8 @@ pub record PartPre (q w : List ℕ) (s : State) (g : Span) : Type 0 where
   pub below : g .at + 4 * g .n ≤ s .top
   pub room : s .top + 4 * g .n + 20 ≤ s .low
   pub low : s .low ≤ length w
-  pub cap : length w ≤ 1000000
-  pub names : s .fresh + 2 ≤ 1000000
+  pub cap : length w ≤ CAP
+  pub names : s .fresh + 2 ≤ CAP
 
 pub record Parts (h : Here) (q w w′ : List ℕ) (s : State) (g : Span) (a : TyVar) (o : Parted) : Type 0 where
   pub keep : Keep (s .top) (s .low) w w′

@@ -3,7 +3,12 @@ ghost use Prim.Native.Nat.{_≤_};
 ghost use Rattle.sized.specs.Sized.{Fit, BytesAnswered, Lent, Told};
 use replies::Reply;
 
+// The desk program's sizes: units of budget, words of work and of report.
 const BUDGET: u32 = 384;
+
+pub const WORK: usize = 16384;
+
+pub const REPORT: usize = 4096;
 
 // Answers a question of little-endian words; the report slice is as long as there is room.
 fn answer_words(question: &[u8], words: &mut [u32], work: &mut [u32], report: &mut [u32]) -> Reply
@@ -11,7 +16,7 @@ fn answer_words(question: &[u8], words: &mut [u32], work: &mut [u32], report: &m
     ensures { λ r. ⌜ BytesAnswered (now (question .entry)) (now (report .entry)) (now (report .exit)) r ⌝ }
 {
     let n = question.len() / 4;
-    if 2048 < n {
+    if definition::QUESTION_MOST < n {
         return replies::refusal(3, 0);
     }
     if 4 * n != question.len() {

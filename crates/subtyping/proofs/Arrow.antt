@@ -8,6 +8,7 @@ use Rattle.definition.specs.Syntax
 use Rattle.definition.specs.Syntax.{Ty, int, arrow, Judgement, subtype, ruleNumber, leaf, _&_, children}
 use Rattle.definition.specs.Run.{andThen, give, _>>=_}
 use Rattle.definition.specs.Rules.{subArr, rule, judge, tyCode, branch}
+use Rattle.layout.specs.Sizes.{INT}
 use Rattle.layout.specs.Denotes.{Den}
 use Rattle.layout.specs.declared.Span.{Span}
 use Rattle.layout.specs.declared.State.{State}
@@ -197,7 +198,7 @@ module _ {t : ℕ} (b : Between t) where
     unfolding _>>=_
     arr-else₂ nd = else-fires (λ j k. let x = next k .way in record { ts = _; so = x .so; i = _; asks = asks₂ k; next = _; says = x .is }) call nd
 
-    pub arr-done : {u : Answer} {z : Step} → y ≡ Done u → PlainOut (u .st) (u .g) 2048 25 2 z → Ends asked w₃ z
+    pub arr-done : {u : Answer} {z : Step} → y ≡ Done u → PlainOut (u .st) (u .g) INT 25 2 z → Ends asked w₃ z
     unfolding children ruleNumber _>>=_
     arr-done d th = record {
       run = λ j k.

@@ -8,6 +8,7 @@ use Rattle.definition.specs.Run.{M, andThen, give, refuse, _>>=_}
 use Rattle.definition.specs.Rules as definition
 use Rattle.definition.specs.Rules.{Fired, Judge, closes, subInst, rule, judge}
 use Rattle.definition.specs.Reply.{errorCode, errorAt}
+use Rattle.layout.specs.Sizes.{INT}
 use Rattle.layout.specs.Denotes.{Den}
 use Rattle.layout.specs.declared.Span.{Span}
 use Rattle.layout.specs.declared.State.{State}
@@ -81,7 +82,7 @@ refl-fits : {A B : Ty} {n : ℕ} → ArmFits A B (arm.Refl n) → ReflFits A B n
 refl-fits (fits-refl R e c) = record { R = R; number = e; comes-to = c }
 
 pub refl-fires : {m : Here} {q w : List ℕ} {s : State} {g : Span} {a b n : ℕ} → ArmPre q w s g a b (arm.Refl n)
-    → Fires m q w w s g (subAsk a b) (Done (record { st = s; g = g; ty = 2048; rule = n; kids = 0; charge = 0 }))
+    → Fires m q w w s g (subAsk a b) (Done (record { st = s; g = g; ty = INT; rule = n; kids = 0; charge = 0 }))
 unfolding closes give children
 refl-fires {m} {s = s} {g = g} pre = record {
   run = λ j k.
@@ -148,7 +149,7 @@ module _ {q w : List ℕ} {s : State} {g : Span} {a b : ℕ} {z : program.Side} 
       pub inst-else : NotDone y → Fires m q w w₁ s g (subAsk a b) y
       inst-else nd = else-fires (λ j k. record { ts = leaf; so = begin; i = _; asks = asks₁ k; next = _; says = says m k }) call nd
 
-      pub inst-done : {r : Answer} {n : ℕ} {o : Step} → y ≡ Done r → n ≡ onSide (side z) 28 29 → PlainOut (r .st) (r .g) 2048 n 1 o → Fires m q w w₁ s g (subAsk a b) o
+      pub inst-done : {r : Answer} {n : ℕ} {o : Step} → y ≡ Done r → n ≡ onSide (side z) 28 29 → PlainOut (r .st) (r .g) INT n 1 o → Fires m q w w₁ s g (subAsk a b) o
       unfolding children
       inst-done d en th = record {
         run = λ j k.

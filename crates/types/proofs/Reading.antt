@@ -7,6 +7,7 @@ use lib.ListN.{length, getD, take, drop}
 use Rattle.definition.specs.Syntax as syntax
 use Rattle.definition.specs.Syntax.{Ty, var, etvar, arrow, forall}
 use Rattle.definition.specs.Rules.{tyCode}
+use Rattle.layout.specs.Sizes.{BASE, ENDS}
 use Rattle.layout.specs.Places.{size, TyAt, var-at, etvar-at, arrow-at, forall-at}
 use Rattle.layout.specs.Denotes.{capped, Base, Den, written}
 use Rattle.layout.specs.declared.TyVar.{TyVar}
@@ -47,64 +48,64 @@ written-right (arrow-at c d e f) = rw e (record { den = written f; less = omega 
 written-body : {q w : List ℕ} {t r : ℕ} {a : syntax.TyVar} {A : Ty} → TyAt q r (forall a A) → PartBelow q w t r (r + 2) A
 written-body (forall-at c n d) = record { den = written d; less = omega (arith, ty-code d .inside) }
 
-left-inside : {q : List ℕ} {r : ℕ} {A B : Ty} → TyAt q r (arrow A B) → r + 1 < 2048
+left-inside : {q : List ℕ} {r : ℕ} {A B : Ty} → TyAt q r (arrow A B) → r + 1 < BASE
 left-inside (arrow-at c d e f) = ty-code d .inside
 
-left-past : {q w : List ℕ} {t r : ℕ} {A B : Ty} → Base q w t → TyAt q r (arrow A B) → getD w (16 + (r + 1)) 0 ≡ r + 1 + size A
+left-past : {q w : List ℕ} {t r : ℕ} {A B : Ty} → Base q w t → TyAt q r (arrow A B) → getD w (ENDS + (r + 1)) 0 ≡ r + 1 + size A
 left-past b (arrow-at c d e f) = b .past-ty _ _ d
 
-past : {q w : List ℕ} {t r : ℕ} {T : Ty} → Held q w t r → r < 2048 → Den q w t r T → getD w (16 + r) 0 ≡ r + size T
+past : {q w : List ℕ} {t r : ℕ} {T : Ty} → Held q w t r → r < BASE → Den q w t r T → getD w (ENDS + r) 0 ≡ r + size T
 past h l d = h .base .past-ty _ _ (den-written l d)
 
 -- ## Places that a reader may look at
 
 module _ {q w : List ℕ} {t r : ℕ} (h : Held q w t r) where
-  pub code-in-question : r < 2048 → r < length q
+  pub code-in-question : r < BASE → r < length q
   code-in-question l = ty-code (den-written l (h .den)) .within
 
-  pub name-in-question : r < 2048 → 3 ≤ tyCode (h .type) → r + 1 < length q
+  pub name-in-question : r < BASE → 3 ≤ tyCode (h .type) → r + 1 < length q
   name-in-question l c = omega (arith, ty-within (den-written l (h .den)), two-words (h .type) c .0)
 
-  pub record-in-work : 2048 ≤ r → r - 2048 + recordSize (h .type) ≤ length w
+  pub record-in-work : BASE ≤ r → r - BASE + recordSize (h .type) ≤ length w
   record-in-work l = omega (arith, made-record l (h .den) .end, h .fits)
 
-  pub code-in-work : 2048 ≤ r → r - 2048 < length w
+  pub code-in-work : BASE ≤ r → r - BASE < length w
   code-in-work l = omega (arith, record-in-work l, sizes (h .type) .some)
 
-  pub name-in-work : 2048 ≤ r → 3 ≤ tyCode (h .type) → r - 2048 + 1 < length w
+  pub name-in-work : BASE ≤ r → 3 ≤ tyCode (h .type) → r - BASE + 1 < length w
   name-in-work l c = omega (arith, record-in-work l, two-words (h .type) c .1)
 
-  pub four-in-work : 2048 ≤ r → 5 ≤ tyCode (h .type) → r - 2048 + 4 ≤ length w
+  pub four-in-work : BASE ≤ r → 5 ≤ tyCode (h .type) → r - BASE + 4 ≤ length w
   four-in-work l c = omega (arith, record-in-work l, sizes (h .type) .four c)
 
 -- ## What a reader finds there
 
 module _ {q w : List ℕ} {t r k : ℕ} where
-  pub tagged-written : r < 2048 → k ≡ getD q r 0 → Tagged q w t r k
+  pub tagged-written : r < BASE → k ≡ getD q r 0 → Tagged q w t r k
   tagged-written l e = record { is = λ T d. e ∙ ty-code (den-written l d) .is }
 
-  pub tagged-made : 2048 ≤ r → k ≡ getD w (r - 2048) 0 → Tagged q w t r k
+  pub tagged-made : BASE ≤ r → k ≡ getD w (r - BASE) 0 → Tagged q w t r k
   tagged-made l e = record { is = λ T d. e ∙ made-record l d .code }
 
-  pub left-made : 2048 ≤ r → k ≡ getD w (r - 2048 + 1) 0 → LeftOf q w t r k
+  pub left-made : BASE ≤ r → k ≡ getD w (r - BASE + 1) 0 → LeftOf q w t r k
   left-made l e = record { is = λ A B d. rw e (made-left l d) }
 
-  pub right-made : 2048 ≤ r → k ≡ getD w (r - 2048 + 2) 0 → RightOf q w t r k
+  pub right-made : BASE ≤ r → k ≡ getD w (r - BASE + 2) 0 → RightOf q w t r k
   right-made l e = record { is = λ A B d. rw e (made-right l d) }
 
-  pub body-made : 2048 ≤ r → k ≡ getD w (r - 2048 + 2) 0 → BodyOf q w t r k
+  pub body-made : BASE ≤ r → k ≡ getD w (r - BASE + 2) 0 → BodyOf q w t r k
   body-made l e = record { is = λ a A d. rw e (made-body l d) }
 
-  pub right-written : Base q w t → r < 2048 → k ≡ getD w (16 + (r + 1)) 0 → RightOf q w t r k
+  pub right-written : Base q w t → r < BASE → k ≡ getD w (ENDS + (r + 1)) 0 → RightOf q w t r k
   right-written b l e = record { is = λ A B d. rw (e ∙ left-past b (den-written l d)) (written-right (den-written l d)) }
 
-pub left-written : {q w : List ℕ} {t r : ℕ} → r < 2048 → LeftOf q w t r (r + 1)
+pub left-written : {q w : List ℕ} {t r : ℕ} → r < BASE → LeftOf q w t r (r + 1)
 left-written l = record { is = λ A B d. written-left (den-written l d) }
 
-pub body-written : {q w : List ℕ} {t r : ℕ} → r < 2048 → BodyOf q w t r (r + 2)
+pub body-written : {q w : List ℕ} {t r : ℕ} → r < BASE → BodyOf q w t r (r + 2)
 body-written l = record { is = λ a A d. written-body (den-written l d) }
 
-pub left-in-table : {q w : List ℕ} {t r : ℕ} → HeldAs q w t r 5 → r < 2048 → 16 + (r + 1) < length w
+pub left-in-table : {q w : List ℕ} {t r : ℕ} → HeldAs q w t r 5 → r < BASE → ENDS + (r + 1) < length w
 left-in-table h l = omega (arith, left-inside (den-written l (arrow-held h .den)), h .held .base .floor, h .held .fits)
 
 -- ## Names
@@ -121,10 +122,10 @@ name-written var-names (var-at c n) = n .is
 name-written etvar-names (etvar-at c n) = n .is
 name-written forall-names (forall-at c n d) = n .is
 
-pub named-written : {q w : List ℕ} {t r : ℕ} {a : TyVar} → r < 2048 → a .0 ≡ getD q (r + 1) 0 → Named q w t r a
+pub named-written : {q w : List ℕ} {t r : ℕ} {a : TyVar} → r < BASE → a .0 ≡ getD q (r + 1) 0 → Named q w t r a
 named-written l e = named (λ T b n d. e ∙ name-written n (den-written l d))
 
-pub named-made : {q w : List ℕ} {t r : ℕ} {a : TyVar} → 2048 ≤ r → a .0 ≡ getD w (r - 2048 + 1) 0 → Named q w t r a
+pub named-made : {q w : List ℕ} {t r : ℕ} {a : TyVar} → BASE ≤ r → a .0 ≡ getD w (r - BASE + 1) 0 → Named q w t r a
 named-made l e = named (λ T b n d. e ∙ made-name l n d)
 
 -- ## Lengths and words
@@ -133,29 +134,29 @@ module _ {q w : List ℕ} {t r : ℕ} (h : Held q w t r) where
   length-of : {n : ℕ} → ((T : Ty) → Den q w t r T → n ≡ capped (size T)) → LengthOf q w t r n
   length-of f = record { is = f; word = omega (arith, f (h .type) (h .den)) }
 
-  pub length-written : {e : ℕ} → r < 2048 → e ≡ getD w (16 + r) 0 → e < 2 ^ 32 → LengthOf q w t r (e - r)
+  pub length-written : {e : ℕ} → r < BASE → e ≡ getD w (ENDS + r) 0 → e < 2 ^ 32 → LengthOf q w t r (e - r)
   length-written l f b = length-of (λ T d. omega (arith, past h l d))
 
   pub length-leaf : {k n : ℕ} → Tagged q w t r k → k < 5 → RecordLength k n → LengthOf q w t r n
   length-leaf c l n = length-of (λ T d. n .is T (c .is T d) ∙ leaf-size T (omega (arith, c .is T d)))
 
-  pub length-made : {k n : ℕ} → 2048 ≤ r → Tagged q w t r k → 5 ≤ k → n ≡ getD w (r - 2048 + 3) 0 → LengthOf q w t r n
+  pub length-made : {k n : ℕ} → BASE ≤ r → Tagged q w t r k → 5 ≤ k → n ≡ getD w (r - BASE + 3) 0 → LengthOf q w t r n
   length-made l c g e = length-of (λ T d. e ∙ made-length l (omega (arith, c .is T d)) d)
 
-  pub end-in-question : {e : ℕ} → r < 2048 → e ≡ getD w (16 + r) 0 → (r ≤ e) × (e ≤ length q)
+  pub end-in-question : {e : ℕ} → r < BASE → e ≡ getD w (ENDS + r) 0 → (r ≤ e) × (e ≤ length q)
   end-in-question l f = (omega (arith, past h l (h .den)), omega (arith, past h l (h .den), ty-within (den-written l (h .den))))
 
-  pub words-written : {e : ℕ} → r < 2048 → e ≡ getD w (16 + r) 0 → WordsOf q w t r (take (e - r) (drop r q))
+  pub words-written : {e : ℕ} → r < BASE → e ≡ getD w (ENDS + r) 0 → WordsOf q w t r (take (e - r) (drop r q))
   words-written {e} l f = record {
     in-question = λ m T d. let z : e - r ≡ size T = omega (arith, past h l d) in ap (λ (n : ℕ). take n (drop r q)) z;
     in-work = λ m T d. absurd (omega arith);
   }
 
-  pub end-in-work : {k n : ℕ} → 2048 ≤ r → Tagged q w t r k → RecordLength k n → r - 2048 + n ≤ length w
+  pub end-in-work : {k n : ℕ} → BASE ≤ r → Tagged q w t r k → RecordLength k n → r - BASE + n ≤ length w
   end-in-work l c n = omega (arith, record-in-work h l, n .is (h .type) (c .is (h .type) (h .den)))
 
-  pub words-made : {k n : ℕ} → 2048 ≤ r → Tagged q w t r k → RecordLength k n → WordsOf q w t r (take (r - 2048 + n - (r - 2048)) (drop (r - 2048) w))
+  pub words-made : {k n : ℕ} → BASE ≤ r → Tagged q w t r k → RecordLength k n → WordsOf q w t r (take (r - BASE + n - (r - BASE)) (drop (r - BASE) w))
   words-made {k} {n} l c f = record {
     in-question = λ m T d. absurd (omega arith);
-    in-work = λ m T d. let z : r - 2048 + n - (r - 2048) ≡ recordSize T = omega (arith, f .is T (c .is T d)) in ap (λ (n : ℕ). take n (drop (r - 2048) w)) z;
+    in-work = λ m T d. let z : r - BASE + n - (r - BASE) ≡ recordSize T = omega (arith, f .is T (c .is T d)) in ap (λ (n : ℕ). take n (drop (r - BASE) w)) z;
   }

@@ -6,6 +6,7 @@ use native.Mathlib.Omega.{arith}
 use lib.ListN.{getD}
 use Rattle.definition.specs.Syntax.{TyVar, Ty, arrow, forall}
 use Rattle.definition.specs.Rules.{tyCode}
+use Rattle.layout.specs.Sizes.{BASE}
 use Rattle.layout.specs.Places.{size, TyAt}
 use Rattle.layout.specs.Denotes.{capped, MadeAt, Den, written, int-made, bool-made, etvar-made, arrow-made, forall-made}
 use Rattle.layout.proofs.Places.{ty-code}
@@ -17,17 +18,17 @@ pub record RecordAt (w : List ℕ) (t i n k : ℕ) : Type 0 where
   pub end : i + n ≤ t
   pub code : getD w i 0 ≡ k
 
-place-is : {w : List ℕ} {t r i n k : ℕ} → MadeAt w t r i n k → r - 2048 ≡ i
+place-is : {w : List ℕ} {t r i n k : ℕ} → MadeAt w t r i n k → r - BASE ≡ i
 place-is m = omega (arith, m .ref)
 
-record-at : {w : List ℕ} {t r i n k : ℕ} → MadeAt w t r i n k → RecordAt w t (r - 2048) n k
+record-at : {w : List ℕ} {t r i n k : ℕ} → MadeAt w t r i n k → RecordAt w t (r - BASE) n k
 record-at m = rw (place-is m) (record { end = m .below; code = m .is })
 
-not-written : {q : List ℕ} {r : ℕ} {T : Ty} → 2048 ≤ r → TyAt q r T → ⊥
+not-written : {q : List ℕ} {r : ℕ} {T : Ty} → BASE ≤ r → TyAt q r T → ⊥
 not-written h d = let c = ty-code d in omega (arith, c .inside)
 
-module _ {q w : List ℕ} {t r : ℕ} (h : 2048 ≤ r) where
-  pub made-record : {T : Ty} → Den q w t r T → RecordAt w t (r - 2048) (recordSize T) (tyCode T)
+module _ {q w : List ℕ} {t r : ℕ} (h : BASE ≤ r) where
+  pub made-record : {T : Ty} → Den q w t r T → RecordAt w t (r - BASE) (recordSize T) (tyCode T)
   unfolding tyCode recordSize
   made-record (written d) = absurd (not-written h d)
   made-record (int-made m) = record-at m
@@ -36,7 +37,7 @@ module _ {q w : List ℕ} {t r : ℕ} (h : 2048 ≤ r) where
   made-record (arrow-made m x y f g s d e) = record-at m
   made-record (forall-made m y n g s d) = record-at m
 
-  pub made-length : {T : Ty} → 5 ≤ tyCode T → Den q w t r T → getD w (r - 2048 + 3) 0 ≡ capped (size T)
+  pub made-length : {T : Ty} → 5 ≤ tyCode T → Den q w t r T → getD w (r - BASE + 3) 0 ≡ capped (size T)
   unfolding tyCode
   made-length l (written d) = absurd (not-written h d)
   made-length l (int-made m) = absurd (omega arith)
@@ -45,7 +46,7 @@ module _ {q w : List ℕ} {t r : ℕ} (h : 2048 ≤ r) where
   made-length l (arrow-made m x y f g s d e) = rw (place-is m) s
   made-length l (forall-made m y n g s d) = rw (place-is m) s
 
-  pub made-name : {T : Ty} {b : TyVar} → Naming T b → Den q w t r T → getD w (r - 2048 + 1) 0 ≡ b .number
+  pub made-name : {T : Ty} {b : TyVar} → Naming T b → Den q w t r T → getD w (r - BASE + 1) 0 ≡ b .number
   made-name n (written d) = absurd (not-written h d)
   made-name etvar-names (etvar-made m n) = rw (place-is m) n
   made-name forall-names (forall-made m y n g s d) = rw (place-is m) n
@@ -53,14 +54,14 @@ module _ {q w : List ℕ} {t r : ℕ} (h : 2048 ≤ r) where
   part-before : {m k : ℕ} {A : Ty} → k ≡ m → m < r → Den q w t m A → PartBelow q w t r k A
   part-before e l d = rw e (record { den = d; less = omega arith })
 
-  pub made-left : {A B : Ty} → Den q w t r (arrow A B) → PartBelow q w t r (getD w (r - 2048 + 1) 0) A
+  pub made-left : {A B : Ty} → Den q w t r (arrow A B) → PartBelow q w t r (getD w (r - BASE + 1) 0) A
   made-left (written d) = absurd (not-written h d)
   made-left (arrow-made m x y f g s d e) = rw (place-is m) (part-before f x d)
 
-  pub made-right : {A B : Ty} → Den q w t r (arrow A B) → PartBelow q w t r (getD w (r - 2048 + 2) 0) B
+  pub made-right : {A B : Ty} → Den q w t r (arrow A B) → PartBelow q w t r (getD w (r - BASE + 2) 0) B
   made-right (written d) = absurd (not-written h d)
   made-right (arrow-made m x y f g s d e) = rw (place-is m) (part-before g y e)
 
-  pub made-body : {a : TyVar} {A : Ty} → Den q w t r (forall a A) → PartBelow q w t r (getD w (r - 2048 + 2) 0) A
+  pub made-body : {a : TyVar} {A : Ty} → Den q w t r (forall a A) → PartBelow q w t r (getD w (r - BASE + 2) 0) A
   made-body (written d) = absurd (not-written h d)
   made-body (forall-made m y n g s d) = rw (place-is m) (part-before g y d)

@@ -4,6 +4,7 @@ use mathlib.Core.List.{List}
 use Prim.Native.Nat.{ℕ, _+_, _≤_}
 use lib.ListN.{length}
 use Rattle.definition.specs.Syntax.{Ty, etvar, arrow, forall}
+use Rattle.layout.specs.Sizes.{BASE}
 use Rattle.layout.specs.Names.{ty}
 use Rattle.layout.specs.Words.{Keep}
 use Rattle.layout.specs.Denotes.{Den}
@@ -24,15 +25,15 @@ pub record ForallRoom (q w : List ℕ) (t r : ℕ) : Type 0 where
 -- an ETVar's record, the same for every question
 pub record PutETVar (w w′ : List ℕ) (t : ℕ) (a : TyVar) (k : ℕ) : Type 0 where
   pub keep : Keep t (t + 2) w w′
-  pub ref : k ≡ 2048 + t
+  pub ref : k ≡ BASE + t
   pub den : (q : List ℕ) → Den q w′ (t + 2) k (etvar (ty a))
 
 pub record PutArrow (q w w′ : List ℕ) (t l r k : ℕ) : Type 0 where
   pub keep : Keep t (t + 4) w w′
-  pub ref : k ≡ 2048 + t
+  pub ref : k ≡ BASE + t
   pub den : (A B : Ty) → Den q w t l A → Den q w t r B → Den q w′ (t + 4) k (arrow A B)
 
 pub record PutForall (q w w′ : List ℕ) (t : ℕ) (a : TyVar) (r k : ℕ) : Type 0 where
   pub keep : Keep t (t + 4) w w′
-  pub ref : k ≡ 2048 + t
+  pub ref : k ≡ BASE + t
   pub den : (A : Ty) → Den q w t r A → Den q w′ (t + 4) k (forall (ty a) A)

@@ -6,6 +6,7 @@ use lib.ListN.{length, take, drop}
 use Rattle.definition.specs.Syntax as syntax
 use Rattle.definition.specs.Syntax.{Ty, int, bool, var, etvar, arrow, forall}
 use Rattle.definition.specs.Rules.{tyCode}
+use Rattle.layout.specs.Sizes.{BASE, CAP}
 use Rattle.layout.specs.Names.{ty}
 use Rattle.layout.specs.Places.{size}
 use Rattle.layout.specs.Denotes.{capped, Den, Base}
@@ -17,7 +18,7 @@ use Rattle.layout.specs.declared.TyVar.{TyVar}
 pub record Held (q w : List ℕ) (t r : ℕ) : Type 0 where
   pub base : Base q w t
   pub fits : t ≤ length w
-  pub cap : length w ≤ 1000000
+  pub cap : length w ≤ CAP
   pub type : Ty
   pub den : Den q w t r type
 
@@ -83,5 +84,5 @@ pub record RecordLength (k n : ℕ) : Type 0 where
 
 -- the part of the question that the type fills (its words: proofs/Words), or its record in work
 pub record WordsOf (q w : List ℕ) (t r : ℕ) (ws : List ℕ) : Type 0 where
-  pub in-question : r < 2048 → (T : Ty) → Den q w t r T → ws ≡ take (size T) (drop r q)
-  pub in-work : 2048 ≤ r → (T : Ty) → Den q w t r T → ws ≡ take (recordSize T) (drop (r - 2048) w)
+  pub in-question : r < BASE → (T : Ty) → Den q w t r T → ws ≡ take (size T) (drop r q)
+  pub in-work : BASE ≤ r → (T : Ty) → Den q w t r T → ws ≡ take (recordSize T) (drop (r - BASE) w)

@@ -6,6 +6,7 @@ use native.Mathlib.Numerals.{add-one}
 use native.Mathlib.Omega.{arith}
 use lib.ListN.{length, getD, set, take}
 use lib.Seq.{length-take-le, take-suc, take-all, sets, length-sets}
+use Rattle.layout.specs.Sizes.{BASE}
 use Rattle.layout.proofs.Denotes.{den-written}
 use Rattle.types.specs.Reading.{Tagged, WordsOf}
 use Rattle.types.proofs.Words.{ty-words}
@@ -54,7 +55,7 @@ module _ {src s₀ s : List ℕ} {at i : ℕ} (c : PutFirst src s₀ s at i) whe
 
 -- ## A type in the question
 
-module _ {q w : List ℕ} {t r : ℕ} {vs : List ℕ} (l : WordsOf q w t r vs) (h : r < 2048) where
+module _ {q w : List ℕ} {t r : ℕ} {vs : List ℕ} (l : WordsOf q w t r vs) (h : r < BASE) where
   -- the words that are lent are the type's
   words-are : {ws : List ℕ} → OfType q w t r ws → vs ≡ ws
   words-are x = l .in-question h (x .it) (x .stands) ∙ ty-words (den-written h (x .stands)) ∙ sym (x .is)

@@ -6,6 +6,7 @@ use Prim.Native.Nat.{ℕ, _+_, _≤_, min}
 use lib.ListN.{length}
 use lib.Seq.{sets}
 use Rattle.definition.specs.Syntax.{section}
+use Rattle.layout.specs.Sizes.{CAP}
 use Rattle.layout.specs.Denotes.{Base}
 
 -- ## What stands for words
@@ -52,7 +53,7 @@ pub record Long (limit : ℕ) (S : List ℕ → Type 0) (n : ℕ) : Type 0 where
 pub record Ground (q w : List ℕ) (t : ℕ) : Type 0 where
   pub base : Base q w t
   pub fits : t ≤ length w
-  pub cap : length w ≤ 1000000
+  pub cap : length w ≤ CAP
 
 pub record Spelled (q w : List ℕ) (t : ℕ) (S : List ℕ → Type 0) : Type 0 where
   pub ground : Ground q w t

@@ -3,6 +3,7 @@ use borrow.Author.Needs.{needs}
 use Prim.Native.Nat.{_≤_}
 use native.Mathlib.Omega.{arith}
 use lib.ListN.{length}
+use Rattle.layout.specs.Sizes.{ENDS, FLOOR}
 use Rattle.layout.specs.Words.{Keep}
 use Rattle.layout.proofs.Words.{keep-refl, keep-trans, keep-set}
 use Rattle.loading.specs.Table.{Table}
@@ -11,7 +12,7 @@ use Rattle.loading.proofs.ends.fill_ends.Statement.{statement}
 use Rattle.loading.proofs.ends.fill_ends.Tie as tie
 
 abbrev Inv-loop : tie.InvT-loop
-Inv-loop q work₀ p₀ work p = (p ≤ length q) × Keep 16 2064 work₀ work × Table q work p
+Inv-loop q work₀ p₀ work p = (p ≤ length q) × Keep ENDS FLOOR work₀ work × Table q work p
 
 abbrev μ-loop : tie.MeasureT-loop
 μ-loop q work₀ p₀ work p = p

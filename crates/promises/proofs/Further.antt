@@ -1,0 +1,206 @@
+-- The theorems beside those of Main, restated: of the library's entry and the definition, of the count, of a report's parts, of what "alike"
+-- means. Nobody who believes Main needs them; docs/THEOREMS.md says what each does not say. Each is proved by the theorem of its name; computed
+-- tables stand in crates/laws/proofs/Cases.antt and crates/alike/proofs/Examples.antt.
+use mathlib.Core.Path.{_≡_}
+use mathlib.Core.List.{List, [], _∷_}
+use mathlib.Core.Logic.{_↔_, _≢_}
+use mathlib.Core.Option.{Option, none, some}
+use Prim.Native.Nat.{ℕ, _≤_}
+use lib.ListN.{length, take}
+use lib.Dec.{eqb}
+use Rattle.definition.specs.Syntax as syntax
+use Rattle.definition.specs.Syntax.{pick, TyVar, Ty, Ctx, Judgement, treeWords}
+use Rattle.definition.specs.Question.{Question, got, fault, readQuestion}
+use Rattle.definition.specs.Run.{Out, stop, M}
+use Rattle.definition.specs.Types.{apply}
+use Rattle.definition.specs.Rules.{Result, Here, judge}
+use Rattle.definition.specs.Reply.{Reply, refusal, answer, outReply, workWords, reply}
+use Rattle.definition.specs.Memory.{Call, call}
+use Rattle.definition.specs.Host.{byteReply}
+use Rattle.laws.specs.Count.{charged, Count, countTo, Passes, IsRun}
+use Rattle.laws.specs.Rings.{Leads, Ring, Applies}
+use Rattle.laws.proofs as laws-proofs
+use Rattle.alike.specs.Alike.{Label, IsQuestion, Pairing, itself, typeName, InReplies, InQuestions, Each, AlikeQuestions, AlikeReplies, AlikeCalls, WellFormed}
+use Rattle.alike.proofs.WellFormed.{IsFault, alike-itself}
+use Rattle.alike.proofs.Changes.{Change, pairing, change}
+use Rattle.alike.proofs.Deciding.{labelsOf}
+use Rattle.alike.proofs.Examples.{All, PairHolds, pairs}
+use Rattle.alike.proofs as alike-proofs
+use Rattle.layout.specs.declared.Span.{Span}
+use Rattle.layout.specs.declared.State.{State}
+use Rattle.judging.specs.declared.Ask.{Ask}
+use Rattle.judging.specs.declared.Here as judging
+use Rattle.judging.specs.declared.Step.{Step}
+use Rattle.judging.specs.Asking.{here, Asks}
+use Rattle.judging.specs.Ending.{chargeOf, Judged}
+use Rattle.judging.proofs as judging-proofs
+use Rattle.replies.specs.declared.Reply as program
+use Rattle.entry.specs.Entry.{Replied}
+use Rattle.sized.proofs as sized-proofs
+use Rattle.host.specs.Host.{numbersOf}
+use Rattle.sections.specs.declared.Section.{Section}
+use Rattle.sections.specs.declared.Section.the-variants.{Tree}
+use Rattle.sections.specs.Sections.{partOf}
+use Rattle.sections.specs.Outcomes.{ofOutcome, handed}
+use Rattle.sections.specs.Nodes.{Finds, nodeIn, statedIn, ofTree, ofRun}
+use Rattle.sections.proofs as sections-proofs
+use Rattle.promises.specs.Common.{SameChecks}
+use Rattle.promises.proofs as promises-proofs
+
+-- # Exactly one reply
+
+-- of the library's entry, `Replied` (crates/entry/specs/Entry.antt)
+pub one-reply : {budget : ℕ} {q w s w₁ w₂ s₁ s₂ : List ℕ} {r₁ r₂ : program.Reply} → Replied budget q w w₁ s s₁ r₁ → Replied budget q w w₂ s s₂ r₂
+    → SameChecks (r₁ .code) (r₂ .code) (numbersOf r₁) (numbersOf r₂) s₁ s₂ w₁ w₂
+one-reply = promises-proofs.One.one-reply
+
+-- the desk program reads 8,196 bytes: what stands behind them changes nothing
+pub read-enough : (input : List ℕ) → byteReply 4096 (take 8196 input) ≡ byteReply 4096 input
+read-enough = sized-proofs.Answering.read-enough
+
+-- "one reading from left to right, and its first fault decides between 4 and 5"
+pub four-or-five : (ws : List ℕ) {c p : ℕ} → readQuestion ws ≡ fault c p → IsFault c
+four-or-five = alike-proofs.WellFormed.four-or-five
+
+-- # The count, and 6
+
+-- of the definition's reply: what gets 6 is run; of a call that is run, 6 goes by the count, or by the count up to a bound that the budget is
+-- within; units are the count
+pub six-is-run : (budget work room : ℕ) (ws : List ℕ) → reply budget work room ws .code ≡ 6 → (q : Question) × IsRun budget work ws q
+six-is-run = promises-proofs.Count.six-is-run
+
+module _ {budget work : ℕ} {ws : List ℕ} {q : Question} (run : IsRun budget work ws q) (room : ℕ) where
+  abbrev R : Reply
+  R = reply budget work room ws
+
+  pub six-exactly-past-count : {c : Option ℕ} → Count (answer q) 0 c → (R .code ≡ 6 → Passes c budget) × (Passes c budget → R ≡ refusal 6 0 budget)
+  six-exactly-past-count c = laws-proofs.Count.six-exactly-past-count run c room
+
+  pub six-exactly-past-count-to : (most : ℕ) → budget ≤ most
+      → (R .code ≡ 6 → Passes (countTo most q) budget) × (Passes (countTo most q) budget → R ≡ refusal 6 0 budget)
+  six-exactly-past-count-to most h = laws-proofs.Count.six-exactly-past-count-to run most h room
+
+  pub units-are-the-count : R .code ≢ 6 → Count (answer q) 0 (some (R .units))
+  units-are-the-count = laws-proofs.Count.units-are-the-count run room
+
+-- of every run: its count decides whether the budget l is enough
+pub out-exactly-past-count : {A : Type 0} {m : M A} {n : ℕ} {c : Option ℕ} → Count m n c → (l : ℕ) → (m l n ≡ stop) ↔ Passes c l
+out-exactly-past-count = laws-proofs.Count.out-exactly-past-count
+
+-- what one budget that is enough was charged is the count: of a question, of a judgement
+pub question-counted : (q : Question) (most u : ℕ) → countTo most q ≡ some u → Count (answer q) 0 (some u)
+question-counted = laws-proofs.Count.question-counted
+
+pub judgement-counted : (h : Here) (j : Judgement) (l n u : ℕ) → charged l (judge h j l n) ≡ some u → Count (judge h j) n (some u)
+judgement-counted = laws-proofs.Count.judgement-counted
+
+-- "Each judgement returns its charge, proved equal to the definition's count": in the program's words, z is what its function returns
+-- (crates/judging/specs)
+pub charge-is-count : {h : judging.Here} {q w w₁ : List ℕ} {s : State} {g : Span} {a : Ask} {z : Step} → Judged h q w w₁ s g a z
+    → {j : Judgement} → Asks q w (s .top) g a j → {u : ℕ} → chargeOf z ≡ some u → Count (judge (here h) j) (s .fresh) (some u)
+charge-is-count = judging-proofs.Whole.charge-is-count
+
+-- a ring of solutions has no count
+module _ {Γ : Ctx} {a : TyVar} {A : Ty} (ring : Ring Γ a) (leads : Leads Γ a A) where
+  pub ring-has-no-count : (q : Question) {l : ℕ} → Applies Γ A Result (answer q) l 0 → countTo l q ≡ none
+  ring-has-no-count = laws-proofs.Rings.ring-has-no-count ring leads
+
+  pub application-has-no-count : (n : ℕ) → Count (apply Γ A) n none
+  application-has-no-count = laws-proofs.Rings.application-has-no-count ring leads
+
+-- a ring of two; a ring that the run makes
+module _ (budget work room : ℕ) (low : 1 ≤ budget) (high : budget ≤ 8192) (enough : workWords budget ≤ work) where
+  pub ring-of-two :
+      reply budget work room (2 ∷ 0 ∷ 10 ∷ 35 ∷ 1 ∷ 4 ∷ 2 ∷ 35 ∷ 2 ∷ 5 ∷ 1 ∷ 4 ∷ 1 ∷ 3 ∷ 22 ∷ 1 ∷ 0 ∷ 0 ∷ 2 ∷ 4 ∷ 1 ∷ []) ≡ refusal 6 0 budget
+  ring-of-two = laws-proofs.Endless.ring-of-two budget work room low high enough
+
+  pub ring-made : reply budget work room (5 ∷ 0 ∷ 2 ∷ 34 ∷ 1 ∷ 0 ∷ 2 ∷ 4 ∷ 1 ∷ 5 ∷ 5 ∷ 4 ∷ 1 ∷ 4 ∷ 1 ∷ []) ≡ refusal 6 0 budget
+  ring-made = laws-proofs.Endless.ring-made budget work room low high enough
+
+-- # A report's sections, "the part of the caller's report slice it fills, count excluded, empty where there is none", and its tree's nodes
+
+-- `handed x R s` is what is handed out as section x after the reply R from the slice s (crates/sections/specs/Outcomes.antt). Whatever the slice
+-- held, it is a section of the reply's own report
+pub every-reply : (budget work room : ℕ) (q : List ℕ) (x : Section) (s : List ℕ)
+    → handed x (reply budget work room q) s ≡ partOf x (reply budget work room q .code) (reply budget work room q .report)
+every-reply = sections-proofs.Reports.every-reply
+
+-- it is what the run came to has of that section
+pub every-outcome : (k budget room : ℕ) (o : Out Result) (x : Section) (s : List ℕ)
+    → handed x (outReply k budget room o) s ≡ pick (eqb (outReply k budget room o .code) 7) [] (ofOutcome k o x)
+every-outcome = sections-proofs.Reports.every-outcome
+
+-- nothing after a refusal
+pub after-refusal : (c p u : ℕ) (x : Section) (s : List ℕ) → handed x (refusal c p u) s ≡ []
+after-refusal = sections-proofs.Reports.after-refusal
+
+-- `nodeIn` is the node at a place of any words, `statedIn` the nodes that a walk meets (crates/sections/specs/Nodes.antt)
+pub finds : (ws : List ℕ) (at : ℕ) → Finds ws at (nodeIn ws at)
+finds = sections-proofs.Nodes.finds
+
+-- a walk through a tree's words meets its nodes in the tree's order
+pub tree-met : (t : syntax.Tree) → statedIn (treeWords t) ≡ ofTree t
+tree-met = sections-proofs.Nodes.tree-met
+
+-- so does one through what is handed out as the tree, by how the run came out; and on code 0
+pub every-tree : (k budget room : ℕ) (o : Out Result) (s : List ℕ)
+    → statedIn (handed Tree (outReply k budget room o) s) ≡ pick (eqb (outReply k budget room o .code) 7) [] (ofRun o)
+every-tree = sections-proofs.Trees.every-tree
+
+pub tree-on-zero : (budget work room : ℕ) (q s : List ℕ) {Q : Question} {p : ℕ} {vs : List ℕ} → readQuestion q ≡ got Q p vs
+    → reply budget work room q .code ≡ 0 → statedIn (handed Tree (reply budget work room q) s) ≡ ofRun (answer Q budget 0)
+tree-on-zero = sections-proofs.Trees.tree-on-zero
+
+-- both after a call of the library's entry
+module _ {budget : ℕ} {q w w′ s s′ : List ℕ} {r : program.Reply} (a : Replied budget q w w′ s s′ r) where
+  pub after-check : (x : Section)
+      → partOf x (r .code) (take (r .len) s′) ≡ partOf x (reply budget (length w) (length s) q .code) (reply budget (length w) (length s) q .report)
+  after-check = promises-proofs.Reports.after-check a
+
+  pub tree-after-check : {Q : Question} {p : ℕ} {vs : List ℕ} → readQuestion q ≡ got Q p vs → r .code ≡ 0
+      → statedIn (partOf Tree (r .code) (take (r .len) s′)) ≡ ofRun (answer Q budget 0)
+  tree-after-check read = promises-proofs.Reports.tree-after-check read a
+
+-- # Demand 3 of the definition: replies, and calls with what they leave in memory; only well-formed questions are alike
+
+module _ {P : Pairing} {ws ws′ : List ℕ} (h : AlikeQuestions P ws ws′) where
+  pub alike : (budget work room : ℕ) → AlikeReplies P (reply budget work room ws) (reply budget work room ws′)
+  alike = alike-proofs.Demand3.alike h
+
+  pub calls-alike : (budget : ℕ) (work slice : List ℕ) → AlikeCalls P (call budget ws work slice) (call budget ws′ work slice)
+  calls-alike = alike-proofs.Demand3.calls-alike h
+
+  pub well-formed : WellFormed ws × WellFormed ws′
+  well-formed = alike-proofs.Demand3.well-formed h
+
+module _ {ws ws′ : List ℕ} (h : AlikeQuestions itself ws ws′) where
+  pub no-literal : (budget work room : ℕ) → reply budget work room ws ≡ reply budget work room ws′
+  no-literal = alike-proofs.Demand3.no-literal h
+
+  pub no-literal-call : (budget : ℕ) (work slice : List ℕ) → call budget ws work slice ≡ call budget ws′ work slice
+  no-literal-call = alike-proofs.Demand3.no-literal-call h
+
+-- on 1 to 7 the report slices are the same
+pub refused-same : {P : Pairing} {c c′ : Call} → AlikeCalls P c c′ → 1 ≤ c .answered .code → c .answered .code ≤ 7 → c .reportSlice ≡ c′ .reportSlice
+refused-same = alike-proofs.Demand3.refused-same
+
+-- the replies to a question and to itself after a change of names and literals
+pub replies-changed : (c : Change) {ws : List ℕ} (h : WellFormed ws) (budget work room : ℕ)
+    → AlikeReplies (pairing c) (reply budget work room ws) (reply budget work room (change c (alike-itself h .labels) ws))
+replies-changed = alike-proofs.Changes.replies-changed
+
+-- a question has one list of labels
+pub labelled : {P : Pairing} {s : List Label} {ws ws′ : List ℕ} → IsQuestion s → Each (InQuestions P) s ws ws′ → labelsOf ws ≡ s
+labelled = alike-proofs.Deciding.labelled
+
+-- a fresh name pairs with itself alone
+pub fresh-alone : {P : Pairing} {a b : ℕ} → InReplies P typeName a b → (1_000_000 ≤ a → a ≡ b) × (1_000_000 ≤ b → a ≡ b)
+fresh-alone = alike-proofs.Examples.fresh-alone
+
+-- a table of pairs that are alike or not, with their replies; case (a) with any number for its literal
+pub each-pair : All PairHolds pairs
+each-pair = alike-proofs.Examples.each-pair
+
+pub a-literal : (low high budget work room : ℕ)
+    → reply budget work room (7 ∷ 0 ∷ 0 ∷ 3 ∷ 22 ∷ 1 ∷ 0 ∷ 0 ∷ 0 ∷ []) ≡ reply budget work room (7 ∷ 0 ∷ 0 ∷ 3 ∷ 22 ∷ low ∷ high ∷ 0 ∷ 0 ∷ [])
+a-literal = alike-proofs.Examples.a-literal
