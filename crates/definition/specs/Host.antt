@@ -22,8 +22,7 @@ unfoldable pub bytesOf : List ℕ → List ℕ
 bytesOf [] = []
 bytesOf (w ∷ ws) = w % 256 ∷ w / 256 % 256 ∷ w / 65536 % 256 ∷ w / 16777216 % 256 ∷ bytesOf ws
 
--- ---- "The desk program .. uses budget 384, 16,384 work and 4,096 report words"; "Report room is the whole words after those 16 bytes, at most
--- 4,096."
+-- ---- "The desk program .. uses budget 384, 16,384 work and 4,096 report words"
 
 unfoldable pub deskReply : ℕ → List ℕ → Reply
 deskReply room question = reply 384 16384 (min room 4096) question
@@ -44,6 +43,7 @@ pub record HostCall : Type 0 where
 unfoldable pub numbers : Reply → List ℕ
 numbers r = r .code ∷ r .at ∷ r .len ∷ r .units ∷ []
 
+-- "Report room is the whole words after those 16 bytes, at most 4,096" (deskReply)
 unfoldable pub hostCall : List ℕ → List ℕ → HostCall
 hostCall question slice =
     let r : Reply = byteReply ((length slice - 16) / 4) question in

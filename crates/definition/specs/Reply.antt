@@ -92,15 +92,15 @@ unfoldable pub readReply : ℕ → ℕ → Read Question → Reply
 readReply budget room (fault c p) = refusal c p 0
 readReply budget room (got q p ws) = outReply (q .kind) budget room (answer q budget 0)
 
--- ---- "1, 2, 3 are tried in that order; then one reading from left to right, and its first fault decides between 4 and 5." From the budget, the
--- lengths of the work and the report slice, and the question's words, "At most 2,048 words":
--- | 1 BadBudget | budget 0 or above 8,192 | 0 |
--- | 2 ShortWork | work shorter than 32 x budget + 4,096 words | 0 |
--- | 3 BadLength | 0 words or more than 2,048 | 0 |
+-- ---- "1, 2, 3 are tried in that order; then one reading from left to right, and its first fault decides between 4 and 5."
 
 unfoldable pub workWords : ℕ → ℕ
 workWords budget = 32 * budget + 4096
 
+-- from the budget, the lengths of the work and the report slice, and the question's words, "At most 2,048 words":
+-- | 1 BadBudget | budget 0 or above 8,192 | 0 |
+-- | 2 ShortWork | work shorter than 32 x budget + 4,096 words | 0 |
+-- | 3 BadLength | 0 words or more than 2,048 | 0 |
 unfoldable pub reply : ℕ → ℕ → ℕ → List ℕ → Reply
 reply budget work room ws =
     let r : Reply = readReply budget room (readQuestion ws) in

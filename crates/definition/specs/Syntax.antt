@@ -167,9 +167,7 @@ ruleNumber InstRArr = 36
 ruleNumber InstRAllL = 37
 
 -- ---- "A node: rule number, number of children, place of its expression in the question (0 if none), then five sections: input context,
--- left type, right type, output context, result type. Left and right are filled as in the question of that judgement; result only for
--- infer and infer_app." A node's result is Int where the judgement gives none, and is not written then; of infer_app the expression is the
--- argument (reading 14).
+-- left type, right type, output context, result type." A node's result is Int where the judgement gives none, and is not written then.
 
 mutual
   pub data Tree : Type 0 where
@@ -196,7 +194,8 @@ ctxSection Γ = section (ctxWords Γ)
 unfoldable pub tySection : Ty → List ℕ
 tySection A = section (tyWords A)
 
--- what a node says after rule and number of children, for a judgement with result C and output context Δ
+-- "Left and right are filled as in the question of that judgement; result only for infer and infer_app." What a node says after rule and
+-- number of children, for a judgement with result C and output context Δ; of infer_app the expression is the argument (reading 14)
 unfoldable pub judgementWords : Judgement → Ty → Ctx → List ℕ
 judgementWords (infer Γ e) C Δ = placeOf e ∷ sections (ctxSection Γ) noSection noSection (ctxSection Δ) (tySection C)
 judgementWords (check Γ e B) C Δ = placeOf e ∷ sections (ctxSection Γ) noSection (tySection B) (ctxSection Δ) noSection

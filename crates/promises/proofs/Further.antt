@@ -1,6 +1,7 @@
--- The theorems beside those of Main, restated: of the library's entry and the definition, of the count, of a report's parts, of what "alike"
--- means. Nobody who believes Main needs them; docs/THEOREMS.md says what each does not say. Each is proved by the theorem of its name; computed
--- tables stand in crates/laws/proofs/Cases.antt and crates/alike/proofs/Examples.antt.
+-- The theorems beside those of Main: of the library's entry and the definition, of the count, of a report's parts, of what "alike" means. Nobody
+-- who believes Main needs them; docs/THEOREMS.md says of each what it does not say. Each restates the theorem behind its `=`. Their words stand
+-- where Main's do, and besides in crates/laws/specs/Rings.antt (`Ring`, `Leads`, `Applies`), crates/sections/specs and crates/judging/specs;
+-- computed tables in crates/laws/proofs/Cases.antt and crates/alike/proofs/Examples.antt.
 use mathlib.Core.Path.{_≡_}
 use mathlib.Core.List.{List, [], _∷_}
 use mathlib.Core.Logic.{_↔_, _≢_}
@@ -23,7 +24,7 @@ use Rattle.laws.proofs as laws-proofs
 use Rattle.alike.specs.Alike.{Label, IsQuestion, Pairing, itself, typeName, InReplies, InQuestions, Each, AlikeQuestions, AlikeReplies, AlikeCalls, WellFormed}
 use Rattle.alike.proofs.WellFormed.{IsFault, alike-itself}
 use Rattle.alike.proofs.Changes.{Change, pairing, change}
-use Rattle.alike.proofs.Deciding.{labelsOf}
+use Rattle.alike.proofs.Deciding.{labelsOf, areAlike, Decided}
 use Rattle.alike.proofs.Examples.{All, PairHolds, pairs}
 use Rattle.alike.proofs as alike-proofs
 use Rattle.layout.specs.declared.Span.{Span}
@@ -58,17 +59,17 @@ one-reply = promises-proofs.One.one-reply
 pub read-enough : (input : List ℕ) → byteReply 4096 (take 8196 input) ≡ byteReply 4096 input
 read-enough = sized-proofs.Answering.read-enough
 
--- "one reading from left to right, and its first fault decides between 4 and 5"
+-- a reading that fails fails with 4 or 5
 pub four-or-five : (ws : List ℕ) {c p : ℕ} → readQuestion ws ≡ fault c p → IsFault c
 four-or-five = alike-proofs.WellFormed.four-or-five
 
 -- # The count, and 6
 
--- of the definition's reply: what gets 6 is run; of a call that is run, 6 goes by the count, or by the count up to a bound that the budget is
--- within; units are the count
+-- what gets 6 from the definition is run
 pub six-is-run : (budget work room : ℕ) (ws : List ℕ) → reply budget work room ws .code ≡ 6 → (q : Question) × IsRun budget work ws q
 six-is-run = promises-proofs.Count.six-is-run
 
+-- of a call that is run: 6 exactly where the count passes the budget; the same with the count as far as a bound; units are the count
 module _ {budget work : ℕ} {ws : List ℕ} {q : Question} (run : IsRun budget work ws q) (room : ℕ) where
   abbrev R : Reply
   R = reply budget work room ws
@@ -87,7 +88,7 @@ module _ {budget work : ℕ} {ws : List ℕ} {q : Question} (run : IsRun budget 
 pub out-exactly-past-count : {A : Type 0} {m : M A} {n : ℕ} {c : Option ℕ} → Count m n c → (l : ℕ) → (m l n ≡ stop) ↔ Passes c l
 out-exactly-past-count = laws-proofs.Count.out-exactly-past-count
 
--- what one budget that is enough was charged is the count: of a question, of a judgement
+-- where one budget is enough, what it was charged is the count: of a question, of a judgement
 pub question-counted : (q : Question) (most u : ℕ) → countTo most q ≡ some u → Count (answer q) 0 (some u)
 question-counted = laws-proofs.Count.question-counted
 
@@ -100,7 +101,12 @@ pub charge-is-count : {h : judging.Here} {q w w₁ : List ℕ} {s : State} {g : 
     → {j : Judgement} → Asks q w (s .top) g a j → {u : ℕ} → chargeOf z ≡ some u → Count (judge (here h) j) (s .fresh) (some u)
 charge-is-count = judging-proofs.Whole.charge-is-count
 
--- a ring of solutions has no count
+-- "A solution that leads back to itself therefore ends in 6": where the run of a question, with the budget l, applies Γ to A, and A leads to a
+-- ring in Γ, the reply is 6 at every allowed budget up to l; the question has no count as far as l, and the application none at all
+pub ring-gets-6 : {Γ : Ctx} {a : TyVar} {A : Ty} → Ring Γ a → Leads Γ a A → {q : Question} {l : ℕ} → Applies Γ A Result (answer q) l 0
+    → {budget work : ℕ} {ws : List ℕ} → IsRun budget work ws q → budget ≤ l → (room : ℕ) → reply budget work room ws ≡ refusal 6 0 budget
+ring-gets-6 = laws-proofs.Rings.ring-gets-6
+
 module _ {Γ : Ctx} {a : TyVar} {A : Ty} (ring : Ring Γ a) (leads : Leads Γ a A) where
   pub ring-has-no-count : (q : Question) {l : ℕ} → Applies Γ A Result (answer q) l 0 → countTo l q ≡ none
   ring-has-no-count = laws-proofs.Rings.ring-has-no-count ring leads
@@ -108,8 +114,11 @@ module _ {Γ : Ctx} {a : TyVar} {A : Ty} (ring : Ring Γ a) (leads : Leads Γ a 
   pub application-has-no-count : (n : ℕ) → Count (apply Γ A) n none
   application-has-no-count = laws-proofs.Rings.application-has-no-count ring leads
 
--- a ring of two; a ring that the run makes
+-- at every allowed budget: document 01's example; a ring of two; a ring that the run makes
 module _ (budget work room : ℕ) (low : 1 ≤ budget) (high : budget ≤ 8192) (enough : workWords budget ≤ work) where
+  pub endless : reply budget work room (2 ∷ 0 ∷ 4 ∷ 35 ∷ 1 ∷ 4 ∷ 1 ∷ 3 ∷ 22 ∷ 1 ∷ 0 ∷ 0 ∷ 2 ∷ 4 ∷ 1 ∷ []) ≡ refusal 6 0 budget
+  endless = laws-proofs.Endless.endless budget work room low high enough
+
   pub ring-of-two :
       reply budget work room (2 ∷ 0 ∷ 10 ∷ 35 ∷ 1 ∷ 4 ∷ 2 ∷ 35 ∷ 2 ∷ 5 ∷ 1 ∷ 4 ∷ 1 ∷ 3 ∷ 22 ∷ 1 ∷ 0 ∷ 0 ∷ 2 ∷ 4 ∷ 1 ∷ []) ≡ refusal 6 0 budget
   ring-of-two = laws-proofs.Endless.ring-of-two budget work room low high enough
@@ -125,7 +134,7 @@ pub every-reply : (budget work room : ℕ) (q : List ℕ) (x : Section) (s : Lis
     → handed x (reply budget work room q) s ≡ partOf x (reply budget work room q .code) (reply budget work room q .report)
 every-reply = sections-proofs.Reports.every-reply
 
--- it is what the run came to has of that section
+-- by how the run came out: nothing on 7, else that outcome's own section
 pub every-outcome : (k budget room : ℕ) (o : Out Result) (x : Section) (s : List ℕ)
     → handed x (outReply k budget room o) s ≡ pick (eqb (outReply k budget room o .code) 7) [] (ofOutcome k o x)
 every-outcome = sections-proofs.Reports.every-outcome
@@ -134,7 +143,8 @@ every-outcome = sections-proofs.Reports.every-outcome
 pub after-refusal : (c p u : ℕ) (x : Section) (s : List ℕ) → handed x (refusal c p u) s ≡ []
 after-refusal = sections-proofs.Reports.after-refusal
 
--- `nodeIn` is the node at a place of any words, `statedIn` the nodes that a walk meets (crates/sections/specs/Nodes.antt)
+-- `nodeIn` is the node at a place of any words, `statedIn` the nodes that a walk meets (crates/sections/specs/Nodes.antt): what is met stands
+-- there, and where nothing is met no node does
 pub finds : (ws : List ℕ) (at : ℕ) → Finds ws at (nodeIn ws at)
 finds = sections-proofs.Nodes.finds
 
@@ -142,7 +152,7 @@ finds = sections-proofs.Nodes.finds
 pub tree-met : (t : syntax.Tree) → statedIn (treeWords t) ≡ ofTree t
 tree-met = sections-proofs.Nodes.tree-met
 
--- so does one through what is handed out as the tree, by how the run came out; and on code 0
+-- the same of what is handed out as the tree: by how the run came out, and on code 0
 pub every-tree : (k budget room : ℕ) (o : Out Result) (s : List ℕ)
     → statedIn (handed Tree (outReply k budget room o) s) ≡ pick (eqb (outReply k budget room o .code) 7) [] (ofRun o)
 every-tree = sections-proofs.Trees.every-tree
@@ -151,7 +161,7 @@ pub tree-on-zero : (budget work room : ℕ) (q s : List ℕ) {Q : Question} {p :
     → reply budget work room q .code ≡ 0 → statedIn (handed Tree (reply budget work room q) s) ≡ ofRun (answer Q budget 0)
 tree-on-zero = sections-proofs.Trees.tree-on-zero
 
--- both after a call of the library's entry
+-- a section, and the tree's nodes, after a call of the library's entry
 module _ {budget : ℕ} {q w w′ s s′ : List ℕ} {r : program.Reply} (a : Replied budget q w w′ s s′ r) where
   pub after-check : (x : Section)
       → partOf x (r .code) (take (r .len) s′) ≡ partOf x (reply budget (length w) (length s) q .code) (reply budget (length w) (length s) q .report)
@@ -184,10 +194,14 @@ module _ {ws ws′ : List ℕ} (h : AlikeQuestions itself ws ws′) where
 pub refused-same : {P : Pairing} {c c′ : Call} → AlikeCalls P c c′ → 1 ≤ c .answered .code → c .answered .code ≤ 7 → c .reportSlice ≡ c′ .reportSlice
 refused-same = alike-proofs.Demand3.refused-same
 
--- the replies to a question and to itself after a change of names and literals
+-- a question, and the same with names and literals changed, get replies alike
 pub replies-changed : (c : Change) {ws : List ℕ} (h : WellFormed ws) (budget work room : ℕ)
     → AlikeReplies (pairing c) (reply budget work room ws) (reply budget work room (change c (alike-itself h .labels) ws))
 replies-changed = alike-proofs.Changes.replies-changed
+
+-- a test that computes decides whether two lists of words are alike under some pairing
+pub decided : (u u′ : List ℕ) → Decided (areAlike u u′) u u′
+decided = alike-proofs.Deciding.decided
 
 -- a question has one list of labels
 pub labelled : {P : Pairing} {s : List Label} {ws ws′ : List ℕ} → IsQuestion s → Each (InQuestions P) s ws ws′ → labelsOf ws ≡ s

@@ -1,34 +1,36 @@
--- The three demands as theorems: what is read after the definition (crates/definition/specs). Each is proved by the theorem of its name.
--- Further.antt has the others, docs/THEOREMS.md what each does not say. The words of the statements, and where they stand:
---   Answered, Checked          what sporeflask_answer and sporeflask_check promise (crates/host/specs/Host.antt)
---   SameAnswers, SameChecks    two calls return and leave the same; AlikeAnswers, AlikeChecks: but for paired names (specs/Common.antt)
---   IsRun                      none of 1 to 5 refuses a call, and its words are the question Q (crates/laws/specs/Count.antt, with the next)
---   Count, countTo, Passes     a run's count, a number or none; a question's, computed up to a bound; it is none, or larger than a budget
---   Ring, Leads, Applies       a ring of solutions; a type leads to it; a run applies a context to a type (crates/laws/specs/Rings.antt)
---   AlikeQuestions, Pairing    alike by a pairing of names, by `itself` with every name its own (crates/alike/specs/Alike.antt)
--- q, or b in bytes, is the question; w and s are the slices before a call, w′ and s′ after it, ns the four numbers, r what is returned.
+-- The three demands as theorems: what is read after the definition (crates/definition/specs). Each restates the theorem behind its `=`.
+-- Further.antt has the other theorems of docs/THEOREMS.md, which says of each what it does not say. The words of the statements:
+--   Answered, Checked          what sporeflask_answer and sporeflask_check promise: crates/host/specs/Host.antt
+--   SameAnswers, SameChecks    two calls return and leave the same: specs/Common.antt
+--   AlikeAnswers, AlikeChecks  two calls return and leave the same but for paired names: specs/Common.antt
+--   IsRun                      a call that none of 1 to 5 refuses, and the question that its words are: crates/laws/specs/Count.antt
+--   Count                      the count of a run, a number or none: the same file
+--   countTo                    a question's count as far as a bound, computed: the same file
+--   Passes                     a count is none, or larger than a budget: the same file
+--   AlikeQuestions             well-formed questions that are alike by a pairing of their names: crates/alike/specs/Alike.antt
+--   Pairing, itself            a pairing of variables' and of types' names; the one of every name with itself: the same file
+--   Change, pairing, change    new names and literals; how they pair the names; words with them: crates/alike/proofs/Changes.antt
+-- b is a question's bytes, q its words, Q what they are read as; w and s are the slices before a call, w′ and s′ after it, ns the four numbers,
+-- r what is returned; of two calls these are w₁, w₂ and so on.
 use mathlib.Core.Path.{_≡_}
-use mathlib.Core.List.{List, [], _∷_, map}
+use mathlib.Core.List.{List, map}
 use mathlib.Core.Logic.{_↔_, _≢_}
 use mathlib.Core.Option.{Option, some}
 use Prim.Native.Nat.{ℕ, _+_, _-_, _/_, _%_, _≤_}
 use lib.ListN.{length, getD}
-use Rattle.definition.specs.Syntax.{TyVar, Ty, Ctx}
+use Rattle.definition.specs.Syntax.{Ty, Ctx}
 use Rattle.definition.specs.Question.{Question}
 use Rattle.definition.specs.Run.{done, M}
 use Rattle.definition.specs.Types.{apply}
-use Rattle.definition.specs.Rules.{Result}
-use Rattle.definition.specs.Reply.{Reply, refusal, answer, workWords, reply}
+use Rattle.definition.specs.Reply.{Reply, answer, reply}
 use Rattle.definition.specs.Memory.{reportAfter, workAfter, call}
 use Rattle.definition.specs.Host.{wordsOf, byteReply, numbers, hostCall}
 use Rattle.laws.specs.Count.{Count, countTo, Passes, IsRun}
-use Rattle.laws.specs.Rings.{Leads, Ring, Applies}
 use Rattle.laws.proofs.Cases.{seen, asked, cases}
 use Rattle.laws.proofs.LaterPasses.{calls}
 use Rattle.laws.proofs as laws-proofs
 use Rattle.alike.specs.Alike.{Pairing, itself, AlikeQuestions, WellFormed}
 use Rattle.alike.proofs.Changes.{Change, pairing, change}
-use Rattle.alike.proofs.Deciding.{areAlike, Decided}
 use Rattle.alike.proofs as alike-proofs
 use Rattle.host.specs.Host.{Answered, Checked}
 use Rattle.promises.specs.Common.{SameChecks, SameAnswers, AlikeChecks, AlikeAnswers}
@@ -37,8 +39,9 @@ use Rattle.promises.proofs as promises-proofs
 -- # Demand 1: "Every question, made of any words, with any budget and buffers of any length, gets exactly one reply of document 01 and the
 -- call ends. Nothing is left for the caller to have tested."
 
--- That both functions end, ask for nothing and promise `Answered` and `Checked` is proved of crates/promises/src/lib.rt. These say that all
--- that is returned and left is the definition's; no second reply meets them.
+-- Both functions promise `Answered` and `Checked` and ask for nothing (crates/host/src/lib.rt; crates/promises/src/lib.rt calls them with nothing
+-- known), and a proved function ends: its loops and cycles of calls have a number that falls. `answer-is`, `check-is`: all that is returned and
+-- left is the definition's, on a refusal too. `one-answer`, `one-check`: no second reply meets the contract.
 module _ (b s : List ℕ) where
   pub answer-is : {s′ : List ℕ} {r : ℕ} → Answered b s s′ r → (r ≡ hostCall b s .returns) × (s′ ≡ hostCall b s .replySlice)
   answer-is a = (a .returns, a .reply)
@@ -61,7 +64,7 @@ module _ (budget : ℕ) (q w s : List ℕ) where
 
 -- ## "running out of budget is reported when the counted work passes the budget and at no other time"
 
--- 8,192 is the largest budget, and a call that is not run gets no 6
+-- The count is computed as far as 8,192, the largest budget. `check-6-is-run`, `answer-6-is-run`: what gets 6 is run, and not refused by 1 to 5.
 module _ {budget : ℕ} {q w w′ s s′ ns : List ℕ} {r : ℕ} (c : Checked budget q w w′ s s′ ns r) where
   pub check-6-exactly-past-count : {Q : Question} → IsRun budget (length w) q Q → (r ≡ 6) ↔ Passes (countTo 8192 Q) budget
   check-6-exactly-past-count run = promises-proofs.Count.check-6-exactly-past-count run c
@@ -85,30 +88,23 @@ module _ {b s s′ : List ℕ} {r : ℕ} (a : Answered b s s′ r) where
 pub one-count : {A : Type 0} {m : M A} {n : ℕ} {c c′ : Option ℕ} → Count m n c → Count m n c′ → c ≡ c′
 one-count = laws-proofs.Count.one-count
 
--- "A solution that leads back to itself therefore ends in 6": where a run, with the budget l, applies Γ to A, and A leads to a ring in Γ, the
--- reply is 6 at l and below. Document 01's edge is one.
-pub ring-gets-6 : {Γ : Ctx} {a : TyVar} {A : Ty} {l budget work : ℕ} {q : List ℕ} {Q : Question} → Ring Γ a → Leads Γ a A
-    → Applies Γ A Result (answer Q) l 0 → IsRun budget work q Q → budget ≤ l → (room : ℕ) → reply budget work room q ≡ refusal 6 0 budget
-ring-gets-6 ring leads applies = laws-proofs.Rings.ring-gets-6 ring leads applies
+-- # Demand 2: "They are proved against a definition of document 01's rules and run against the Rust"
 
-pub endless : (budget work room : ℕ) → 1 ≤ budget → budget ≤ 8192 → workWords budget ≤ work
-    → reply budget work room (2 ∷ 0 ∷ 4 ∷ 35 ∷ 1 ∷ 4 ∷ 1 ∷ 3 ∷ 22 ∷ 1 ∷ 0 ∷ 0 ∷ 2 ∷ 4 ∷ 1 ∷ []) ≡ refusal 6 0 budget
-endless = laws-proofs.Endless.endless
+-- Proved: `answer-is` and `check-is`, in both modes. That the definition is the Rust in plain mode is run, and not proved: docs/EVIDENCE.md.
 
--- # Demand 2: "They are proved against a definition of document 01's rules": `answer-is` and `check-is`
-
--- "Cases (a) to (o) are one proved table under a single theorem" (crates/laws/proofs/Cases.antt)
+-- "Cases (a) to (o) are one proved table under a single theorem": crates/laws/proofs/Cases.antt
 pub fifteen : map (λ c. seen (asked c) (c .2)) cases ≡ map (λ c. c .2) cases
 fifteen = laws-proofs.Cases.fifteen
 
--- "Later passes of apply_ctx_type change nothing": what came of one pass, B, comes of the next, which would cost a unit for each of B's parts
+-- The Rust passes until nothing changes, the definition once: "Later passes of apply_ctx_type change nothing". B came of a pass; a pass over B
+-- gives B again, for a unit for each part of B (`calls`, crates/laws/proofs/LaterPasses.antt).
 pub later-pass : (Γ : Ctx) (A B : Ty) (l n l′ n′ k : ℕ) → apply Γ A l n ≡ done B l′ n′ → apply Γ B (calls Γ B + k) n ≡ done B k n
 later-pass = laws-proofs.LaterPasses.later-pass
 
 -- # Demand 3: "two well-formed questions, alike except in the values of literals and in names, where variable names pair one to one and type
 -- names pair one to one .. get .. replies alike word by word but for paired names. No such reply depends on a literal's value."
 
--- sporeflask_check, with the same budget and slices
+-- sporeflask_check, with the same budget and slices; alike questions have the same mode, alike replies the same number, length and units
 module _ {budget : ℕ} {q q′ w s w₁ w₂ s₁ s₂ n₁ n₂ : List ℕ} {r₁ r₂ : ℕ} where
   pub checks-alike : {P : Pairing} → AlikeQuestions P q q′ → Checked budget q w w₁ s s₁ n₁ r₁ → Checked budget q′ w w₂ s s₂ n₂ r₂
       → AlikeChecks P (call budget q w s .answered) (call budget q′ w s .answered) r₁ r₂ n₁ n₂ s₁ s₂ w₁ w₂
@@ -128,13 +124,10 @@ module _ {b b′ s s₁ s₂ : List ℕ} {r₁ r₂ : ℕ} (whole : length b % 4
       → SameAnswers r₁ r₂ s₁ s₂
   answer-no-literal h = promises-proofs.Demand3.answer-no-literal whole whole′ h
 
--- "alike" is neither narrow nor wide: every well-formed question, with its names renamed one to one and its literals changed, is alike what it
--- was; a test that computes decides of any two lists of words
+-- No well-formed question, no renaming and no literal is left out: every well-formed question is alike itself, and itself with its names
+-- renamed one to one and its literals changed. (Which questions are not alike: `decided`, in Further.)
 abbrev pub alike-itself : {q : List ℕ} → WellFormed q → AlikeQuestions itself q q
 alike-itself = alike-proofs.WellFormed.alike-itself
 
 pub changed : (c : Change) {q : List ℕ} (h : WellFormed q) → AlikeQuestions (pairing c) q (change c (alike-itself h .labels) q)
 changed = alike-proofs.Changes.changed
-
-pub decided : (q q′ : List ℕ) → Decided (areAlike q q′) q q′
-decided = alike-proofs.Deciding.decided
