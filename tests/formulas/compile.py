@@ -247,7 +247,10 @@ def main():
     if asks:
         program("desk")
     faults = 0
-    for name, accepted, words in formulas(files[0]):
+    found = list(formulas(files[0]))
+    if not found:
+        refuse(USAGE, "no formula")
+    for name, accepted, words in found:
         claimed = "accepted" if accepted else "refused"
         words[1] = int(strict)
         verdict, held = asked(accepted, words) if asks else (f"claimed {claimed}", True)

@@ -53,7 +53,7 @@ def number(least, most, kind=int):
     """What argparse takes for an argument: a number within bounds."""
     def read(word):
         try:
-            found = kind(word)
+            found = kind(word) if "_" not in word else None
         except ValueError:
             found = None
         if found is None or not least <= found <= most:

@@ -276,7 +276,7 @@ def earlier(logs, said):
 
 
 def options():
-    parser = argparse.ArgumentParser(description=__doc__, formatter_class=argparse.RawDescriptionHelpFormatter)
+    parser = argparse.ArgumentParser(description=__doc__, formatter_class=argparse.RawDescriptionHelpFormatter, allow_abbrev=False)
     parser.add_argument("--count", type=number(1, 100_000))
     parser.add_argument("--seed", type=number(0, 2**63), default=1)
     parser.add_argument("--file", choices=sorted(file.stem for file in SPECS.glob("*.antt")))

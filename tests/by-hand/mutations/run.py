@@ -200,7 +200,7 @@ def tell(results):
 
 
 def arguments():
-    parser = argparse.ArgumentParser(description=__doc__, formatter_class=argparse.RawDescriptionHelpFormatter)
+    parser = argparse.ArgumentParser(description=__doc__, formatter_class=argparse.RawDescriptionHelpFormatter, allow_abbrev=False)
     parser.add_argument("--count", type=number(1, 100_000), default=150)
     parser.add_argument("--seed", type=number(0, 2**63), default=1)
     parser.add_argument("--crate", choices=sorted(folder.name for folder in (ROOT / "crates").iterdir()))
