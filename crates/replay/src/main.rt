@@ -9,7 +9,7 @@ use libc::STDOUT_FILENO;
 use replies::Reply;
 
 // A frame may ask for this many words of question, and of report.
-const MOST: usize = 4096;
+const FRAME_MOST: usize = 4096;
 
 // What stands before a question.
 struct Frame {
@@ -95,10 +95,10 @@ fn turn(
         return false;
     }
     let f = frame_at_start(bytes, work.len());
-    if MOST < f.count {
+    if FRAME_MOST < f.count {
         return false;
     }
-    if MOST < f.report {
+    if FRAME_MOST < f.report {
         return false;
     }
     if !fill(bytes, 4 * f.count) {
@@ -120,11 +120,11 @@ fn all(bytes: &mut [u8], words: &mut [u32], work: &mut [u32], report: &mut [u32]
 }
 
 fn main() {
-    let mut bytes = [0u8; 4 * MOST];
-    let mut words = [0u32; MOST];
+    let mut bytes = [0u8; 4 * FRAME_MOST];
+    let mut words = [0u32; FRAME_MOST];
     // what the largest budget needs, and some more
     let mut work = [0u32; 266496];
-    let mut report = [0u32; MOST];
-    let mut out = [0u8; 16 + 4 * MOST];
+    let mut report = [0u32; FRAME_MOST];
+    let mut out = [0u8; 16 + 4 * FRAME_MOST];
     all(&mut bytes, &mut words, &mut work, &mut report, &mut out);
 }
