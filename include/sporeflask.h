@@ -24,10 +24,10 @@ extern "C" {
    another or gone, so look at your host; of the second: something is added (a code, a mode, a kind, a function), and
    every question that was well-formed gets the reply that it got; of the third: replies, names and layout are as they
    were. */
-#define SPOREFLASK_VERSION_MAJOR 1
+#define SPOREFLASK_VERSION_MAJOR 2
 #define SPOREFLASK_VERSION_MINOR 0
 #define SPOREFLASK_VERSION_PATCH 0
-#define SPOREFLASK_VERSION "1.0.0"
+#define SPOREFLASK_VERSION "2.0.0"
 
 /* ---- Sizes, in words of 4 bytes unless their name says otherwise */
 
@@ -158,6 +158,9 @@ enum sporeflask_entry {
        0 if none), then five sections, each after its count: input context, left type, right type, output context,
        result type
 
+   With a larger budget, the same room and enough work, the reply is the same on every code but BAD_BUDGET, SHORT_WORK
+   and BUDGET. With a smaller one it is the same, or BUDGET: this exactly where the budget is less than these units.
+
    On UNBOUND_VARIABLE to PARAMETER_MISMATCH: two type sections, each after its count, empty where there is no type. The
    code's line says which types they hold. Otherwise no report. */
 
@@ -177,7 +180,7 @@ enum sporeflask_code {
     SPOREFLASK_TYPE_APPLICATION_ERROR = 13, /* what was given a type is no Forall: its type; none */
     SPOREFLASK_OCCURS_CHECK = 14,           /* at: the name; the type that has it; none */
     SPOREFLASK_SUBTYPING_ERROR = 15,        /* the left type, which is there; the right one, which is wanted */
-    SPOREFLASK_INSTANTIATION_ERROR = 16,    /* at: the name; the type; none. No question draws it */
+                                            /* no question draws 16: never-16, docs/THEOREMS.md */
     SPOREFLASK_PARAMETER_MISMATCH = 17      /* strict mode: the parameter's type as written; the one wanted */
 };
 

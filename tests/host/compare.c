@@ -1,11 +1,12 @@
 /* Questions with the replies they must have, as frames on standard input, asked of the exported functions. See README.md.
    A frame is u32 words: budget, work words, report words, question words, the question; code, at, length, units, report words, the
-   report. All of it is held: the numbers, the report and what follows it, work, the question, and guards round every slice. */
+   report. All of it is held: the numbers, the report and what follows it, work, the question, and guards round every slice. Then the same
+   question is asked at another budget, where what it gets follows from the frame. */
 #include "slices.h"
 #include "sporeflask.h"
 
 /* The most of a frame. No budget needs more work; longer work is clipped by who writes frames, since it changes no reply. */
-enum { MOST_QUESTION = 4096, MOST_WORK = 266240 + 512, MOST_REPORT = 65536, CODES = 18 };
+enum { MOST_QUESTION = 4096, MOST_WORK = 266240 + 512, MOST_REPORT = 65536, MOST_BUDGET = 8192, CODES = 18 };
 
 /* A line is printed after each so many frames, since a long run takes an hour. */
 enum { FRAMES_A_LINE = 1000000 };
@@ -20,7 +21,7 @@ struct frame {
 static struct frame frame;
 static struct slice work, report, question, reply;
 static const uint8_t zeros[MOST_SLICE];
-static unsigned long frames, differences, checked[CODES], answered[CODES];
+static unsigned long frames, differences, checked[CODES], answered[CODES], elsewhere[CODES];
 
 static void print_words(const char *before, const uint32_t *words, size_t count) {
     fputs(before, stdout);
@@ -68,7 +69,7 @@ static bool question_kept(void) {
     return kept(&question, question.bytes) && memcmp(question.at, frame.question, question.bytes) == 0;
 }
 
-static void hold_check(void) {
+static void hold_check(unsigned long *calls) {
     uint32_t numbers[4] = {77, 77, 77, 77}, code = frame.wanted.reply[0];
     size_t written = 4 * (size_t)frame.wanted.length;
     size_t cleared = code >= 1 && code <= 5 ? 0 : 4 * SPOREFLASK_WORK_WORDS(frame.sizes.budget);
@@ -78,7 +79,7 @@ static void hold_check(void) {
     memcpy(question.at, frame.question, question.bytes);
     uint32_t got = sporeflask_check(words_of(&question), frame.sizes.count, frame.sizes.budget, words_of(&work), frame.sizes.work,
                                     words_of(&report), frame.sizes.room, numbers);
-    checked[code]++;
+    calls[code]++;
     if (got != code || memcmp(numbers, frame.wanted.reply, 16) != 0) {
         differs("sporeflask_check", "the numbers", numbers, 4);
     } else if (memcmp(report.at, frame.report, written) != 0) {
@@ -115,6 +116,22 @@ static void hold_answer(void) {
     }
 }
 
+/* Makes the frame that of its question at another budget, one of some that vary from frame to frame. Order 5: the same reply where the budget
+   is no less than its units, 6 where it is less. False where the frame tells of no other budget (1, 2, 6) or this is not allowed. */
+static bool at_another_budget(void) {
+    uint32_t *reply = frame.wanted.reply, units = reply[3], most = MOST_BUDGET;
+    const uint32_t budgets[] = {units - 1, units, units + 1, frame.sizes.budget + 1, 1, most};
+    uint32_t budget = budgets[frames % (sizeof budgets / sizeof *budgets)];
+    if (reply[0] == 1 || reply[0] == 2 || reply[0] == 6 || budget == 0 || budget > most) return false;
+    frame.sizes.budget = budget;
+    frame.sizes.work = 32 * budget + 4096;
+    if (budget < units) {
+        memcpy(reply, (const uint32_t[]){6, 0, 0, budget}, 16);
+        frame.wanted.length = 0;
+    }
+    return true;
+}
+
 /* Whether sporeflask_answer, whose budget and work are its own, must give this reply too. In numbers: a wrong name in the header must not
    keep it from being asked. */
 static bool at_the_desk(void) {
@@ -141,14 +158,16 @@ int main(void) {
     reply = new_slice();
     setvbuf(stdin, NULL, _IOFBF, 1 << 20);
     for (; read_frame(); frames++) {
-        hold_check();
+        hold_check(checked);
         if (at_the_desk()) hold_answer();
+        if (at_another_budget()) hold_check(elsewhere);
         if ((frames + 1) % FRAMES_A_LINE == 0) {
             printf("after %lu frames: %lu differences\n", frames + 1, differences);
             fflush(stdout);
         }
     }
-    unsigned long calls = print_codes("sporeflask_check", checked) + print_codes("sporeflask_answer", answered);
+    unsigned long calls = print_codes("sporeflask_check", checked) + print_codes("sporeflask_answer", answered) +
+                          print_codes("sporeflask_check at another budget", elsewhere);
     /* nothing asked is a failure */
     unsigned long failed = calls == 0 ? 1 : differences;
     printf("%lu passed, %lu failed\n", calls - differences, failed);

@@ -22,7 +22,6 @@ static const char *const NAMES[] = {
     [SPOREFLASK_TYPE_APPLICATION_ERROR] = "TypeApplicationError",
     [SPOREFLASK_OCCURS_CHECK] = "OccursCheck",
     [SPOREFLASK_SUBTYPING_ERROR] = "SubtypingError",
-    [SPOREFLASK_INSTANTIATION_ERROR] = "InstantiationError",
     [SPOREFLASK_PARAMETER_MISMATCH] = "ParameterMismatch",
 };
 

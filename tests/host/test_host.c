@@ -190,6 +190,18 @@ static void sizes(void) {
     }
 }
 
+/* Every question at every budget up to its units and one more: 6 below them, and from them on the same reply. */
+static void around_units(void) {
+    for (const struct asked *q = ASKED; q < ASKED + COUNT(ASKED); q++) {
+        const uint32_t *report = whole_report(q->words, q->count), most = q->reply[0] == 6 ? 28 : q->reply[3];
+        for (uint32_t budget = 1; budget <= most + 1; budget++) {
+            uint32_t reply[4];
+            reply_at(q->reply, budget, needed(budget), 4096, reply);
+            hold_check(q->label, q->words, q->count, budget, needed(budget), 4096, reply, report, q->reply[2]);
+        }
+    }
+}
+
 /* A reply of this size, which must give what document 01 says of its room. */
 static void hold_reply_size(const char *label, const uint32_t *words, size_t count, const uint32_t full[4], size_t size) {
     static const uint32_t TOO_SHORT[4] = {8, 0, 0, 0};
@@ -287,16 +299,17 @@ static void numbers_of_kinds_and_codes(void) {
                                    SPOREFLASK_BUDGET,    SPOREFLASK_NO_ROOM,       SPOREFLASK_SHORT_REPLY};
     static const int ERRORS[] = {SPOREFLASK_UNBOUND_VARIABLE,       SPOREFLASK_APPLICATION_TYPE_ERROR,
                                  SPOREFLASK_TYPE_APPLICATION_ERROR, SPOREFLASK_OCCURS_CHECK,
-                                 SPOREFLASK_SUBTYPING_ERROR,        SPOREFLASK_INSTANTIATION_ERROR,
-                                 SPOREFLASK_PARAMETER_MISMATCH};
+                                 SPOREFLASK_SUBTYPING_ERROR};
     static const int SIZES[][2] = {
         {SPOREFLASK_MOST_WORDS, 2048},   {SPOREFLASK_MOST_BUDGET, 8192},        {SPOREFLASK_DESK_BUDGET, 384},
         {SPOREFLASK_DESK_WORK, 16384},   {SPOREFLASK_DESK_REPORT, 4096},        {SPOREFLASK_REPLY_BYTES, 16},
         {SPOREFLASK_MOST_REPLY_BYTES, 16400}, {SPOREFLASK_FIRST_FRESH_NAME, 1000000}, {SPOREFLASK_WORK_WORDS(384), 16384}};
+    static const int STRICT_ERRORS[] = {SPOREFLASK_PARAMETER_MISMATCH};
     hold_numbers("kinds", KINDS, COUNT(KINDS), 1);
     hold_numbers("modes", MODES, COUNT(MODES), 0);
     hold_numbers("refusals", REFUSALS, COUNT(REFUSALS), 0);
     hold_numbers("type errors", ERRORS, COUNT(ERRORS), 11);
+    hold_numbers("strict mode's type error", STRICT_ERRORS, COUNT(STRICT_ERRORS), 17);
     for (size_t i = 0; i < COUNT(SIZES); i++) hold(SIZES[i][0] == SIZES[i][1], "sizes", "the number of the table's row", i);
 }
 
@@ -507,6 +520,7 @@ int main(void) {
     cases();
     budgets();
     sizes();
+    around_units();
     reply_sizes();
     longest_reports();
     question_bytes();

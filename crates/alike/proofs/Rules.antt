@@ -4,8 +4,9 @@ use Prim.Native.Nat.{ℕ, zero, suc, _+_}
 use mathlib.Core.Bool.{Bool, true, false, _&&_}
 use mathlib.Core.Option.{Option}
 use lib.Dec.{leb, eqb}
-use Rattle.definition.specs.Syntax.{pick, TmVar, TyVar, Ty, Expr, Ctx, Binding, Side, onL, onR, Judgement, placeOf, given, Rule, unboundVariable, applicationTypeError, typeApplicationError, occursCheck, subtypingError, instantiationError, parameterMismatch}
+use Rattle.definition.specs.Syntax.{pick, TmVar, TyVar, Ty, Expr, Ctx, Binding, Side, onL, onR, Judgement, placeOf, given, Rule, unboundVariable, applicationTypeError, typeApplicationError, occursCheck, subtypingError, parameterMismatch}
 use Rattle.definition.specs.Contexts.{_▹_}
+use Rattle.definition.specs.Types.{isMono}
 use Rattle.definition.specs.Run.{M, _>>=_, give}
 use Rattle.definition.specs.Rules.{Fired, Result, Judge, Here, _from_, closes, _orElse_, when, on, onBoth, tyCode, asVar, asETVar, asArrow, asForall, solve, reach, split, instArrow, instForall, instRule, subArr, subAllR, subAllL, subInst, notIn, sameBase, same, subtypeRule, exprCode, asAbs, parameter, chkLam, chkAll, chkSub, checkRule, infAppArr, infAppETVar, inferAppRule, infVar, infLam, infApp, infLet, branch, infIf, infBoth, infEq, infBinOp, infAnn, infTAbs, instantiate, infTApp, inferRule, rule, judgeStep, judgeTo, judgeBy, judge}
 use Rattle.definition.specs.Reply.{errorCode, errorAt}
@@ -124,10 +125,6 @@ module _ {P : Pairing} where
   unfolding errorCode errorAt pick
   subtypingErrorR s t = record { error = refl; about = InReplies.same; shown = Related.twoTypesR s t }
 
-  instantiationErrorR : {a a′ : TyVar} {A A′ : Ty} → NameR P a a′ → TyR P A A′ → TypeErrorR P (instantiationError a A) (instantiationError a′ A′)
-  unfolding errorCode errorAt pick
-  instantiationErrorR a t = record { error = refl; about = InReplies.typeNames (a .numbers); shown = Related.oneTypeR t }
-
   parameterMismatchR : {A A′ B B′ : Ty} → TyR P A A′ → TyR P B B′ → TypeErrorR P (parameterMismatch A B) (parameterMismatch A′ B′)
   unfolding errorCode errorAt pick
   parameterMismatchR s t = record { error = refl; about = InReplies.same; shown = Related.twoTypesR s t }
@@ -140,13 +137,13 @@ module _ {P : Pairing} where
     addR : {Γ Γ′ : Ctx} {b b′ : Binding} → CtxR P Γ Γ′ → BindingR P b b′ → CtxR P (Γ ▹ b from h) (Γ′ ▹ b′ from h)
     addR c b = pushR c (newR b)
 
-    solveR : (s : Side) {Γ Γ′ : Ctx} {a a′ : TyVar} {A A′ : Ty} → CtxR P Γ Γ′ → NameR P a a′ → TyR P A A′
+    -- of monotypes alone: of others InstantiationError would be drawn
+    solveR : (s : Side) {Γ Γ′ : Ctx} {a a′ : TyVar} {A A′ : Ty} → CtxR P Γ Γ′ → NameR P a a′ → TyR P A A′ → isMono A ≡ true
         → RunsAlike P (FiredR P) (solve h s Γ a A) (solve h s Γ′ a′ A′)
-    unfolding solve
-    solveR s c a t =
-        pickR (RunsAlike P (FiredR P)) (isMonoR t)
+    unfolding solve pick
+    solveR s c a t e =
+        rw (← isMonoR t, e)
         (pickR (RunsAlike P (FiredR P)) (occursR a t) (refuseR (occursCheckR a t)) (closesR _ (replaceR a (consR (newR (setvarBndR a t)) nilR) c)))
-        (refuseR (instantiationErrorR a t))
 
     splitR : {a a′ b b′ d d′ : TyVar} {Γ Γ′ : Ctx} → NameR P a a′ → NameR P b b′ → NameR P d d′ → CtxR P Γ Γ′
         → CtxR P (split h a b d Γ) (split h a′ b′ d′ Γ′)
@@ -175,12 +172,12 @@ module _ {P : Pairing} where
 
     instRuleR : (s : Side) {Γ Γ′ : Ctx} {a a′ : TyVar} {A A′ : Ty} → CtxR P Γ Γ′ → NameR P a a′ → TyR P A A′
         → RunsAlike P (FiredR P) (instRule h judge s Γ a A) (instRule h judge′ s Γ′ a′ A′)
-    unfolding instRule instArrow reach
-    instRuleR s c a intR = solveR s c a intR
-    instRuleR s c a boolR = solveR s c a boolR
-    instRuleR s c a (varR p) = solveR s c a (varR p)
+    unfolding instRule instArrow reach isMono
+    instRuleR s c a intR = solveR s c a intR refl
+    instRuleR s c a boolR = solveR s c a boolR refl
+    instRuleR s c a (varR p) = solveR s c a (varR p) refl
     instRuleR s c a (etvarR p) =
-        pickR (RunsAlike P (FiredR P)) (beforeR c a p) (closesR _ (replaceR p (consR (newR (setvarBndR p (etvarR a))) nilR) c)) (solveR s c a (etvarR p))
+        pickR (RunsAlike P (FiredR P)) (beforeR c a p) (closesR _ (replaceR p (consR (newR (setvarBndR p (etvarR a))) nilR) c)) (solveR s c a (etvarR p) refl)
     instRuleR s c a (arrowR p q) =
         bindR freshR (λ b b′ β. bindR freshR (λ d d′ δ. bindR (asked _ _ (instR (splitR a β δ c) β p)) (λ r r′ w. bindR (applyR (w .1) q) (λ B B′ t.
         oneR (instR (w .1) δ t) (λ s s′ v. (refl, intR, v .1, andR (w .2) (andR (v .2) leafR)))))))

@@ -41,6 +41,7 @@ reported room c p u ws =
 -- | 14 OccursCheck, 16 InstantiationError | as 000 | name |
 -- | 15 SubtypingError | as 000 | 0 |
 -- | 17 ParameterMismatch | strict mode only | 0 |
+-- No question draws 16 (`never-16`, promises Main).
 
 unfoldable pub errorCode : Error → ℕ
 errorCode UnboundVariable = 11

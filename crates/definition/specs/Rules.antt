@@ -143,6 +143,8 @@ instArr onR = Syntax.InstRArr
 -- is_mono T    a not in T    (and neither Reach, Arr nor All fits)
 -- ------------------------------- InstLSolve; InstRSolve with T :=< ^a
 -- Γ[^a] ⊢ ^a :=< T ⊣ Γ[^a = T]
+--
+-- 000's last arm refuses with InstantiationError, 16, where T is no monotype: no question comes there (`never-16`, promises Main).
 unfoldable pub solve : Here → Side → Ctx → TyVar → Ty → M Fired
 solve h s Γ a T =
     pick (isMono T)

@@ -1,20 +1,20 @@
 -- What a run does with another budget. It is the same to a run of the definition whether something is charged before it or at its end: k
 -- less to begin with is k less left.
 use mathlib.Core.Path.{_≡_, refl, sym, ap, _∙_}
-use Prim.Native.Nat.{ℕ, zero, suc, _+_, _-_, _≤_, _<_}
+use Prim.Native.Nat.{ℕ, suc, _+_, _-_, _≤_, _<_}
 use native.Mathlib.Omega.{arith}
 use native.Mathlib.Nat.{lt-of-not-le, le-refl}
 use native.Mathlib.Decide.{decLe}
 use mathlib.Core.Bool.{Bool, true, false}
-use lib.Dec.{leb, eqb}
+use lib.Dec.{leb}
 use Rattle.definition.specs.Syntax.{pick, TypeError, Ty, Ctx, Judgement}
 use Rattle.definition.specs.Question.{Question}
 use Rattle.definition.specs.Run.{Out, done, fail, stop, M, andThen, _>>=_, give, refuse, halt, charge, fresh}
 use Rattle.definition.specs.Types.{applyTo, apply}
-use Rattle.definition.specs.Rules.{Here, outside, Rules, judgeStep, judgeTo, judgeBy, judge}
+use Rattle.definition.specs.Rules.{Here, Rules, judgeTo, judgeBy, judge}
 use Rattle.definition.specs.Reply.{answer}
 use Rattle.laws.proofs.Steps.{charge-yes, charge-no}
-use Rattle.laws.proofs.Congruence.{Rel, Compatible, applyStepR, Congruent, rule-congruent}
+use Rattle.laws.proofs.Congruence.{Rel, Compatible, Congruent, rule-congruent, applyToR, judgeToR, answerR}
 use Rattle.laws.proofs.Depth.{Upto, upto, apply-upto, judgeBy-upto}
 
 -- an end, a type error among others, that is charged k more
@@ -104,7 +104,7 @@ SteadyOne A m m′ = Steady m
 each : Compatible SteadyOne
 each = record {
   giveR = give-steady;
-  refuseR = refuse-steady;
+  refuseR = λ e d. refuse-steady e;
   freshR = fresh-steady;
   chargeR = charge-steady;
   bindR = λ hm hf. bind-steady hm hf;
@@ -119,41 +119,23 @@ from-depths m x h e = record {
       sym ((upto l) .bindR ((upto l) .chargeR k) (λ u. e l) l n (le-refl l) .0) ∙ h l .early k l n ∙ ap (late k) (e l l n (le-refl l) .0);
 }
 
-applyTo-steady : (d : ℕ) (Γ : Ctx) (A : Ty) → Steady (applyTo d Γ A)
-unfolding applyTo
-applyTo-steady zero Γ A = halt-steady
-applyTo-steady (suc d) Γ A = bind-steady (charge-steady 1) (λ u. applyStepR SteadyOne each Γ _ (λ B l n. applyTo d Γ B l n) (applyTo-steady d Γ) A)
-
 apply-steady : (Γ : Ctx) (A : Ty) → Steady (apply Γ A)
-apply-steady Γ A = from-depths (λ d. applyTo d Γ A) (apply Γ A) (λ d. applyTo-steady d Γ A) (λ d. apply-upto d d (le-refl d) Γ A)
+apply-steady Γ A =
+    from-depths (λ d. applyTo d Γ A) (apply Γ A) (λ d. applyToR SteadyOne each (λ A. halt-steady) d Γ A) (λ d. apply-upto d d (le-refl d) Γ A)
 
 module _ {rules : Rules} (c : Congruent rules) where
-  judgeTo-steady : (d : ℕ) (h : Here) (j : Judgement) → Steady (judgeTo rules d h j)
-  unfolding judgeTo judgeStep
-  judgeTo-steady zero h j = halt-steady
-  judgeTo-steady (suc d) h j =
-      bind-steady (charge-steady _) (λ u. bind-steady
-      (c .keeps SteadyOne each apply-steady h _ (λ i l n. judgeTo rules d h i l n) (judgeTo-steady d h) j)
-      (λ r. bind-steady (charge-steady _) (λ v. give-steady _)))
-
   pub judgeBy-steady : (h : Here) (j : Judgement) → Steady (judgeBy rules h j)
-  judgeBy-steady h j = from-depths (λ d. judgeTo rules d h j) (judgeBy rules h j) (λ d. judgeTo-steady d h j) (λ d. judgeBy-upto c d h j)
+  judgeBy-steady h j =
+      from-depths (λ d. judgeTo rules d h j) (judgeBy rules h j) (λ d. judgeToR SteadyOne each (λ A. halt-steady) apply-steady c d h j)
+      (λ d. judgeBy-upto c d h j)
 
 -- each of the six judgements, in whatever it runs
 pub judge-steady : (h : Here) (j : Judgement) → Steady (judge h j)
 judge-steady = judgeBy-steady rule-congruent
 
-pick-steady : {A : Type 0} (b : Bool) {x y : M A} → Steady x → Steady y → Steady (pick b x y)
-unfolding pick
-pick-steady true h k = h
-pick-steady false h k = k
-
 -- what a question asks, kind 7's resolving among it
 pub answer-steady : (q : Question) → Steady (answer q)
-unfolding answer
-answer-steady q =
-    let h : Steady (judge (outside (q .manner)) (q .asks)) = judge-steady (outside (q .manner)) (q .asks) in
-    pick-steady (eqb (q .kind) 7) (bind-steady h (λ r. bind-steady (apply-steady _ _) (λ A. give-steady _))) h
+answer-steady q = answerR SteadyOne each (λ A. halt-steady) apply-steady judge-steady q
 
 -- ## One budget's end tells another's
 

@@ -1,20 +1,25 @@
--- One theorem over all rules: a relation between runs that giving, refusing, taking a fresh name, charging and binding keep, every rule
--- keeps.
-use Prim.Native.Nat.{ℕ}
+-- One theorem over all rules: a relation between runs that giving, refusing with what is drawn, taking a fresh name, charging and binding keep,
+-- every rule keeps; and where running out keeps it, so do application, judgements and questions.
+use mathlib.Core.Path.{_≡_, refl}
+use Prim.Native.Nat.{ℕ, zero, suc}
 use mathlib.Core.Bool.{Bool, true, false}
 use mathlib.Core.Option.{Option, none, some}
+use lib.Dec.{eqb}
 use Rattle.definition.specs.Syntax.{pick, TmVar, TyVar, Ty, int, bool, var, etvar, arrow, forall, Expr, evar, app, abs, tapp, tabs, ann, litInt, litBool, letIn, ifThenElse, binOp, Ctx, Side, onL, onR, Judgement, infer, check, inferApp, subtype, inst, Rule, TypeError}
-use Rattle.definition.specs.Run.{M, _>>=_, give, refuse, charge, fresh}
+use Rattle.definition.specs.Run.{M, _>>=_, give, refuse, halt, charge, fresh}
 use Rattle.definition.specs.Contexts.{kSETVar, find}
-use Rattle.definition.specs.Types.{solutionOr, applyStep, apply, subst, sameName}
-use Rattle.definition.specs.Rules.{Fired, Result, Judge, Here, Rules, closes, _orElse_, when, on, onBoth, solve, reach, instArrow, instForall, instRule, subArr, subAllR, subAllL, subInst, subtypeRule, parameter, chkLam, chkAll, chkSub, checkRule, infAppArr, infAppETVar, inferAppRule, infVar, infLam, infApp, infLet, branch, infIf, infBoth, infEq, infBinOp, infAnn, infTAbs, instantiate, infTApp, inferRule, rule}
+use Rattle.definition.specs.Types.{solutionOr, applyStep, applyTo, apply, subst, sameName, isMono, occurs}
+use Rattle.definition.specs.Question.{Question}
+use Rattle.definition.specs.Rules.{Fired, Result, Judge, Here, outside, Rules, judgeStep, judgeTo, judge, closes, _orElse_, when, on, onBoth, solve, reach, instArrow, instForall, instRule, subArr, subAllR, subAllL, subInst, subtypeRule, parameter, chkLam, chkAll, chkSub, checkRule, infAppArr, infAppETVar, inferAppRule, infVar, infLam, infApp, infLet, branch, infIf, infBoth, infEq, infBinOp, infAnn, infTAbs, instantiate, infTApp, inferRule, rule}
+use Rattle.definition.specs.Reply.{answer}
+use Rattle.laws.specs.Codes.{Drawn}
 
 abbrev pub Rel : Type 1
 Rel = (A : Type 0) → M A → M A → Type 0
 
 pub record Compatible (R : Rel) : Type 1 where
   pub giveR : {A : Type 0} (a : A) → R A (give a) (give a)
-  pub refuseR : {A : Type 0} (e : TypeError) → R A (refuse e) (refuse e)
+  pub refuseR : {A : Type 0} (e : TypeError) → Drawn (e .error) → R A (refuse e) (refuse e)
   pub freshR : R TyVar fresh fresh
   pub chargeR : (c : ℕ) → R (Unit {0}) (charge c) (charge c)
   pub bindR : {A B : Type 0} {m m′ : M A} {f f′ : A → M B} → R A m m′ → ((a : A) → R B (f a) (f′ a)) → R B (m >>= f) (m′ >>= f′)
@@ -98,9 +103,10 @@ module _ (R : Rel) (c : Compatible R) where
 
     -- ## inst_l and inst_r
 
-    solveR : (s : Side) (Γ : Ctx) (a : TyVar) (A : Ty) → R Fired (solve h s Γ a A) (solve h s Γ a A)
-    unfolding solve
-    solveR s Γ a A = pickR _ (pickR _ (c .refuseR _) (closesR _ _)) (c .refuseR _)
+    -- of monotypes alone: of others InstantiationError would be drawn
+    solveR : (s : Side) (Γ : Ctx) (a : TyVar) (A : Ty) → isMono A ≡ true → R Fired (solve h s Γ a A) (solve h s Γ a A)
+    unfolding solve pick
+    solveR s Γ a A e = rw e (pickR (occurs a A) (c .refuseR _ tt) (closesR _ _))
 
     instForallR : (s : Side) (Γ : Ctx) (a b : TyVar) (A : Ty) → R Fired (instForall h judge s Γ a b A) (instForall h judge′ s Γ a b A)
     unfolding instForall
@@ -108,11 +114,11 @@ module _ (R : Rel) (c : Compatible R) where
     instForallR onR Γ a b A = c .bindR (substR _ _ _) (λ A′. oneR _ _)
 
     instRuleR : (s : Side) (Γ : Ctx) (a : TyVar) (A : Ty) → R Fired (instRule h judge s Γ a A) (instRule h judge′ s Γ a A)
-    unfolding instRule instArrow reach
-    instRuleR s Γ a int = solveR s Γ a int
-    instRuleR s Γ a bool = solveR s Γ a bool
-    instRuleR s Γ a (var b) = solveR s Γ a (var b)
-    instRuleR s Γ a (etvar b) = pickR _ (closesR _ _) (solveR s Γ a (etvar b))
+    unfolding instRule instArrow reach isMono
+    instRuleR s Γ a int = solveR s Γ a int refl
+    instRuleR s Γ a bool = solveR s Γ a bool refl
+    instRuleR s Γ a (var b) = solveR s Γ a (var b) refl
+    instRuleR s Γ a (etvar b) = pickR _ (closesR _ _) (solveR s Γ a (etvar b) refl)
     instRuleR s Γ a (arrow A B) =
         c .bindR (c .freshR) (λ b. c .bindR (c .freshR) (λ d. c .bindR (p _) (λ r. c .bindR (applyR _ _) (λ B′. oneR _ _))))
     instRuleR s Γ a (forall b A) = instForallR s Γ a b A
@@ -134,14 +140,14 @@ module _ (R : Rel) (c : Compatible R) where
         (orElseR (onArmR _ (λ P. c .bindR (substR _ _ _) (λ S. oneR _ _)))
         (orElseR (onArmR _ (subInstR _ _ _ _))
         (orElseR (onArmR _ (subInstR _ _ _ _))
-        (c .refuseR _))))))))
+        (c .refuseR _ tt))))))))
 
     -- ## check
 
     parameterR : (b : Bool) (Γ : Ctx) (A P : Ty) → R (Unit {0}) (parameter b Γ A P) (parameter b Γ A P)
     unfolding parameter
     parameterR false Γ A P = c .giveR _
-    parameterR true Γ A P = c .bindR (applyR _ _) (λ P′. pickR _ (c .giveR _) (c .refuseR _))
+    parameterR true Γ A P = c .bindR (applyR _ _) (λ P′. pickR _ (c .giveR _) (c .refuseR _ tt))
 
     checkRuleR : (Γ : Ctx) (e : Expr) (B : Ty) → R Fired (checkRule h judge Γ e B) (checkRule h judge′ Γ e B)
     unfolding checkRule chkAll chkLam chkSub
@@ -159,13 +165,13 @@ module _ (R : Rel) (c : Compatible R) where
     inferAppRuleR Γ e A =
         orElseR (onArmR _ (λ P. oneR _ _))
         (orElseR (onArmR _ (λ a. c .bindR (c .freshR) (λ b. c .bindR (c .freshR) (λ d. oneR _ _))))
-        (c .refuseR _))
+        (c .refuseR _ tt))
 
     -- ## infer
 
     instantiateR : (B A : Ty) → R Ty (instantiate B A) (instantiate B A)
     unfolding instantiate
-    instantiateR B A = orElseR (onArmR _ (λ P. substR _ _ _)) (c .refuseR _)
+    instantiateR B A = orElseR (onArmR _ (λ P. substR _ _ _)) (c .refuseR _ tt)
 
     branchR : (b : Bool) (Γ : Ctx) (A : Ty) → R Ty (branch b Γ A) (branch b Γ A)
     unfolding branch
@@ -174,7 +180,7 @@ module _ (R : Rel) (c : Compatible R) where
 
     infVarR : (x : TmVar) (Γ : Ctx) (o : Option Ty) → R Fired (infVar x Γ o) (infVar x Γ o)
     unfolding infVar
-    infVarR x Γ none = c .refuseR _
+    infVarR x Γ none = c .refuseR _ tt
     infVarR x Γ (some A) = c .giveR _
 
     infBothR : (r : Rule) (A C : Ty) (Γ : Ctx) (e e′ : Expr) → R Fired (infBoth h judge r A C Γ e e′) (infBoth h judge′ r A C Γ e e′)
@@ -218,3 +224,27 @@ pub record Congruent (rules : Rules) : Type 1 where
 
 pub rule-congruent : Congruent rule
 rule-congruent = record { keeps = λ R c applyR h judge judge′ p. ruleR R c applyR h judge judge′ p }
+
+-- ## Application and judgements to a depth, and questions
+
+module _ (R : Rel) (c : Compatible R) (haltR : (A : Type 0) → R A halt halt) where
+  pub applyToR : (d : ℕ) (Γ : Ctx) (A : Ty) → R Ty (applyTo d Γ A) (applyTo d Γ A)
+  unfolding applyTo
+  applyToR zero Γ A = haltR Ty
+  applyToR (suc d) Γ A =
+      c .bindR (c .chargeR 1) (λ u. applyStepR R c Γ (λ B l n. applyTo d Γ B l n) (λ B l n. applyTo d Γ B l n) (applyToR d Γ) A)
+
+  module _ (applyR : (Γ : Ctx) (A : Ty) → R Ty (apply Γ A) (apply Γ A)) where
+    pub judgeToR : {rules : Rules} → Congruent rules → (d : ℕ) (h : Here) (j : Judgement) → R Result (judgeTo rules d h j) (judgeTo rules d h j)
+    unfolding judgeTo judgeStep
+    judgeToR k zero h j = haltR Result
+    judgeToR {rules} k (suc d) h j =
+        c .bindR (c .chargeR _) (λ u. c .bindR
+        (k .keeps R c applyR h (λ i l n. judgeTo rules d h i l n) (λ i l n. judgeTo rules d h i l n) (judgeToR k d h) j)
+        (λ r. c .bindR (c .chargeR _) (λ v. c .giveR _)))
+
+    pub answerR : ((h : Here) (j : Judgement) → R Result (judge h j) (judge h j)) → (q : Question) → R Result (answer q) (answer q)
+    unfolding answer
+    answerR judgeR q =
+        let asked : R Result (judge (outside (q .manner)) (q .asks)) (judge (outside (q .manner)) (q .asks)) = judgeR (outside (q .manner)) (q .asks) in
+        pickR R c (eqb (q .kind) 7) (c .bindR asked (λ r. c .bindR (applyR _ _) (λ A. c .giveR _))) asked

@@ -5,21 +5,22 @@ use mathlib.Core.Logic.{_↔_, _≢_}
 use mathlib.Core.Option.{Option, none, some, Option·none-ne-some, Option·some-ne-none}
 use Prim.Native.Nat.{ℕ, _-_, _≤_, _<_}
 use native.Mathlib.Omega.{arith}
-use native.Mathlib.Nat.{lt-of-not-le, not-suc-le-zero, le-refl}
+use native.Mathlib.Nat.{lt-of-not-le, le-refl}
 use native.Mathlib.Decide.{decLe}
-use mathlib.Core.Bool.{Bool, true, false, _||_}
-use mathlib.Core.List.{List, [], _∷_}
-use lib.ListN.{length}
-use lib.Dec.{leb, ltb, eqb}
-use mir.Facts.{yes-leb, no-leb, no-eqb, no-ltb}
+use mathlib.Core.Bool.{Bool, true, false}
+use mathlib.Core.List.{List}
+use lib.Dec.{leb}
+use mir.Facts.{yes-leb, no-leb}
 use Rattle.definition.specs.Syntax.{pick, Judgement}
-use Rattle.definition.specs.Question.{Read, got, fault, Question, readQuestion, question-computes}
+use Rattle.definition.specs.Question.{Question}
 use Rattle.definition.specs.Run.{Out, done, fail, stop, M, andThen, _>>=_, give, refuse, charge}
 use Rattle.definition.specs.Rules.{Result, Here, judge}
-use Rattle.definition.specs.Reply.{Reply, refusal, reported, errorCode, answer, outReply, readReply, workWords, reply}
+use Rattle.definition.specs.Reply.{Reply, refusal, reported, errorCode, answer, outReply, reply}
+use Rattle.laws.specs.Budgets.{replyWith}
 use Rattle.laws.specs.Count.{charged, upTo, Count, countTo, Passes, IsRun}
 use Rattle.laws.proofs.Steps.{is-true, is-false, pick-true, pick-false, charge-yes, charge-no}
 use Rattle.laws.proofs.Codes.{error}
+use Rattle.laws.proofs.Tried.{run-reply}
 use Rattle.laws.proofs.Budgets.{late, Steady, smaller, judge-steady, answer-steady}
 
 -- ## A count as far as a budget goes
@@ -144,28 +145,9 @@ told kind b room stop = six refl
 
 -- ## Questions
 
-abbrev IsGot : {A : Type 0} → Read A → Type 0
-IsGot (got a p ws) = Unit {0}
-IsGot (fault c p) = ⊥
-
-is-got : {A : Type 0} (r : Read A) {a : A} {p : ℕ} {ws : List ℕ} → r ≡ got a p ws → IsGot r
-is-got r e = rw e tt
-
-some-words : {q : Question} {p : ℕ} {rest : List ℕ} (ws : List ℕ) → readQuestion ws ≡ got q p rest → 1 ≤ length ws
-unfolding question-computes
-some-words [] e = absurd (is-got (readQuestion []) e)
-some-words (w ∷ ws) e = omega arith
-
-within : {high x : ℕ} → 1 ≤ x → x ≤ high → (eqb x 0 || ltb high x) ≡ false
-within {high = high} {x} h k =
-    let p : x ≢ 0 = λ e. not-suc-le-zero (rw e at h) in
-    ap (_|| ltb high x) (is-false (eqb x 0) (no-eqb p)) ∙ is-false (ltb high x) (no-ltb k)
-
 told-reply : {b w : ℕ} {ws : List ℕ} {q : Question} → IsRun b w ws q → (room : ℕ) → ReplyTo b (reply b w room ws) (charged b (answer q b 0))
-unfolding reply readReply pick
-told-reply {b} {w} {ws} {q} a room =
-    rw (within (a .low) (a .high), is-false (ltb w (workWords b)) (no-ltb (a .enough)), within (some-words ws (a .read)) (a .few), a .read)
-    (told (q .kind) b room (answer q b 0))
+unfolding replyWith
+told-reply {b} {q = q} a room = rw (run-reply a room) (told (q .kind) b room (answer q b 0))
 
 exactly : {b : ℕ} {R : Reply} {u : Option ℕ} → ReplyTo b R u → (c : Option ℕ) → u ≡ upTo b c
     → (R .code ≡ 6 → Passes c b) × (Passes c b → R ≡ refusal 6 0 b)

@@ -47,7 +47,7 @@ pub upto : (b : ℕ) → Compatible (Upto b)
 unfolding give refuse fresh _>>=_
 upto b = record {
   giveR = λ a l n h. (refl, le-refl l);
-  refuseR = λ e l n h. (refl, le-refl l);
+  refuseR = λ e d l n h. (refl, le-refl l);
   freshR = λ l n h. (refl, le-refl l);
   chargeR = λ c. charge-upto b c;
   bindR = λ {A} {B} {m} {m′} {f} {f′} hm hf l n h. andThen-upto b l (m l n) (m′ l n) f f′ h (hm l n h .0) (hm l n h .1) hf;

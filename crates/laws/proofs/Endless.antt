@@ -11,7 +11,8 @@ use Rattle.definition.specs.Run.{done, charge, fresh}
 use Rattle.definition.specs.Contexts.{contexts-compute}
 use Rattle.definition.specs.Types.{apply}
 use Rattle.definition.specs.Rules.{Result, outside, _from_, _orElse_, when, on, onBoth, exprCode, tyCode, asAbs, asArrow, asForall, other, split, instArrow, instRule, chkSub, checkRule, rule, judgeStep, judge, rules-compute}
-use Rattle.definition.specs.Reply.{refusal, reply, answer, workWords}
+use Rattle.definition.specs.Reply.{refusal, reply, answer}
+use Rattle.laws.specs.Budgets.{Allowed}
 use Rattle.laws.specs.Rings.{here, follow, left, right, Ring, Applies, itself, first, after, judging}
 use Rattle.laws.proofs.Steps.{charge-yes}
 use Rattle.laws.proofs.Rings.{ring-gets-6}
@@ -47,11 +48,11 @@ itsOwn-applies : Applies itsOwn (etvar (name 1)) Result (answer (literal itsOwn 
 unfolding rules-compute
 itsOwn-applies = literal-applies itsOwn 8 (name 1) (lit≤ tt) refl refl
 
-pub endless : (budget work room : ℕ) → 1 ≤ budget → budget ≤ 8192 → workWords budget ≤ work
+pub endless : (budget work room : ℕ) → Allowed budget work
     → reply budget work room (2 ∷ 0 ∷ 4 ∷ 35 ∷ 1 ∷ 4 ∷ 1 ∷ 3 ∷ 22 ∷ 1 ∷ 0 ∷ 0 ∷ 2 ∷ 4 ∷ 1 ∷ []) ≡ refusal 6 0 budget
 unfolding question-computes
-endless budget work room h k w =
-    ring-gets-6 itsOwn-ring here itsOwn-applies (record { low = h; high = k; enough = w; few = lit≤ tt; place = 15; rest = []; read = refl }) k room
+endless budget work room a =
+    ring-gets-6 itsOwn-ring here itsOwn-applies (record { allowed = a; few = lit≤ tt; place = 15; rest = []; read = refl }) (a .high) room
 
 -- ## A ring of two: ^1 is ^2, ^2 is Int to ^1; the literal 1 against ^1
 
@@ -66,11 +67,11 @@ two-applies : Applies two (etvar (name 1)) Result (answer (literal two 14 (name 
 unfolding rules-compute
 two-applies = literal-applies two 14 (name 1) (lit≤ tt) refl refl
 
-pub ring-of-two : (budget work room : ℕ) → 1 ≤ budget → budget ≤ 8192 → workWords budget ≤ work
+pub ring-of-two : (budget work room : ℕ) → Allowed budget work
     → reply budget work room (2 ∷ 0 ∷ 10 ∷ 35 ∷ 1 ∷ 4 ∷ 2 ∷ 35 ∷ 2 ∷ 5 ∷ 1 ∷ 4 ∷ 1 ∷ 3 ∷ 22 ∷ 1 ∷ 0 ∷ 0 ∷ 2 ∷ 4 ∷ 1 ∷ []) ≡ refusal 6 0 budget
 unfolding question-computes
-ring-of-two budget work room h k w =
-    ring-gets-6 two-ring here two-applies (record { low = h; high = k; enough = w; few = lit≤ tt; place = 21; rest = []; read = refl }) k room
+ring-of-two budget work room a =
+    ring-gets-6 two-ring here two-applies (record { allowed = a; few = lit≤ tt; place = 21; rest = []; read = refl }) (a .high) room
 
 -- ## A ring made on the way: ^1 against ^1 to ^1, with ^1 unsolved. InstLArr solves ^1 as ^b to ^c and ^b as ^1, and applies that to ^1
 
@@ -104,8 +105,8 @@ made-applies =
     (after (judge (outside plain) halfway) _ half
     (first _ itself))))))
 
-pub ring-made : (budget work room : ℕ) → 1 ≤ budget → budget ≤ 8192 → workWords budget ≤ work
+pub ring-made : (budget work room : ℕ) → Allowed budget work
     → reply budget work room (5 ∷ 0 ∷ 2 ∷ 34 ∷ 1 ∷ 0 ∷ 2 ∷ 4 ∷ 1 ∷ 5 ∷ 5 ∷ 4 ∷ 1 ∷ 4 ∷ 1 ∷ []) ≡ refusal 6 0 budget
 unfolding question-computes
-ring-made budget work room h k w =
-    ring-gets-6 made-ring here made-applies (record { low = h; high = k; enough = w; few = lit≤ tt; place = 15; rest = []; read = refl }) k room
+ring-made budget work room a =
+    ring-gets-6 made-ring here made-applies (record { allowed = a; few = lit≤ tt; place = 15; rest = []; read = refl }) (a .high) room

@@ -6,6 +6,10 @@ pub mod Congruence
 pub mod Depth
 pub mod LaterPasses
 pub mod Budgets
+pub mod Never16
+pub mod Tried
+pub mod OtherBudgets
+pub mod LeftOut
 pub mod Count
 pub mod Rings
 pub mod Endless

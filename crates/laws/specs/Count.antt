@@ -8,7 +8,8 @@ use lib.Dec.{leb}
 use Rattle.definition.specs.Syntax.{pick}
 use Rattle.definition.specs.Question.{Question, got, readQuestion}
 use Rattle.definition.specs.Run.{Out, done, fail, stop, M}
-use Rattle.definition.specs.Reply.{answer, workWords}
+use Rattle.definition.specs.Reply.{answer}
+use Rattle.laws.specs.Budgets.{Allowed}
 
 -- ---- "Units is 0 on 1 to 5, the budget on 6, else the total charged." "Units equal this count in the definition."
 
@@ -43,9 +44,7 @@ Passes (some u) l = l < u
 
 -- a call that none of 1 to 5 refuses, and the question that its words are
 pub record IsRun (budget work : ℕ) (ws : List ℕ) (q : Question) : Type 0 where
-  pub low : 1 ≤ budget
-  pub high : budget ≤ 8192
-  pub enough : workWords budget ≤ work
+  pub allowed : Allowed budget work
   pub few : length ws ≤ 2048
   pub place : ℕ
   pub rest : List ℕ

@@ -1,3 +1,5 @@
--- What is said of the count and of rings of solutions, before any proof.
+-- What is said of budgets, codes, the count and rings of solutions, before any proof.
+pub mod Codes
+pub mod Budgets
 pub mod Count
 pub mod Rings

@@ -1,23 +1,25 @@
 -- The count through the contracts of both functions for C: "6 Budget: the next charge would pass the budget", and at no other time.
 use mathlib.Core.Path.{_≡_, refl, sym, ap, _∙_}
-use mathlib.Core.Bool.{Bool, true, false, _||_}
+use mathlib.Core.Bool.{Bool, true, false}
 use mathlib.Core.Logic.{_↔_, _≢_}
 use mathlib.Core.List.{List}
 use mathlib.Core.Option.{some}
-use Prim.Native.Nat.{ℕ, zero, suc, _-_, _/_, _%_, _≤_, min}
+use Prim.Native.Nat.{ℕ, _-_, _/_, _%_, _≤_, min}
 use native.Mathlib.Omega.{arith}
 use lib.ListN.{length, getD}
 use lib.Dec.{ltb, eqb}
 use mir.Facts.{no-ltb}
-use borrow.Author.Tests.{ltb-false, eqb-false, eqb-true}
+use borrow.Author.Tests.{ltb-false, eqb-true}
 use Rattle.definition.specs.Syntax.{pick}
 use Rattle.definition.specs.Question.{Read, got, fault, Question, readQuestion}
-use Rattle.definition.specs.Reply.{Reply, refusal, answer, readReply, workWords, reply}
+use Rattle.definition.specs.Reply.{Reply, refusal, answer, readReply, reply}
 use Rattle.definition.specs.Memory.{call}
 use Rattle.definition.specs.Host.{wordsOf, deskReply, byteReply, numbers, HostCall, hostCall}
+use Rattle.laws.specs.Budgets.{Allowed}
 use Rattle.laws.specs.Count.{Count, countTo, Passes, IsRun}
 use Rattle.laws.proofs.Count.{six-exactly-past-count-to, units-are-the-count}
 use Rattle.laws.proofs.Steps.{is-false}
+use Rattle.laws.proofs.Tried.{Tried, badBudget, shortWork, badLength, isRead, tried}
 use Rattle.alike.proofs.WellFormed.{IsFault, shape, name, four-or-five}
 use Rattle.sized.proofs.Answering.{whole}
 use Rattle.host.specs.Host.{Answered, Checked}
@@ -27,7 +29,7 @@ pub check-6-exactly-past-count : {budget : ℕ} {q w w′ s s′ ns : List ℕ} 
     → Checked budget q w w′ s s′ ns r → (r ≡ 6) ↔ Passes (countTo 8192 Q) budget
 unfolding call refusal
 check-6-exactly-past-count {s = s} a c =
-    let x = six-exactly-past-count-to a 8192 (a .high) (length s) in
+    let x = six-exactly-past-count-to a 8192 (a .allowed .high) (length s) in
     (λ e. x .0 (sym (c .returns) ∙ e), λ p. c .returns ∙ ap (λ (R : Reply). R .code) (x .1 p))
 
 -- "Units equal this count in the definition": the fourth number, unless it is 6 that is returned
@@ -42,49 +44,30 @@ pub answer-6-exactly-past-count : {b s s′ : List ℕ} {r : ℕ} {Q : Question}
 unfolding hostCall pick refusal
 answer-6-exactly-past-count {b} {s} h k a c =
     let room : ℕ = (length s - 16) / 4 in
-    let x = six-exactly-past-count-to a 8192 (a .high) (min room 4096) in
+    let x = six-exactly-past-count-to a 8192 (a .allowed .high) (min room 4096) in
     let e = rw (is-false (ltb (length s) 16) (no-ltb h), whole room b k) at (c .returns) in
     (λ i. x .0 (sym e ∙ i), λ p. e ∙ ap (λ (R : Reply). R .code) (x .1 p))
 
 -- ## And at no other time: a call that gets 6 is one that is run
 
-neither : (a b : Bool) → (a || b) ≡ false → (a ≡ false) × (b ≡ false)
-neither true b e = let z : _≡_ {A = ℕ} 0 1 = cc in absurd (omega arith)
-neither false b e = (refl, e)
-
-positive : (n : ℕ) → n ≢ 0 → 1 ≤ n
-positive zero h = absurd (h refl)
-positive (suc n) h = omega arith
-
--- what was read, after each test
-run-of : {budget work : ℕ} (room : ℕ) {ws : List ℕ} → 1 ≤ budget → budget ≤ 8192 → workWords budget ≤ work → length ws ≤ 2048
-    → (r : Read Question) → readQuestion ws ≡ r → readReply budget room r .code ≡ 6 → (q : Question) × IsRun budget work ws q
-unfolding readReply refusal
-run-of room low high enough few (got q p vs) read e = (q, record { low = low; high = high; enough = enough; few = few; place = p; rest = vs; read = read })
-run-of room {ws} low high enough few (fault c p) read e = go (four-or-five ws read) e
-  where
-    go : {A : Type 0} {c : ℕ} → IsFault c → c ≡ 6 → A
-    go shape e = absurd (omega (arith, e))
-    go name e = absurd (omega (arith, e))
-
 pub six-is-run : (budget work room : ℕ) (ws : List ℕ) → reply budget work room ws .code ≡ 6 → (q : Question) × IsRun budget work ws q
-unfolding reply refusal pick
-six-is-run budget work room ws =
-    let size : Bool = eqb (length ws) 0 || ltb 2048 (length ws) in
-    let many : Bool = eqb budget 0 || ltb 8192 budget in tested many refl (ltb work (workWords budget)) refl size refl
+unfolding readReply refusal
+six-is-run budget work room ws e = go (tried budget work room ws) e
   where
-    tested : (x : Bool) → (eqb budget 0 || ltb 8192 budget) ≡ x → (y : Bool) → ltb work (workWords budget) ≡ y
-        → (z : Bool) → (eqb (length ws) 0 || ltb 2048 (length ws)) ≡ z
-        → pick x (refusal 1 0 0) (pick y (refusal 2 0 0) (pick z (refusal 3 0 0) (readReply budget room (readQuestion ws)))) .code ≡ 6
+    no-fault : {A : Type 0} {c : ℕ} → IsFault c → c ≡ 6 → A
+    no-fault shape e = absurd (omega (arith, e))
+    no-fault name e = absurd (omega (arith, e))
+
+    run : Allowed budget work → length ws ≤ 2048 → (r : Read Question) → readQuestion ws ≡ r → readReply budget room r .code ≡ 6
         → (q : Question) × IsRun budget work ws q
-    tested true a y b z c e = absurd (omega (arith, e))
-    tested false a true b z c e = absurd (omega (arith, e))
-    tested false a false b true c e = absurd (omega (arith, e))
-    tested false a false b false c e =
-        let (more, high) = neither (eqb budget 0) (ltb 8192 budget) a in
-        let (none, few) = neither (eqb (length ws) 0) (ltb 2048 (length ws)) c in
-        let low : 1 ≤ budget = positive budget (eqb-false budget 0 more) in
-        run-of room low (ltb-false 8192 budget high) (ltb-false work (workWords budget) b) (ltb-false 2048 (length ws) few) (readQuestion ws) refl e
+    run a few (got q p vs) read e = (q, record { allowed = a; few = few; place = p; rest = vs; read = read })
+    run a few (fault c p) read e = no-fault (four-or-five ws read) e
+
+    go : {R : Reply} → Tried budget work room ws R → R .code ≡ 6 → (q : Question) × IsRun budget work ws q
+    go badBudget e = absurd (omega (arith, e))
+    go shortWork e = absurd (omega (arith, e))
+    go (badLength a) e = absurd (omega (arith, e))
+    go (isRead a few) e = run a few (readQuestion ws) refl e
 
 -- of both functions
 pub check-6-is-run : {budget : ℕ} {q w w′ s s′ ns : List ℕ} {r : ℕ} → Checked budget q w w′ s s′ ns r → r ≡ 6 → (Q : Question) × IsRun budget (length w) q Q

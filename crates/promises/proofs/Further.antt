@@ -6,7 +6,7 @@ use mathlib.Core.Path.{_≡_}
 use mathlib.Core.List.{List, [], _∷_}
 use mathlib.Core.Logic.{_↔_, _≢_}
 use mathlib.Core.Option.{Option, none, some}
-use Prim.Native.Nat.{ℕ, _≤_}
+use Prim.Native.Nat.{ℕ, _≤_, _<_}
 use lib.ListN.{length, take}
 use lib.Dec.{eqb}
 use Rattle.definition.specs.Syntax as syntax
@@ -15,9 +15,11 @@ use Rattle.definition.specs.Question.{Question, got, fault, readQuestion}
 use Rattle.definition.specs.Run.{Out, stop, M}
 use Rattle.definition.specs.Types.{apply}
 use Rattle.definition.specs.Rules.{Result, Here, judge}
-use Rattle.definition.specs.Reply.{Reply, refusal, answer, outReply, workWords, reply}
+use Rattle.definition.specs.Reply.{Reply, refusal, answer, outReply, reply}
 use Rattle.definition.specs.Memory.{Call, call}
 use Rattle.definition.specs.Host.{byteReply}
+use Rattle.laws.specs.Codes.{EndsDrawn, IsCode}
+use Rattle.laws.specs.Budgets.{Allowed, Settled, atBudget, replyWith, WithEnough}
 use Rattle.laws.specs.Count.{charged, Count, countTo, Passes, IsRun}
 use Rattle.laws.specs.Rings.{Leads, Ring, Applies}
 use Rattle.laws.proofs as laws-proofs
@@ -115,16 +117,66 @@ module _ {Γ : Ctx} {a : TyVar} {A : Ty} (ring : Ring Γ a) (leads : Leads Γ a 
   application-has-no-count = laws-proofs.Rings.application-has-no-count ring leads
 
 -- at every allowed budget: document 01's example; a ring of two; a ring that the run makes
-module _ (budget work room : ℕ) (low : 1 ≤ budget) (high : budget ≤ 8192) (enough : workWords budget ≤ work) where
+module _ (budget work room : ℕ) (allowed : Allowed budget work) where
   pub endless : reply budget work room (2 ∷ 0 ∷ 4 ∷ 35 ∷ 1 ∷ 4 ∷ 1 ∷ 3 ∷ 22 ∷ 1 ∷ 0 ∷ 0 ∷ 2 ∷ 4 ∷ 1 ∷ []) ≡ refusal 6 0 budget
-  endless = laws-proofs.Endless.endless budget work room low high enough
+  endless = laws-proofs.Endless.endless budget work room allowed
 
   pub ring-of-two :
       reply budget work room (2 ∷ 0 ∷ 10 ∷ 35 ∷ 1 ∷ 4 ∷ 2 ∷ 35 ∷ 2 ∷ 5 ∷ 1 ∷ 4 ∷ 1 ∷ 3 ∷ 22 ∷ 1 ∷ 0 ∷ 0 ∷ 2 ∷ 4 ∷ 1 ∷ []) ≡ refusal 6 0 budget
-  ring-of-two = laws-proofs.Endless.ring-of-two budget work room low high enough
+  ring-of-two = laws-proofs.Endless.ring-of-two budget work room allowed
 
   pub ring-made : reply budget work room (5 ∷ 0 ∷ 2 ∷ 34 ∷ 1 ∷ 0 ∷ 2 ∷ 4 ∷ 1 ∷ 5 ∷ 5 ∷ 4 ∷ 1 ∷ 4 ∷ 1 ∷ []) ≡ refusal 6 0 budget
-  ring-made = laws-proofs.Endless.ring-made budget work room low high enough
+  ring-made = laws-proofs.Endless.ring-made budget work room allowed
+
+-- # Order 5, of the definition
+
+-- every reply's code is in document 01's table, without 8, which is the telephone host's, and 16
+pub every-code : (budget work room : ℕ) (q : List ℕ) → IsCode (reply budget work room q .code)
+every-code = promises-proofs.Never16.every-code
+
+-- a judgement, and what a question asks, in any mode, with any budget l and n fresh names taken: no type error but those that are drawn
+pub judgement-drawn : (h : Here) (j : Judgement) (l n : ℕ) → EndsDrawn (judge h j l n)
+judgement-drawn = laws-proofs.Never16.judgement-drawn
+
+pub answer-drawn : (q : Question) (l n : ℕ) → EndsDrawn (answer q l n)
+answer-drawn = laws-proofs.Never16.answer-drawn
+
+-- the same question at two budgets that are allowed, with as much room. Whatever the code: at the smaller one the larger one's reply, where the budget
+-- is no less than its units, else 6 (`atBudget`)
+pub at-smaller-budget : {budget work budget′ work′ : ℕ} (room : ℕ) (ws : List ℕ) → Allowed budget work → Allowed budget′ work′ → budget′ ≤ budget
+    → reply budget′ work′ room ws ≡ atBudget budget′ (reply budget work room ws)
+at-smaller-budget = laws-proofs.OtherBudgets.at-smaller-budget
+
+-- where one of them gets none of 1, 2 and 6: the same reply at every larger one; at any, the same from its units on, and 6 exactly below
+module _ (budget work room : ℕ) (ws : List ℕ) {budget′ work′ : ℕ} (settled : Settled (reply budget work room ws .code)) (there : Allowed budget′ work′) where
+  is-allowed : Allowed budget work
+  is-allowed = laws-proofs.OtherBudgets.settled-allowed budget work room ws settled
+
+  pub same-at-larger-budget : budget ≤ budget′ → reply budget′ work′ room ws ≡ reply budget work room ws
+  same-at-larger-budget = laws-proofs.OtherBudgets.same-at-larger-budget budget work room ws is-allowed (settled .not-6) there
+
+  pub at-budget : reply budget′ work′ room ws ≡ atBudget budget′ (reply budget work room ws)
+  at-budget = laws-proofs.OtherBudgets.at-budget budget work room ws is-allowed (settled .not-6) there
+
+  pub six-exactly-below-its-units : (reply budget′ work′ room ws .code ≡ 6) ↔ (budget′ < reply budget work room ws .units)
+  six-exactly-below-its-units = laws-proofs.OtherBudgets.six-exactly-below-its-units budget work room ws is-allowed (settled .not-6) there
+
+-- a run with any budgets at all, past 8,192 too
+module _ (q : Question) (room : ℕ) {b b′ : ℕ} where
+  pub run-at-smaller-budget : b′ ≤ b → replyWith b′ room q ≡ atBudget b′ (replyWith b room q)
+  run-at-smaller-budget = laws-proofs.OtherBudgets.run-at-smaller-budget q room
+
+  pub run-same-at-larger-budget : replyWith b room q .code ≢ 6 → b ≤ b′ → replyWith b′ room q ≡ replyWith b room q
+  run-same-at-larger-budget = laws-proofs.OtherBudgets.run-same-at-larger-budget q room
+
+-- with any budgets and rooms that are enough a question gets one reply at most, and so one report; what a call gives that is run, other than 6
+-- and 7, is that one
+pub one-with-enough : {q : Question} {R R′ : Reply} → WithEnough q R → WithEnough q R′ → R ≡ R′
+one-with-enough = laws-proofs.OtherBudgets.one-with-enough
+
+pub with-enough : {budget work : ℕ} {ws : List ℕ} {q : Question} → IsRun budget work ws q → (room : ℕ)
+    → reply budget work room ws .code ≢ 6 → reply budget work room ws .code ≢ 7 → WithEnough q (reply budget work room ws)
+with-enough = laws-proofs.OtherBudgets.with-enough
 
 -- # A report's sections, "the part of the caller's report slice it fills, count excluded, empty where there is none", and its tree's nodes
 

@@ -1,11 +1,14 @@
--- The three demands as theorems: what is read after the definition (crates/definition/specs). Each restates the theorem behind its `=`.
+-- The three demands, and what orders of document 02 ask to be shown, as theorems: what is read after the definition (crates/definition/specs). Each restates the theorem behind its `=`.
 -- Further.antt has the other theorems of docs/THEOREMS.md, which says of each what it does not say. The words of the statements:
 --   Answered, Checked          what sporeflask_answer and sporeflask_check promise: crates/host/specs/Host.antt
 --   SameAnswers, SameChecks    two calls return and leave the same: specs/Common.antt
+--   SameReplies, SameTold      two calls return the same and leave the same reply, work apart; of both functions: specs/Common.antt
 --   AlikeAnswers, AlikeChecks  two calls return and leave the same but for paired names: specs/Common.antt
 --   IsRun                      a call that none of 1 to 5 refuses, and the question that its words are: crates/laws/specs/Count.antt
 --   Count                      the count of a run, a number or none: the same file
 --   countTo                    a question's count as far as a bound, computed: the same file
+--   Allowed                    a budget from 1 to 8,192, and work that is long enough for it: crates/laws/specs/Budgets.antt
+--   Settled                    a code that is none of 1, 2 and 6: the same file
 --   Passes                     a count is none, or larger than a budget: the same file
 --   AlikeQuestions             well-formed questions that are alike by a pairing of their names: crates/alike/specs/Alike.antt
 --   Pairing, itself            a pairing of variables' and of types' names; the one of every name with itself: the same file
@@ -16,7 +19,7 @@ use mathlib.Core.Path.{_≡_}
 use mathlib.Core.List.{List, map}
 use mathlib.Core.Logic.{_↔_, _≢_}
 use mathlib.Core.Option.{Option, some}
-use Prim.Native.Nat.{ℕ, _+_, _-_, _/_, _%_, _≤_}
+use Prim.Native.Nat.{ℕ, _+_, _-_, _/_, _%_, _≤_, _<_, min}
 use lib.ListN.{length, getD}
 use Rattle.definition.specs.Syntax.{Ty, Ctx}
 use Rattle.definition.specs.Question.{Question}
@@ -24,7 +27,8 @@ use Rattle.definition.specs.Run.{done, M}
 use Rattle.definition.specs.Types.{apply}
 use Rattle.definition.specs.Reply.{Reply, answer, reply}
 use Rattle.definition.specs.Memory.{reportAfter, workAfter, call}
-use Rattle.definition.specs.Host.{wordsOf, byteReply, numbers, hostCall}
+use Rattle.definition.specs.Host.{wordAt, wordsOf, byteReply, numbers, hostCall}
+use Rattle.laws.specs.Budgets.{Allowed, Settled}
 use Rattle.laws.specs.Count.{Count, countTo, Passes, IsRun}
 use Rattle.laws.proofs.Cases.{seen, asked, cases}
 use Rattle.laws.proofs.LaterPasses.{calls}
@@ -33,7 +37,7 @@ use Rattle.alike.specs.Alike.{Pairing, itself, AlikeQuestions, WellFormed}
 use Rattle.alike.proofs.Changes.{Change, pairing, change}
 use Rattle.alike.proofs as alike-proofs
 use Rattle.host.specs.Host.{Answered, Checked}
-use Rattle.promises.specs.Common.{SameChecks, SameAnswers, AlikeChecks, AlikeAnswers}
+use Rattle.promises.specs.Common.{SameReplies, SameChecks, SameAnswers, SameTold, AlikeChecks, AlikeAnswers}
 use Rattle.promises.proofs as promises-proofs
 
 -- # Demand 1: "Every question, made of any words, with any budget and buffers of any length, gets exactly one reply of document 01 and the
@@ -131,3 +135,36 @@ alike-itself = alike-proofs.WellFormed.alike-itself
 
 pub changed : (c : Change) {q : List ℕ} (h : WellFormed q) → AlikeQuestions (pairing c) q (change c (alike-itself h .labels) q)
 changed = alike-proofs.Changes.changed
+
+-- # Order 5: "The number that nobody gets. .. Show that no question in either mode draws 16"
+
+-- of every budget, work, room and list of words; neither returned nor told as the first of the four numbers
+pub never-16 : (budget work room : ℕ) (q : List ℕ) → reply budget work room q .code ≢ 16
+never-16 = promises-proofs.Never16.never-16
+
+pub check-never-16 : {budget : ℕ} {q w w′ s s′ ns : List ℕ} {r : ℕ} → Checked budget q w w′ s s′ ns r → (r ≢ 16) × (getD ns 0 0 ≢ 16)
+check-never-16 = promises-proofs.Never16.check-never-16
+
+pub answer-never-16 : {b s s′ : List ℕ} {r : ℕ} → Answered b s s′ r → (r ≢ 16) × (16 ≤ length s → wordAt s′ 0 ≢ 16)
+answer-never-16 = promises-proofs.Never16.answer-never-16
+
+-- ## "a question answered at one budget, with any code except 1, 2 and 6, gets the same reply at every larger one that document 01 allows, given
+-- the same report slice and enough work"
+
+-- sporeflask_check, called twice. At a smaller budget it is the same too, or 6: this exactly where the budget is less than the units.
+module _ {budget budget′ : ℕ} {q w v w₁ v₂ s s₁ s₂ n₁ n₂ : List ℕ} {r₁ r₂ : ℕ} (c : Checked budget q w w₁ s s₁ n₁ r₁)
+    (c′ : Checked budget′ q v v₂ s s₂ n₂ r₂) (settled : Settled r₁) (allowed : Allowed budget′ (length v)) where
+  pub check-same-at-larger-budget : budget ≤ budget′ → SameReplies r₁ r₂ n₁ n₂ s₁ s₂
+  check-same-at-larger-budget = promises-proofs.Budgets.check-same-at-larger-budget c c′ settled allowed
+
+  pub check-same-from-its-units : getD n₁ 3 0 ≤ budget′ → SameReplies r₁ r₂ n₁ n₂ s₁ s₂
+  check-same-from-its-units = promises-proofs.Budgets.check-same-from-its-units c c′ settled allowed
+
+  pub check-6-exactly-below-its-units : (r₂ ≡ 6) ↔ (budget′ < getD n₁ 3 0)
+  check-6-exactly-below-its-units = promises-proofs.Budgets.check-6-exactly-below-its-units c c′ settled allowed
+
+-- sporeflask_answer, whose budget is 384, and then sporeflask_check with the question's words, as much room and no smaller budget: one reply
+pub answer-same-at-larger-budget : {budget : ℕ} {b s s′ w w′ t t′ ns : List ℕ} {r r′ : ℕ} → Answered b s s′ r
+    → Checked budget (wordsOf b (length b / 4)) w w′ t t′ ns r′ → 16 ≤ length s → length b % 4 ≡ 0 → r ≢ 6
+    → length t ≡ min ((length s - 16) / 4) 4096 → Allowed budget (length w) → 384 ≤ budget → SameTold r r′ ns s s′ t t′
+answer-same-at-larger-budget = promises-proofs.Budgets.answer-same-at-larger-budget

@@ -13,9 +13,7 @@ pub one-check : {budget : ℕ} {q w s w₁ w₂ s₁ s₂ n₁ n₂ : List ℕ} 
     → SameChecks r₁ r₂ n₁ n₂ s₁ s₂ w₁ w₂
 one-check a b =
     record {
-      returns = a .returns ∙ sym (b .returns);
-      four = a .four ∙ sym (b .four);
-      report = a .report ∙ sym (b .report);
+      reply = record { returns = a .returns ∙ sym (b .returns); four = a .four ∙ sym (b .four); report = a .report ∙ sym (b .report) };
       work = a .work ∙ sym (b .work);
     }
 

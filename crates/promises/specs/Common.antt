@@ -1,23 +1,35 @@
--- What two calls of an exported function have in common: everything, for the same question; all but paired names, for questions alike.
+-- What two calls of exported functions have in common: everything, for the same question; the reply, at two budgets; all but paired names, for
+-- questions alike.
 use mathlib.Core.Path.{_≡_}
 use mathlib.Core.List.{List, _++_}
-use Prim.Native.Nat.{ℕ, _<_}
-use lib.ListN.{length}
+use Prim.Native.Nat.{ℕ, _*_, _<_}
+use lib.ListN.{length, drop}
 use Rattle.definition.specs.Reply.{Reply}
 use Rattle.definition.specs.Host.{bytesOf, numbers}
 use Rattle.alike.specs.Alike.{Pairing, AlikeReplies}
 
--- ---- The same: what is returned, where the four numbers went, the report and the work slice
+-- ---- The same: what is returned, where the four numbers went, the report slice; and the work slice
 
-pub record SameChecks (r r′ : ℕ) (ns ns′ s s′ w w′ : List ℕ) : Type 0 where
+pub record SameReplies (r r′ : ℕ) (ns ns′ s s′ : List ℕ) : Type 0 where
   pub returns : r ≡ r′
   pub four : ns ≡ ns′
   pub report : s ≡ s′
+
+pub record SameChecks (r r′ : ℕ) (ns ns′ s s′ w w′ : List ℕ) : Type 0 where
+  pub reply : SameReplies r r′ ns ns′ s s′
   pub work : w ≡ w′
 
 pub record SameAnswers (r r′ : ℕ) (s s′ : List ℕ) : Type 0 where
   pub returns : r ≡ r′
   pub reply : s ≡ s′
+
+-- one reply in both shapes: sporeflask_answer returned r and left the bytes s as s′, sporeflask_check returned r′ and left the four numbers ns and
+-- the words t as t′
+pub record SameTold (r r′ : ℕ) (ns s s′ t t′ : List ℕ) : Type 0 where
+  pub returns : r ≡ r′
+  pub report : List ℕ
+  pub bytes : s′ ≡ bytesOf (ns ++ report) ++ drop (4 * length (ns ++ report)) s
+  pub words : t′ ≡ report ++ drop (length report) t
 
 -- ---- Alike, of the replies R and R′ that the two questions get: both are handed over, and words that are the same stand behind them
 

@@ -59,8 +59,8 @@ static uint32_t by_sizes(const struct call *c) {
 static void hold_numbers(const struct call *c, uint32_t code) {
     const uint32_t at = c->numbers[1], length = c->numbers[2], units = c->numbers[3], refused = by_sizes(c);
     HOLD(c->numbers[0] == code);
-    HOLD(refused ? code == refused : code == 0 || (code >= 4 && code <= 7) || (code >= 11 && code <= 17));
-    HOLD(code >= 4 && code <= 5 ? at <= c->question_words : at == 0 || code == 11 || code == 14 || code == 16);
+    HOLD(refused ? code == refused : code == 0 || (code >= 4 && code <= 7) || (code >= 11 && code <= 15) || code == 17);
+    HOLD(code >= 4 && code <= 5 ? at <= c->question_words : at == 0 || code == 11 || code == 14);
     HOLD(code != SPOREFLASK_RESERVED_NAME || (at < c->question_words && c->question[at] >= SPOREFLASK_FIRST_FRESH_NAME));
     HOLD(reports(code) ? length <= c->report_words : code == SPOREFLASK_NO_ROOM ? length > c->report_words : length == 0);
     HOLD(code >= 1 && code <= 5 ? units == 0 : code == SPOREFLASK_BUDGET ? units == c->budget : units >= 1 && units <= c->budget);
@@ -84,16 +84,37 @@ static uint32_t call_check(const struct call *c, uint8_t fill) {
     return code;
 }
 
+/* A first call's four numbers and report. */
+static uint32_t kept[MOST_REPORT], numbers[4];
+
+static void hold_same(const struct call *c) {
+    HOLD(memcmp(numbers, c->numbers, 16) == 0);
+    HOLD(!reports(numbers[0]) || memcmp(kept, c->report, 4 * (size_t)numbers[2]) == 0);
+}
+
 /* Two calls with other words in work and report must give the same. */
 static void ask_twice(const struct call *c, uint8_t fill) {
-    static uint32_t kept[MOST_REPORT], numbers[4];
     uint32_t code = call_check(c, fill);
     size_t written = reports(code) ? c->numbers[2] : 0;
     memcpy(kept, c->report, 4 * written);
     memcpy(numbers, c->numbers, 16);
     look_at_report(code, numbers[3], kept, written);
-    HOLD(call_check(c, (uint8_t)(fill + 1)) == code);
-    HOLD(memcmp(numbers, c->numbers, 16) == 0 && memcmp(kept, c->report, 4 * written) == 0);
+    call_check(c, (uint8_t)(fill + 1));
+    hold_same(c);
+}
+
+/* Order 5: at another budget, with as much room, the same where it is no less than the units, 6 where it is less; of 1, 2 and 6 it says nothing. */
+static void ask_at_another_budget(struct call *c, const struct chosen *to) {
+    const uint32_t code = numbers[0], units = numbers[3], budgets[] = {units - 1, units, units + 1, SPOREFLASK_MOST_BUDGET};
+    c->budget = budgets[to->fill[2] % 4];
+    if (code == SPOREFLASK_BAD_BUDGET || code == SPOREFLASK_SHORT_WORK || code == SPOREFLASK_BUDGET) return;
+    if (c->budget == 0 || c->budget > SPOREFLASK_MOST_BUDGET) return;
+    c->work_words = SPOREFLASK_WORK_WORDS(c->budget);
+    c->work = place(work_arena, 4 * c->work_words, to->sides & 2, 0);
+    if (call_check(c, to->fill[3]) == SPOREFLASK_BUDGET)
+        HOLD(c->budget < units);
+    else
+        hold_same(c);
 }
 
 static void fuzz_check(const struct chosen *to, const uint8_t *bytes, size_t count) {
@@ -108,6 +129,7 @@ static void fuzz_check(const struct chosen *to, const uint8_t *bytes, size_t cou
     c.report = place(report_arena, 4 * c.report_words, to->sides & 4, 0);
     c.numbers = place(numbers_arena, 16, to->sides & 8, 0);
     ask_twice(&c, to->fill[0]);
+    ask_at_another_budget(&c, to);
     HOLD(memcmp(question, bytes, 4 * c.question_words) == 0);
 }
 
@@ -139,10 +161,10 @@ static void fuzz_answer(const struct chosen *to, const uint8_t *bytes, size_t co
         HOLD(all(reply, size, fill));
         return;
     }
-    uint32_t numbers[4];
-    memcpy(numbers, reply, 16);
-    size_t written = reports(code) ? 4 * (size_t)numbers[2] : 0;
-    HOLD(numbers[0] == code && 16 + written <= size);
+    uint32_t told[4];
+    memcpy(told, reply, 16);
+    size_t written = reports(code) ? 4 * (size_t)told[2] : 0;
+    HOLD(told[0] == code && 16 + written <= size);
     HOLD(all(reply + 16 + written, size - 16 - written, fill));
     if (count % 4 == 0)
         hold_to_check(bytes, count, reply, size, code, written);

@@ -1,4 +1,5 @@
-/* Defects planted round both functions, by the linker's --wrap: the fuzz target must find each. FUZZ_PLANTED names the one that is on.
+/* Defects planted round both functions, by the linker's --wrap: the fuzz target must find each, and tests/host/compare.c two of them
+   (tests/steps_fail). FUZZ_PLANTED names the one that is on.
    Compiled without sanitizers, as the archive is. */
 #include <stdlib.h>
 #include <string.h>
@@ -26,6 +27,9 @@ uint32_t __wrap_sporeflask_check(const uint32_t *question, size_t question_words
     if (planted("numbers-written-past")) numbers[4] = 0;
     uint32_t code = __real_sporeflask_check(question, question_words, budget, work, work_words, report, report_words, numbers);
     if (planted("code-unknown") && code == 4) numbers[0] = code = 9;
+    if (planted("code-sixteen") && code == 15) numbers[0] = code = 16;
+    if (planted("six-at-units") && code == 0 && numbers[3] == budget && budget > 1) numbers[0] = code = 6, numbers[2] = 0;
+    if (planted("units-by-budget") && code == 0 && budget > 5000) numbers[3] += 1;
     if (planted("numbers-apart")) numbers[0] ^= 1;
     if (planted("units-past-budget") && code == 0) numbers[3] = budget + 1;
     if (planted("units-from-work") && code == 0 && numbers[3] > 1) numbers[3] -= held & 1;

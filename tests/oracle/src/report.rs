@@ -167,6 +167,10 @@ pub fn section_words(types: [Option<&Type>; 2]) -> Vec<u32> {
     out
 }
 
+/// What InstantiationError would have in the place of a code. No question draws it (never-16, crates/promises/proofs/Main.antt): one that did
+/// would differ here from every reply.
+pub const UNDRAWN: u32 = u32::MAX;
+
 /// A type error's code, place and two types.
 pub fn error_parts(error: &TypeError) -> (u32, u32, [Option<&Type>; 2]) {
     match error {
@@ -175,7 +179,7 @@ pub fn error_parts(error: &TypeError) -> (u32, u32, [Option<&Type>; 2]) {
         TypeError::TypeApplicationError { actual, .. } => (13, 0, [Some(actual), None]),
         TypeError::OccursCheck { var, ty, .. } => (14, name_number(var), [Some(ty), None]),
         TypeError::SubtypingError { left, right, .. } => (15, 0, [Some(left), Some(right)]),
-        TypeError::InstantiationError { var, ty, .. } => (16, name_number(var), [Some(ty), None]),
+        TypeError::InstantiationError { .. } => (UNDRAWN, 0, [None, None]),
         TypeError::ParameterMismatch { written, applied } => {
             (17, 0, [Some(written), Some(applied)])
         }

@@ -11,7 +11,7 @@ use crate::decode::{error_types, report, Node};
 use crate::original_run::{ask, Told};
 use crate::question::{Bind, Question, Ty};
 use crate::reading::Cursor;
-use crate::report::RULES;
+use crate::report::{RULES, UNDRAWN};
 
 type Held = Result<(), String>;
 
@@ -118,13 +118,16 @@ fn error_parts(error: &TypeError) -> (u32, Option<&String>, [Option<&Type>; 2]) 
         TypeError::SubtypingError { left, right, expr: None } => {
             (15, None, [Some(left), Some(right)])
         }
-        TypeError::InstantiationError { var, ty, expr: None } => (16, Some(var), [Some(ty), None]),
+        TypeError::InstantiationError { .. } => (UNDRAWN, None, [None, None]),
         _ => unreachable!("the Rust never fills in an expr"),
     }
 }
 
 fn hold_error(reply: &Reply, error: &TypeError) -> Held {
     let (code, name, types) = error_parts(error);
+    if code == UNDRAWN {
+        return Err("the original draws InstantiationError".to_string());
+    }
     same("code", reply.code, code)?;
     same("place", reply.at, name.map_or(0, |name| name_number(name)))?;
     let ours = error_types(&reply.report).map_err(|fault| format!("unreadable: {fault:?}"))?;

@@ -1,0 +1,97 @@
+-- "no question in either mode draws 16": every reply's code is in the table without 16, and no call of a function for C returns or tells 16.
+use mathlib.Core.Path.{_≡_, refl}
+use mathlib.Core.Logic.{_≢_}
+use mathlib.Core.Bool.{Bool, true, false, _&&_, _||_}
+use mathlib.Core.List.{List, [], _∷_, _++_}
+use Prim.Native.Nat.{ℕ, _-_, _/_, _≤_, min}
+use native.Mathlib.Omega.{arith}
+use lib.ListN.{length, getD}
+use lib.Dec.{T, ltb, eqb, leb}
+use mir.Facts.{no-ltb}
+use borrow.Author.Tests.{eqb-true, leb-true}
+use Rattle.definition.specs.Syntax.{pick}
+use Rattle.definition.specs.Question.{Read, got, fault, Question, readQuestion}
+use Rattle.definition.specs.Reply.{Reply, refusal, readReply, reply}
+use Rattle.definition.specs.Memory.{call}
+use Rattle.definition.specs.Host.{wordAt, wordsOf, bytesOf, deskReply, byteReply, numbers, HostCall, hostCall}
+use Rattle.laws.specs.Codes.{replyCodes, isOneOf, IsCode}
+use Rattle.laws.specs.Budgets.{replyWith}
+use Rattle.laws.proofs.Steps.{is-false}
+use Rattle.laws.proofs.Never16.{pick-coded, run-coded, not-16}
+use Rattle.laws.proofs.Tried.{Tried, badBudget, shortWork, badLength, isRead, tried}
+use Rattle.alike.proofs.WellFormed.{IsFault, shape, name, four-or-five}
+use Rattle.host.specs.Host.{Answered, Checked}
+
+-- ## Replies
+
+fault-coded : {c : ℕ} → IsFault c → IsCode c
+fault-coded shape = record { among = tt }
+fault-coded name = record { among = tt }
+
+pub every-code : (budget work room : ℕ) (q : List ℕ) → IsCode (reply budget work room q .code)
+unfolding readReply replyWith refusal
+every-code budget work room q = go (tried budget work room q)
+  where
+    read : (r : Read Question) → readQuestion q ≡ r → IsCode (readReply budget room r .code)
+    read (got Q p rest) e = run-coded budget room Q
+    read (fault c p) e = fault-coded (four-or-five q e)
+
+    go : {R : Reply} → Tried budget work room q R → IsCode (R .code)
+    go badBudget = record { among = tt }
+    go shortWork = record { among = tt }
+    go (badLength a) = record { among = tt }
+    go (isRead a few) = read (readQuestion q) refl
+
+pub never-16 : (budget work room : ℕ) (q : List ℕ) → reply budget work room q .code ≢ 16
+never-16 budget work room q = not-16 (every-code budget work room q)
+
+-- ## sporeflask_check: neither returned nor the first of the four numbers
+
+pub check-never-16 : {budget : ℕ} {q w w′ s s′ ns : List ℕ} {r : ℕ} → Checked budget q w w′ s s′ ns r → (r ≢ 16) × (getD ns 0 0 ≢ 16)
+unfolding call numbers
+check-never-16 {budget} {q} {w} {s = s} c =
+    let n : reply budget (length w) (length s) q .code ≢ 16 = never-16 budget (length w) (length s) q in
+    (rw (c .returns) n, rw (c .four) n)
+
+-- ## sporeflask_answer: neither returned nor the first word of the reply
+
+byte-coded : (room : ℕ) (b : List ℕ) → IsCode (byteReply room b .code)
+unfolding byteReply deskReply refusal
+byte-coded room b = pick-coded _ _ _ (every-code 384 16384 (min room 4096) (wordsOf b (length b / 4))) (record { among = tt })
+
+-- a number that is one of some is no larger than what none of them passes
+allUpTo : List ℕ → ℕ → Bool
+allUpTo [] m = true
+allUpTo (d ∷ ds) m = leb d m && allUpTo ds m
+
+no-larger : {c : ℕ} (ds : List ℕ) {m : ℕ} → T (allUpTo ds m) → T (isOneOf c ds) → c ≤ m
+unfolding allUpTo
+no-larger [] s k = absurd k
+no-larger {c} (d ∷ ds) {m} s k = go (eqb c d) refl (leb d m) refl s k (no-larger ds)
+  where
+    go : (x : Bool) → eqb c d ≡ x → (y : Bool) → leb d m ≡ y → T (y && allUpTo ds m) → T (x || isOneOf c ds)
+        → (T (allUpTo ds m) → T (isOneOf c ds) → c ≤ m) → c ≤ m
+    go x e false f s k rest = absurd s
+    go true e true f s k rest = rw (eqb-true c d e) (leb-true d m f)
+    go false e true f s k rest = rest s k
+
+-- so that a code's first byte is all of it
+first-word : {c : ℕ} (ws rest : List ℕ) → IsCode c → wordAt (bytesOf (c ∷ ws) ++ rest) 0 ≡ c
+unfolding wordAt bytesOf allUpTo
+first-word {c} ws rest h = let small : c ≤ 17 = no-larger replyCodes tt (h .among) in omega arith
+
+pub answer-never-16 : {b s s′ : List ℕ} {r : ℕ} → Answered b s s′ r → (r ≢ 16) × (16 ≤ length s → wordAt s′ 0 ≢ 16)
+unfolding hostCall numbers pick
+answer-never-16 {b} {s} a =
+    (rw (a .returns) (returned (ltb (length s) 16) _), λ h. rw (a .reply, is-false (ltb (length s) 16) (no-ltb h), first-word _ _ code) (not-16 code))
+  where
+    R : Reply
+    R = byteReply ((length s - 16) / 4) b
+
+    code : IsCode (R .code)
+    code = byte-coded ((length s - 16) / 4) b
+
+    returned : (short : Bool) (t : List ℕ)
+        → pick {A = HostCall} short (record { returns = 8; replySlice = s }) (record { returns = R .code; replySlice = t }) .returns ≢ 16
+    returned true t e = absurd (omega (arith, e))
+    returned false t e = not-16 code e
