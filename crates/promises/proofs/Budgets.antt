@@ -13,6 +13,7 @@ use Rattle.definition.specs.Host.{wordsOf, numbers, hostCall}
 use Rattle.laws.specs.Budgets.{Allowed, Settled}
 use Rattle.laws.proofs.Steps.{is-false}
 use Rattle.laws.proofs.OtherBudgets.{settled-allowed, same-at-larger-budget, same-from-its-units, six-exactly-below-its-units}
+use Rattle.replies.proofs.Lengths.{replies}
 use Rattle.sized.proofs.Answering.{whole}
 use Rattle.host.specs.Host.{Answered, Checked}
 use Rattle.promises.specs.Common.{SameReplies, SameTold}
@@ -53,7 +54,7 @@ module _ {budget budget′ : ℕ} {q w v w₁ v₂ s s₁ s₂ n₁ n₂ : List 
 pub answer-same-at-larger-budget : {budget : ℕ} {b s s′ w w′ t t′ ns : List ℕ} {r r′ : ℕ} → Answered b s s′ r
     → Checked budget (wordsOf b (length b / 4)) w w′ t t′ ns r′ → 16 ≤ length s → length b % 4 ≡ 0 → r ≢ 6
     → length t ≡ min ((length s - 16) / 4) 4096 → Allowed budget (length w) → 384 ≤ budget → SameTold r r′ ns s s′ t t′
-unfolding call hostCall reportAfter workWords pick
+unfolding call hostCall numbers reportAfter workWords pick
 answer-same-at-larger-budget {budget} {b} {s} {w = w} {t = t} a c h k not-6 room there more =
     let words : List ℕ = wordsOf b (length b / 4) in
     let desk : Reply = reply 384 16384 (length t) words in
@@ -64,6 +65,7 @@ answer-same-at-larger-budget {budget} {b} {s} {w = w} {t = t} a c h k not-6 room
     record {
       returns = returned ∙ rw (← e) (sym (c .returns));
       report = desk .report;
+      written = rw (returned, c .four, e) (replies 384 16384 (length t) words .many);
       bytes = replied ∙ rw (c .four, e);
       words = c .report ∙ rw e;
     }

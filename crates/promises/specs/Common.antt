@@ -3,7 +3,9 @@
 use mathlib.Core.Path.{_≡_}
 use mathlib.Core.List.{List, _++_}
 use Prim.Native.Nat.{ℕ, _*_, _<_}
-use lib.ListN.{length, drop}
+use lib.ListN.{length, getD, drop}
+use lib.Dec.{eqb}
+use Rattle.definition.specs.Syntax.{pick}
 use Rattle.definition.specs.Reply.{Reply}
 use Rattle.definition.specs.Host.{bytesOf, numbers}
 use Rattle.alike.specs.Alike.{Pairing, AlikeReplies}
@@ -23,11 +25,12 @@ pub record SameAnswers (r r′ : ℕ) (s s′ : List ℕ) : Type 0 where
   pub returns : r ≡ r′
   pub reply : s ≡ s′
 
--- one reply in both shapes: sporeflask_answer returned r and left the bytes s as s′, sporeflask_check returned r′ and left the four numbers ns and
--- the words t as t′
+-- one reply by both functions: sporeflask_answer returned r and left the reply s as s′, sporeflask_check returned r′ and left the four numbers ns
+-- and the report slice t as t′. Both wrote one report, none on 7, behind the four numbers or alone; what stood past it stays.
 pub record SameTold (r r′ : ℕ) (ns s s′ t t′ : List ℕ) : Type 0 where
   pub returns : r ≡ r′
   pub report : List ℕ
+  pub written : length report ≡ pick (eqb r 7) 0 (getD ns 2 0)
   pub bytes : s′ ≡ bytesOf (ns ++ report) ++ drop (4 * length (ns ++ report)) s
   pub words : t′ ≡ report ++ drop (length report) t
 
