@@ -23,7 +23,7 @@ def first_bytes(number, budget, work, room):
     more = work - (32 * budget + 4096)
     reply = number // 16 % 16 if number % 16 == 5 else 16 + 4 * min(room, 4096) + number % 4
     return struct.pack("<HBBHHbBBBBBBB", min(budget, 65535), 3, number % 32, min(room, 65535), reply,
-                       max(-128, min(more, 127)), number // 32 % 16, 0, number % 256, number // 7 % 256, 0, 0, 0)
+                       max(-128, min(more, 127)), number // 32 % 16, 0, number // 3 % 4, number % 256, number // 7 % 256, 0, 0)
 
 
 def sizes(number, answer):

@@ -32,7 +32,8 @@ struct chosen {
     int8_t more_work;      /* words of work beyond what the budget needs */
     uint8_t offsets;       /* how far the two byte slices lie from their guard page: 2 bits each */
     uint8_t high_budget;   /* the budget's high half */
-    uint8_t fill[5];       /* what work and the report hold before */
+    uint8_t elsewhere;     /* at which other budget sporeflask_check is asked too */
+    uint8_t fill[4];       /* what work and the report hold before */
 };
 _Static_assert(sizeof(struct chosen) == 16, "an input's first bytes");
 

@@ -176,7 +176,7 @@ static void change_sizes(struct chosen *to) {
     case 3: to->report_words = (uint16_t)roll(roll(2) ? 64 : 1 << 16); break;
     case 4: to->report_words = (uint16_t)(to->report_words + roll(3) - 1); break;
     case 5: to->reply_bytes = (uint16_t)roll(roll(2) ? 128 : 17000); break;
-    case 6: to->sides = (uint8_t)roll(32), to->offsets = (uint8_t)roll(16); break;
+    case 6: to->sides = (uint8_t)roll(32), to->offsets = (uint8_t)roll(16), to->elsewhere = (uint8_t)roll(4); break;
     default: to->functions = (uint8_t)roll(4), to->high_budget = roll(32) == 0;
     }
 }

@@ -25,10 +25,15 @@ uint32_t __wrap_sporeflask_check(const uint32_t *question, size_t question_words
     if (planted("work-written-past")) work[work_words] = 0;
     if (planted("report-written-past")) memset(report, 0xFF, 4 * report_words + 1);
     if (planted("numbers-written-past")) numbers[4] = 0;
+    /* without room nothing is written, and the units are told all the same */
+    if (planted("six-at-units") && __real_sporeflask_check(question, question_words, budget, work, work_words, report, 0, numbers) == 7 &&
+        numbers[3] == budget) {
+        numbers[2] = 0;
+        return numbers[0] = 6;
+    }
     uint32_t code = __real_sporeflask_check(question, question_words, budget, work, work_words, report, report_words, numbers);
     if (planted("code-unknown") && code == 4) numbers[0] = code = 9;
     if (planted("code-sixteen") && code == 15) numbers[0] = code = 16;
-    if (planted("six-at-units") && code == 0 && numbers[3] == budget && budget > 1) numbers[0] = code = 6, numbers[2] = 0;
     if (planted("units-by-budget") && code == 0 && budget > 5000) numbers[3] += 1;
     if (planted("numbers-apart")) numbers[0] ^= 1;
     if (planted("units-past-budget") && code == 0) numbers[3] = budget + 1;
