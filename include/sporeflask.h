@@ -158,11 +158,11 @@ enum sporeflask_entry {
        0 if none), then five sections, each after its count: input context, left type, right type, output context,
        result type
 
-   With a larger budget, the same room and enough work, the reply is the same on every code but BAD_BUDGET, SHORT_WORK
-   and BUDGET. With a smaller one it is the same, or BUDGET: this exactly where the budget is less than these units.
-
    On UNBOUND_VARIABLE to PARAMETER_MISMATCH: two type sections, each after its count, empty where there is no type. The
-   code's line says which types they hold. Otherwise no report. */
+   code's line says which types they hold. Otherwise no report.
+
+   At another budget, from 1 to SPOREFLASK_MOST_BUDGET, with the same room and enough work for it, a reply other than
+   BAD_BUDGET, SHORT_WORK and BUDGET is the same where the budget is no less than its units; below them it is BUDGET. */
 
 /* The first of the four numbers. `at` is 0 unless its line says otherwise. */
 enum sporeflask_code {
@@ -180,7 +180,7 @@ enum sporeflask_code {
     SPOREFLASK_TYPE_APPLICATION_ERROR = 13, /* what was given a type is no Forall: its type; none */
     SPOREFLASK_OCCURS_CHECK = 14,           /* at: the name; the type that has it; none */
     SPOREFLASK_SUBTYPING_ERROR = 15,        /* the left type, which is there; the right one, which is wanted */
-                                            /* no question draws 16: never-16, docs/THEOREMS.md */
+                                            /* 16: no question draws it (never-16, docs/THEOREMS.md) */
     SPOREFLASK_PARAMETER_MISMATCH = 17      /* strict mode: the parameter's type as written; the one wanted */
 };
 

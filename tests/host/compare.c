@@ -117,12 +117,13 @@ static void hold_answer(void) {
 }
 
 /* Makes the frame that of its question at another budget, one of some that vary from frame to frame. Order 5: the same reply where the budget
-   is no less than its units, 6 where it is less. False where the frame tells of no other budget (1, 2, 6) or this is not allowed. */
+   is no less than the reply's units, 6 where it is less. False where this budget is not allowed, or where the frame does not tell of it: 1 and 2
+   of none, 6 of no larger one. */
 static bool at_another_budget(void) {
-    uint32_t *reply = frame.wanted.reply, units = reply[3], most = MOST_BUDGET;
-    const uint32_t budgets[] = {units - 1, units, units + 1, frame.sizes.budget + 1, 1, most};
+    uint32_t *reply = frame.wanted.reply, units = reply[3], given = frame.sizes.budget, most = MOST_BUDGET;
+    const uint32_t budgets[] = {units - 1, units, units + 1, given - 1, given + 1, 1, most};
     uint32_t budget = budgets[frames % (sizeof budgets / sizeof *budgets)];
-    if (reply[0] == 1 || reply[0] == 2 || reply[0] == 6 || budget == 0 || budget > most) return false;
+    if (reply[0] == 1 || reply[0] == 2 || (reply[0] == 6 && budget >= given) || budget == 0 || budget > most) return false;
     frame.sizes.budget = budget;
     frame.sizes.work = 32 * budget + 4096;
     if (budget < units) {

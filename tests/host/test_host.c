@@ -190,7 +190,7 @@ static void sizes(void) {
     }
 }
 
-/* Every question at every budget up to its units and one more: 6 below them, and from them on the same reply. */
+/* Every question at every budget up to its units and one more: 6 below them, and from them on the same reply; the ring at some. */
 static void around_units(void) {
     for (const struct asked *q = ASKED; q < ASKED + COUNT(ASKED); q++) {
         const uint32_t *report = whole_report(q->words, q->count), most = q->reply[0] == 6 ? 28 : q->reply[3];
@@ -299,7 +299,7 @@ static void numbers_of_kinds_and_codes(void) {
                                    SPOREFLASK_BUDGET,    SPOREFLASK_NO_ROOM,       SPOREFLASK_SHORT_REPLY};
     static const int ERRORS[] = {SPOREFLASK_UNBOUND_VARIABLE,       SPOREFLASK_APPLICATION_TYPE_ERROR,
                                  SPOREFLASK_TYPE_APPLICATION_ERROR, SPOREFLASK_OCCURS_CHECK,
-                                 SPOREFLASK_SUBTYPING_ERROR};
+                                 SPOREFLASK_SUBTYPING_ERROR}; /* no question draws 16: never-16, docs/THEOREMS.md */
     static const int SIZES[][2] = {
         {SPOREFLASK_MOST_WORDS, 2048},   {SPOREFLASK_MOST_BUDGET, 8192},        {SPOREFLASK_DESK_BUDGET, 384},
         {SPOREFLASK_DESK_WORK, 16384},   {SPOREFLASK_DESK_REPORT, 4096},        {SPOREFLASK_REPLY_BYTES, 16},

@@ -137,7 +137,7 @@ module _ {P : Pairing} where
     addR : {Γ Γ′ : Ctx} {b b′ : Binding} → CtxR P Γ Γ′ → BindingR P b b′ → CtxR P (Γ ▹ b from h) (Γ′ ▹ b′ from h)
     addR c b = pushR c (newR b)
 
-    -- of monotypes alone: of others InstantiationError would be drawn
+    -- of monotypes alone: others draw InstantiationError, which no question does
     solveR : (s : Side) {Γ Γ′ : Ctx} {a a′ : TyVar} {A A′ : Ty} → CtxR P Γ Γ′ → NameR P a a′ → TyR P A A′ → isMono A ≡ true
         → RunsAlike P (FiredR P) (solve h s Γ a A) (solve h s Γ′ a′ A′)
     unfolding solve pick

@@ -16,7 +16,8 @@ use Rattle.definition.specs.Memory.{workAfter, call}
 use Rattle.reading.specs.Questions.{Accepted}
 use Rattle.reading.specs.declared.Question.{Question}
 use Rattle.replies.specs.declared.Reply.{Reply}
-use Rattle.laws.proofs.Codes.{Late, error, error-late}
+use Rattle.laws.specs.Codes.{Late}
+use Rattle.laws.proofs.Codes.{error, error-late}
 use Rattle.entry.specs.Entry.{Replied, outcome, Gives, Cleared}
 
 -- ## A run's reply is none of 1 to 5

@@ -1,6 +1,6 @@
 -- The codes of type errors lie from 11 to the last: none is a refusal's, and none is NoRoom's.
 use mathlib.Core.Path.{_≡_}
-use mathlib.Core.Bool.{false, _&&_}
+use mathlib.Core.Bool.{false}
 use mathlib.Core.Logic.{_≢_}
 use Prim.Native.Nat.{ℕ, _≤_, _<_}
 use native.Mathlib.Omega.{arith}
@@ -8,6 +8,7 @@ use lib.Dec.{leb, eqb, le→leb}
 use mir.Facts.{no-leb, no-eqb}
 use Rattle.definition.specs.Syntax.{Error, UnboundVariable, ApplicationTypeError, TypeApplicationError, OccursCheck, SubtypingError, InstantiationError, ParameterMismatch}
 use Rattle.definition.specs.Reply.{errorCode, lastError}
+use Rattle.laws.specs.Codes.{Late}
 use Rattle.laws.proofs.Steps.{is-true, is-false}
 
 pub record IsError (c : ℕ) : Type 0 where
@@ -23,10 +24,6 @@ error OccursCheck = record { least = omega arith; most = omega arith }
 error SubtypingError = record { least = omega arith; most = omega arith }
 error InstantiationError = record { least = omega arith; most = omega arith }
 error ParameterMismatch = record { least = omega arith; most = omega arith }
-
--- none of 1 to 5
-abbrev pub Late : ℕ → Type 0
-Late c = (leb 1 c && leb c 5) ≡ false
 
 pub error-late : {c : ℕ} → IsError c → Late c
 error-late {c} h =

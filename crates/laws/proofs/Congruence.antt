@@ -1,4 +1,4 @@
--- One theorem over all rules: a relation between runs that giving, refusing with what is drawn, taking a fresh name, charging and binding keep,
+-- One theorem over all rules: a relation between runs that giving, refusing with a listed code, taking a fresh name, charging and binding keep,
 -- every rule keeps; and where running out keeps it, so do application, judgements and questions.
 use mathlib.Core.Path.{_≡_, refl}
 use Prim.Native.Nat.{ℕ, zero, suc}
@@ -11,15 +11,15 @@ use Rattle.definition.specs.Contexts.{kSETVar, find}
 use Rattle.definition.specs.Types.{solutionOr, applyStep, applyTo, apply, subst, sameName, isMono, occurs}
 use Rattle.definition.specs.Question.{Question}
 use Rattle.definition.specs.Rules.{Fired, Result, Judge, Here, outside, Rules, judgeStep, judgeTo, judge, closes, _orElse_, when, on, onBoth, solve, reach, instArrow, instForall, instRule, subArr, subAllR, subAllL, subInst, subtypeRule, parameter, chkLam, chkAll, chkSub, checkRule, infAppArr, infAppETVar, inferAppRule, infVar, infLam, infApp, infLet, branch, infIf, infBoth, infEq, infBinOp, infAnn, infTAbs, instantiate, infTApp, inferRule, rule}
-use Rattle.definition.specs.Reply.{answer}
-use Rattle.laws.specs.Codes.{Drawn}
+use Rattle.definition.specs.Reply.{errorCode, answer}
+use Rattle.laws.specs.Codes.{Listed}
 
 abbrev pub Rel : Type 1
 Rel = (A : Type 0) → M A → M A → Type 0
 
 pub record Compatible (R : Rel) : Type 1 where
   pub giveR : {A : Type 0} (a : A) → R A (give a) (give a)
-  pub refuseR : {A : Type 0} (e : TypeError) → Drawn (e .error) → R A (refuse e) (refuse e)
+  pub refuseR : {A : Type 0} (e : TypeError) → Listed (errorCode (e .error)) → R A (refuse e) (refuse e)
   pub freshR : R TyVar fresh fresh
   pub chargeR : (c : ℕ) → R (Unit {0}) (charge c) (charge c)
   pub bindR : {A B : Type 0} {m m′ : M A} {f f′ : A → M B} → R A m m′ → ((a : A) → R B (f a) (f′ a)) → R B (m >>= f) (m′ >>= f′)
@@ -103,9 +103,9 @@ module _ (R : Rel) (c : Compatible R) where
 
     -- ## inst_l and inst_r
 
-    -- of monotypes alone: of others InstantiationError would be drawn
+    -- of monotypes alone: of others InstantiationError is drawn, whose code is not listed
     solveR : (s : Side) (Γ : Ctx) (a : TyVar) (A : Ty) → isMono A ≡ true → R Fired (solve h s Γ a A) (solve h s Γ a A)
-    unfolding solve pick
+    unfolding solve pick errorCode
     solveR s Γ a A e = rw e (pickR (occurs a A) (c .refuseR _ tt) (closesR _ _))
 
     instForallR : (s : Side) (Γ : Ctx) (a b : TyVar) (A : Ty) → R Fired (instForall h judge s Γ a b A) (instForall h judge′ s Γ a b A)
@@ -130,7 +130,7 @@ module _ (R : Rel) (c : Compatible R) where
     subInstR r s Γ T a = oneR _ _
 
     subtypeRuleR : (Γ : Ctx) (A B : Ty) → R Fired (subtypeRule h judge Γ A B) (subtypeRule h judge′ Γ A B)
-    unfolding subtypeRule subArr subAllR subAllL
+    unfolding subtypeRule subArr subAllR subAllL errorCode
     subtypeRuleR Γ A B =
         orElseR (whenR _ (closesR _ _))
         (orElseR (whenR _ (closesR _ _))
@@ -145,7 +145,7 @@ module _ (R : Rel) (c : Compatible R) where
     -- ## check
 
     parameterR : (b : Bool) (Γ : Ctx) (A P : Ty) → R (Unit {0}) (parameter b Γ A P) (parameter b Γ A P)
-    unfolding parameter
+    unfolding parameter errorCode
     parameterR false Γ A P = c .giveR _
     parameterR true Γ A P = c .bindR (applyR _ _) (λ P′. pickR _ (c .giveR _) (c .refuseR _ tt))
 
@@ -161,7 +161,7 @@ module _ (R : Rel) (c : Compatible R) where
     -- ## infer_app
 
     inferAppRuleR : (Γ : Ctx) (e : Expr) (A : Ty) → R Fired (inferAppRule h judge Γ e A) (inferAppRule h judge′ Γ e A)
-    unfolding inferAppRule infAppArr infAppETVar
+    unfolding inferAppRule infAppArr infAppETVar errorCode
     inferAppRuleR Γ e A =
         orElseR (onArmR _ (λ P. oneR _ _))
         (orElseR (onArmR _ (λ a. c .bindR (c .freshR) (λ b. c .bindR (c .freshR) (λ d. oneR _ _))))
@@ -170,7 +170,7 @@ module _ (R : Rel) (c : Compatible R) where
     -- ## infer
 
     instantiateR : (B A : Ty) → R Ty (instantiate B A) (instantiate B A)
-    unfolding instantiate
+    unfolding instantiate errorCode
     instantiateR B A = orElseR (onArmR _ (λ P. substR _ _ _)) (c .refuseR _ tt)
 
     branchR : (b : Bool) (Γ : Ctx) (A : Ty) → R Ty (branch b Γ A) (branch b Γ A)
@@ -179,7 +179,7 @@ module _ (R : Rel) (c : Compatible R) where
     branchR true Γ A = applyR Γ A
 
     infVarR : (x : TmVar) (Γ : Ctx) (o : Option Ty) → R Fired (infVar x Γ o) (infVar x Γ o)
-    unfolding infVar
+    unfolding infVar errorCode
     infVarR x Γ none = c .refuseR _ tt
     infVarR x Γ (some A) = c .giveR _
 

@@ -16,9 +16,9 @@ use Rattle.definition.specs.Question.{Question}
 use Rattle.definition.specs.Run.{Out, done, fail, stop, M, andThen, _>>=_, give, refuse, charge}
 use Rattle.definition.specs.Rules.{Result, Here, judge}
 use Rattle.definition.specs.Reply.{Reply, refusal, reported, errorCode, answer, outReply, reply}
-use Rattle.laws.specs.Budgets.{replyWith}
+use Rattle.laws.specs.OtherBudgets.{replyWith}
 use Rattle.laws.specs.Count.{charged, upTo, Count, countTo, Passes, IsRun}
-use Rattle.laws.proofs.Steps.{is-true, is-false, pick-true, pick-false, charge-yes, charge-no}
+use Rattle.laws.proofs.Steps.{is-true, is-false, pick-true, pick-false, charge-then}
 use Rattle.laws.proofs.Codes.{error}
 use Rattle.laws.proofs.Tried.{run-reply}
 use Rattle.laws.proofs.Budgets.{late, Steady, smaller, judge-steady, answer-steady}
@@ -70,14 +70,9 @@ charged-late {A} l k o h = go o
     ends : (x : M A) → ((r n : ℕ) → charged l (x r n) ≡ some (l - r)) → (r n : ℕ)
         → charged l ((charge (k - l) >>= λ u. x) r n) ≡ upTo l (some (k - r))
     ends x e r n =
-        elim (decLe (k - l) r) [
-          | yes i ↦
-              let s : l - (r - (k - l)) ≡ k - r = omega arith in
-              rw (charge-yes (k - l) r n i) (e (r - (k - l)) n ∙ ap some s ∙ sym (enough l (k - r) (omega arith)))
-          | no i ↦
-              let j : r < k - l = lt-of-not-le i in
-              rw (charge-no (k - l) r n j) (sym (passed l (some (k - r)) (omega arith)))
-        ]
+        charge-then (λ o. charged l o ≡ upTo l (some (k - r))) x (k - l) r n
+        (λ i. let s : l - (r - (k - l)) ≡ k - r = omega arith in e (r - (k - l)) n ∙ ap some s ∙ sym (enough l (k - r) (omega arith)))
+        (λ i. sym (passed l (some (k - r)) (omega arith)))
 
     go : (o : Out A) → charged l (late (k - l) o) ≡ upTo l (charged k o)
     go (done a r n) = ends (give a) (λ r n. refl) r n

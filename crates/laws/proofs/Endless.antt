@@ -12,7 +12,7 @@ use Rattle.definition.specs.Contexts.{contexts-compute}
 use Rattle.definition.specs.Types.{apply}
 use Rattle.definition.specs.Rules.{Result, outside, _from_, _orElse_, when, on, onBoth, exprCode, tyCode, asAbs, asArrow, asForall, other, split, instArrow, instRule, chkSub, checkRule, rule, judgeStep, judge, rules-compute}
 use Rattle.definition.specs.Reply.{refusal, reply, answer}
-use Rattle.laws.specs.Budgets.{Allowed}
+use Rattle.laws.specs.OtherBudgets.{Allowed}
 use Rattle.laws.specs.Rings.{here, follow, left, right, Ring, Applies, itself, first, after, judging}
 use Rattle.laws.proofs.Steps.{charge-yes}
 use Rattle.laws.proofs.Rings.{ring-gets-6}

@@ -7,9 +7,11 @@ use mathlib.Core.List.{List, [], _∷_, map}
 use Prim.Native.Nat.{ℕ, _≤_}
 use lib.Dec.{T, eqb, lit≤}
 use mir.Facts.{eqb-no}
+use Rattle.definition.specs.Syntax.{infer, litInt}
+use Rattle.definition.specs.Question.{Question, plain}
 use Rattle.definition.specs.Reply.{workWords, reply, reply-computes}
 use Rattle.laws.specs.Codes.{replyCodes}
-use Rattle.laws.specs.Budgets.{Allowed, Settled}
+use Rattle.laws.specs.OtherBudgets.{Allowed, Settled, replyWith}
 use Rattle.laws.proofs.OtherBudgets.{codeOf, settled-allowed, same-at-larger-budget}
 
 abbrev one : List ℕ
@@ -76,6 +78,25 @@ pub up-to-units : ((budget work room : ℕ) (q : List ℕ) → Settled (reply bu
     → (reply budget′ work′ room q .code ≡ 6) ↔ (budget′ ≤ reply budget work room q .units)) → ⊥
 unfolding reply-computes
 up-to-units h = apart 0 6 tt (h 2 4160 13 one settled 2 4160 allowed .1 (lit≤ tt))
+
+-- ## "the report that the question gets with enough budget (past 8,192 if need be) and room": one at most
+
+abbrev asked : Question
+asked = record { kind = 7; manner = plain; asks = infer [] (litInt 4 1 0) }
+
+-- by what is asked of the codes in the place of "neither 6 nor 7"
+abbrev OneAtMost : (ℕ → Type 0) → Type 0
+OneAtMost Code =
+    (q : Question) (budget room budget′ room′ : ℕ) → Code (replyWith budget room q .code) → Code (replyWith budget′ room′ q .code)
+    → replyWith budget room q ≡ replyWith budget′ room′ q
+
+pub two-with-6 : OneAtMost (λ c. c ≢ 7) → ⊥
+unfolding replyWith reply-computes
+two-with-6 h = apart 6 0 tt (ap codeOf (h asked 1 13 2 13 (apart 6 7 tt) (apart 0 7 tt)))
+
+pub two-with-7 : OneAtMost (λ c. c ≢ 6) → ⊥
+unfolding replyWith reply-computes
+two-with-7 h = apart 7 0 tt (ap codeOf (h asked 2 12 2 13 (apart 7 6 tt) (apart 0 6 tt)))
 
 -- ## "no question in either mode draws 16": every other code is drawn, 8 of the telephone host (`telephone`, Cases)
 

@@ -1,94 +1,88 @@
--- No run ends in InstantiationError, in any mode, whatever the budget: `solve` would refuse with it only where a type is no monotype, and Arrow
+-- No run ends in InstantiationError, in any mode, whatever the budget, and no reply to one has 16: `solve` would refuse with it only where a type is no monotype, and Arrow
 -- and Forall have rules of their own.
 use mathlib.Core.Logic.{_≢_}
-use mathlib.Core.Bool.{Bool, true, false}
+use mathlib.Core.Bool.{Bool, true, false, not}
 use mathlib.Core.List.{List}
 use Prim.Native.Nat.{ℕ, _-_}
 use lib.Dec.{T, leb}
-use Rattle.definition.specs.Syntax.{pick, Ty, Ctx, Judgement, Error, UnboundVariable, ApplicationTypeError, TypeApplicationError, OccursCheck, SubtypingError, InstantiationError, ParameterMismatch}
+use Rattle.definition.specs.Syntax.{pick, Ty, Ctx, Judgement}
 use Rattle.definition.specs.Question.{Question}
 use Rattle.definition.specs.Run.{Out, done, fail, stop, M, andThen, _>>=_, give, refuse, halt, charge, fresh}
 use Rattle.definition.specs.Types.{apply}
 use Rattle.definition.specs.Rules.{Result, Here, judgeBy, judge}
-use Rattle.definition.specs.Reply.{Reply, refusal, reported, errorCode, answer, outReply}
-use Rattle.laws.specs.Codes.{Drawn, EndsDrawn, replyCodes, isOneOf, IsCode}
-use Rattle.laws.specs.Budgets.{replyWith}
+use Rattle.definition.specs.Reply.{Reply, refusal, reported, answer, outReply}
+use Rattle.laws.specs.Codes.{isOneOf, Listed, EndsListed}
+use Rattle.laws.specs.OtherBudgets.{replyWith}
 use Rattle.laws.proofs.Congruence.{Compatible, rule-congruent, applyToR, judgeToR, answerR}
 
 -- of m alone; the second run is there since a relation is of two
-record OnlyDrawn (A : Type 0) (m m′ : M A) : Type 0 where
-  ends : (l n : ℕ) → EndsDrawn (m l n)
+record OnlyListed (A : Type 0) (m m′ : M A) : Type 0 where
+  ends : (l n : ℕ) → EndsListed (m l n)
 
-then-draws : {A B : Type 0} (o : Out A) (f : A → M B) → EndsDrawn o → ((a : A) (l n : ℕ) → EndsDrawn (f a l n)) → EndsDrawn (andThen o f)
+then-listed : {A B : Type 0} (o : Out A) (f : A → M B) → EndsListed o → ((a : A) (l n : ℕ) → EndsListed (f a l n)) → EndsListed (andThen o f)
 unfolding andThen
-then-draws (done a l n) f p h = h a l n
-then-draws (fail e l) f p h = p
-then-draws stop f p h = tt
+then-listed (done a l n) f p h = h a l n
+then-listed (fail e l) f p h = p
+then-listed stop f p h = tt
 
-charge-draws : (b : Bool) (l n : ℕ) → EndsDrawn (pick b (done (tt {0}) l n) stop)
+charge-listed : (b : Bool) (l n : ℕ) → EndsListed (pick b (done (tt {0}) l n) stop)
 unfolding pick
-charge-draws true l n = tt
-charge-draws false l n = tt
+charge-listed true l n = tt
+charge-listed false l n = tt
 
-draws : Compatible OnlyDrawn
+only-listed : Compatible OnlyListed
 unfolding give refuse fresh charge _>>=_
-draws = record {
+only-listed = record {
   giveR = λ a. record { ends = λ l n. tt };
   refuseR = λ e d. record { ends = λ l n. d };
   freshR = record { ends = λ l n. tt };
-  chargeR = λ c. record { ends = λ l n. charge-draws (leb c l) (l - c) n };
-  bindR = λ {A} {B} {m} {m′} {f} {f′} hm hf. record { ends = λ l n. then-draws (m l n) f (hm .ends l n) (λ a. hf a .ends) };
+  chargeR = λ c. record { ends = λ l n. charge-listed (leb c l) (l - c) n };
+  bindR = λ {A} {B} {m} {m′} {f} {f′} hm hf. record { ends = λ l n. then-listed (m l n) f (hm .ends l n) (λ a. hf a .ends) };
 }
 
-halt-draws : (A : Type 0) → OnlyDrawn A halt halt
+halt-listed : (A : Type 0) → OnlyListed A halt halt
 unfolding halt
-halt-draws A = record { ends = λ l n. tt }
+halt-listed A = record { ends = λ l n. tt }
 
-apply-draws : (Γ : Ctx) (A : Ty) → OnlyDrawn Ty (apply Γ A) (apply Γ A)
+apply-listed : (Γ : Ctx) (A : Ty) → OnlyListed Ty (apply Γ A) (apply Γ A)
 unfolding apply
-apply-draws Γ A = record { ends = λ l n. applyToR OnlyDrawn draws halt-draws l Γ A .ends l n }
+apply-listed Γ A = record { ends = λ l n. applyToR OnlyListed only-listed halt-listed l Γ A .ends l n }
 
-judge-draws : (h : Here) (j : Judgement) → OnlyDrawn Result (judge h j) (judge h j)
+judge-listed : (h : Here) (j : Judgement) → OnlyListed Result (judge h j) (judge h j)
 unfolding judgeBy
-judge-draws h j = record { ends = λ l n. judgeToR OnlyDrawn draws halt-draws apply-draws rule-congruent l h j .ends l n }
+judge-listed h j = record { ends = λ l n. judgeToR OnlyListed only-listed halt-listed apply-listed rule-congruent l h j .ends l n }
 
 -- each of the six judgements, in whatever it runs, with any budget and any fresh names taken; and what a question asks
-pub judgement-drawn : (h : Here) (j : Judgement) (l n : ℕ) → EndsDrawn (judge h j l n)
-judgement-drawn h j l n = judge-draws h j .ends l n
+pub judgement-listed : (h : Here) (j : Judgement) (l n : ℕ) → EndsListed (judge h j l n)
+judgement-listed h j l n = judge-listed h j .ends l n
 
-pub answer-drawn : (q : Question) (l n : ℕ) → EndsDrawn (answer q l n)
-answer-drawn q l n = answerR OnlyDrawn draws halt-draws apply-draws judge-draws q .ends l n
+pub answer-listed : (q : Question) (l n : ℕ) → EndsListed (answer q l n)
+answer-listed q l n = answerR OnlyListed only-listed halt-listed apply-listed judge-listed q .ends l n
 
 -- ## The codes of replies to what is run
 
-error-coded : (e : Error) → Drawn e → IsCode (errorCode e)
-unfolding errorCode
-error-coded UnboundVariable d = record { among = tt }
-error-coded ApplicationTypeError d = record { among = tt }
-error-coded TypeApplicationError d = record { among = tt }
-error-coded OccursCheck d = record { among = tt }
-error-coded SubtypingError d = record { among = tt }
-error-coded InstantiationError d = absurd d
-error-coded ParameterMismatch d = record { among = tt }
-
-pub pick-coded : (b : Bool) (x y : Reply) → IsCode (x .code) → IsCode (y .code) → IsCode (pick b x y .code)
+pub pick-listed : (b : Bool) (x y : Reply) → Listed (x .code) → Listed (y .code) → Listed (pick b x y .code)
 unfolding pick
-pick-coded true x y h k = h
-pick-coded false x y h k = k
+pick-listed true x y h k = h
+pick-listed false x y h k = k
 
-reported-coded : (room c p u : ℕ) (ws : List ℕ) → IsCode c → IsCode (reported room c p u ws .code)
+reported-listed : (room c p u : ℕ) (ws : List ℕ) → Listed c → Listed (reported room c p u ws .code)
 unfolding reported
-reported-coded room c p u ws h = pick-coded _ _ _ h (record { among = tt })
+reported-listed room c p u ws h = pick-listed _ _ _ h tt
 
-out-coded : (kind b room : ℕ) (o : Out Result) → EndsDrawn o → IsCode (outReply kind b room o .code)
+out-listed : (kind b room : ℕ) (o : Out Result) → EndsListed o → Listed (outReply kind b room o .code)
 unfolding outReply refusal
-out-coded kind b room (done r l n) d = reported-coded room 0 0 _ _ (record { among = tt })
-out-coded kind b room (fail e l) d = reported-coded room _ _ _ _ (error-coded (e .error) d)
-out-coded kind b room stop d = record { among = tt }
+out-listed kind b room (done r l n) h = reported-listed room 0 0 _ _ tt
+out-listed kind b room (fail e l) h = reported-listed room _ _ _ _ h
+out-listed kind b room stop h = tt
 
-pub run-coded : (budget room : ℕ) (q : Question) → IsCode (replyWith budget room q .code)
+pub run-listed : (budget room : ℕ) (q : Question) → Listed (replyWith budget room q .code)
 unfolding replyWith
-run-coded budget room q = out-coded (q .kind) budget room (answer q budget 0) (answer-drawn q budget 0)
+run-listed budget room q = out-listed (q .kind) budget room (answer q budget 0) (answer-listed q budget 0)
 
-pub not-16 : {c : ℕ} → IsCode c → c ≢ 16
-not-16 h e = let z : T (isOneOf 16 replyCodes) = rw e at (h .among) in z
+pub not-16 : {c : ℕ} (cs : List ℕ) → T (not (isOneOf 16 cs)) → T (isOneOf c cs) → c ≢ 16
+not-16 cs h k e = let z : T (isOneOf 16 cs) = rw e at k in not-both (isOneOf 16 cs) h z
+  where
+    not-both : (b : Bool) → T (not b) → T b → ⊥
+    not-both true h k = h
+    not-both false h k = k

@@ -1,5 +1,5 @@
--- The same question at another budget. One law has it all: a smaller budget's reply is the larger one's, where the budget is no less than its
--- units, else 6. So a reply that is not 6 stays at every larger budget, and there is one at most with enough budget and room.
+-- The same question at another budget. One law has it all: a smaller budget's reply is the larger one's, where the smaller budget is no less than
+-- that reply's units, else 6. So a reply that is not 6 stays at every larger budget, and there is one at most with enough budget and room.
 use mathlib.Core.Path.{_≡_, refl, sym, ap, _∙_}
 use mathlib.Core.Logic.{_↔_, _≢_}
 use mathlib.Core.Bool.{Bool, true, false, _||_}
@@ -16,9 +16,9 @@ use Rattle.definition.specs.Question.{Read, got, fault, Question, readQuestion}
 use Rattle.definition.specs.Run.{Out, done, fail, stop, M, andThen, _>>=_, give, refuse, charge}
 use Rattle.definition.specs.Rules.{Result}
 use Rattle.definition.specs.Reply.{Reply, refusal, reported, errorCode, errorAt, errorWords, resultWords, answer, outReply, readReply, reply}
-use Rattle.laws.specs.Budgets.{Allowed, Settled, atBudget, replyWith, WithEnough}
+use Rattle.laws.specs.OtherBudgets.{Allowed, Settled, atBudget, replyWith, WithEnough}
 use Rattle.laws.specs.Count.{IsRun}
-use Rattle.laws.proofs.Steps.{is-true, is-false, pick-true, pick-false, charge-yes, charge-no}
+use Rattle.laws.proofs.Steps.{is-true, is-false, pick-true, pick-false, charge-then}
 use Rattle.laws.proofs.Budgets.{late, smaller, answer-steady}
 use Rattle.laws.proofs.Tried.{fromThree, allowed-reply, Tried, badBudget, shortWork, badLength, isRead, tried, run-reply}
 
@@ -78,14 +78,10 @@ late-reply kind room l k o h = go o
     ends x c p ws e r n =
         let told : ℕ → Reply = λ u. reported room c p u ws in
         let units : told (k - r) .units ≡ k - r = reported-units room c p (k - r) ws in
-        elim (decLe (k - l) r) [
-          | yes i ↦
-              let s : l - (r - (k - l)) ≡ k - r = omega arith in
-              rw (charge-yes (k - l) r n i) (e (r - (k - l)) n ∙ ap told s ∙ sym (at-enough l (told (k - r)) (omega (arith, units, i, h))))
-          | no i ↦
-              let j : r < k - l = lt-of-not-le i in
-              rw (charge-no (k - l) r n j) (sym (at-short l (told (k - r)) (omega (arith, units, j))))
-        ]
+        charge-then (λ o. outReply kind l room o ≡ atBudget l (told (k - r))) x (k - l) r n
+        (λ i. let s : l - (r - (k - l)) ≡ k - r = omega arith in
+        e (r - (k - l)) n ∙ ap told s ∙ sym (at-enough l (told (k - r)) (omega (arith, units, i, h))))
+        (λ i. sym (at-short l (told (k - r)) (omega (arith, units, i))))
 
     go : (o : Out Result) → outReply kind l room (late (k - l) o) ≡ atBudget l (outReply kind k room o)
     go (done a r n) = ends (give a) 0 0 (resultWords kind a) (λ r n. refl) r n
@@ -115,9 +111,9 @@ unfolding readReply replyWith refusal
 read-by-units room (fault c p) = record { smaller = λ l k h. sym (at-enough l (refusal c p 0) (omega arith)) }
 read-by-units room (got q p ws) = run-by-units q room
 
-onward-by-units : (room : ℕ) (ws : List ℕ) → ByUnits (λ b. fromThree b room ws)
+fromThree-by-units : (room : ℕ) (ws : List ℕ) → ByUnits (λ b. fromThree b room ws)
 unfolding pick refusal
-onward-by-units room ws = go (eqb (length ws) 0 || ltb 2048 (length ws))
+fromThree-by-units room ws = go (eqb (length ws) 0 || ltb 2048 (length ws))
   where
     go : (t : Bool) → ByUnits (λ b. pick t (refusal 3 0 0) (readReply b room (readQuestion ws)))
     go true = record { smaller = λ l k h. sym (at-enough l (refusal 3 0 0) (omega arith)) }
@@ -127,7 +123,7 @@ onward-by-units room ws = go (eqb (length ws) 0 || ltb 2048 (length ws))
 pub at-smaller-budget : {budget work budget′ work′ : ℕ} (room : ℕ) (ws : List ℕ) → Allowed budget work → Allowed budget′ work′ → budget′ ≤ budget
     → reply budget′ work′ room ws ≡ atBudget budget′ (reply budget work room ws)
 at-smaller-budget {budget} {budget′ = budget′} room ws a a′ h =
-    allowed-reply room ws a′ ∙ onward-by-units room ws .smaller budget′ budget h ∙ ap (atBudget budget′) (sym (allowed-reply room ws a))
+    allowed-reply room ws a′ ∙ fromThree-by-units room ws .smaller budget′ budget h ∙ ap (atBudget budget′) (sym (allowed-reply room ws a))
 
 module _ (budget work room : ℕ) (ws : List ℕ) where
   abbrev R : Reply
@@ -150,10 +146,10 @@ module _ (budget work room : ℕ) (ws : List ℕ) where
 
     pub at-budget : reply budget′ work′ room ws ≡ atBudget budget′ R
     at-budget =
-        allowed-reply room ws there ∙ elsewhere (onward-by-units room ws) ended budget′ ∙ ap (atBudget budget′) (sym (allowed-reply room ws here))
+        allowed-reply room ws there ∙ elsewhere (fromThree-by-units room ws) ended budget′ ∙ ap (atBudget budget′) (sym (allowed-reply room ws here))
 
     pub same-at-larger-budget : budget ≤ budget′ → reply budget′ work′ room ws ≡ R
-    same-at-larger-budget h = allowed-reply room ws there ∙ stays (onward-by-units room ws) ended h ∙ sym (allowed-reply room ws here)
+    same-at-larger-budget h = allowed-reply room ws there ∙ stays (fromThree-by-units room ws) ended h ∙ sym (allowed-reply room ws here)
 
     pub same-from-its-units : R .units ≤ budget′ → reply budget′ work′ room ws ≡ R
     same-from-its-units h = at-budget ∙ at-enough budget′ R h
@@ -198,7 +194,7 @@ one-with-enough {q} {R} {R′} e e′ =
     raised : {R : Reply} (e : WithEnough q R) (m : ℕ) → e .budget ≤ m → R ≡ replyWith m (e .room) q
     raised e m h = e .is ∙ sym (stays (run-by-units q (e .room)) (λ x. e .not-6 (ap codeOf (e .is) ∙ x)) h)
 
--- every reply of a call that is run is it, but 6 and 7
+-- what a call that is run gets is such a reply, unless it is 6 or 7
 pub with-enough : {budget work : ℕ} {ws : List ℕ} {q : Question} → IsRun budget work ws q → (room : ℕ)
     → reply budget work room ws .code ≢ 6 → reply budget work room ws .code ≢ 7 → WithEnough q (reply budget work room ws)
 with-enough {budget} a room h k = record { budget = budget; room = room; is = run-reply a room; not-6 = h; not-7 = k }

@@ -2,10 +2,12 @@
 use mathlib.Core.Path.{_≡_, refl}
 use Prim.Native.Nat.{ℕ, _-_, _≤_, _<_}
 use mathlib.Core.Bool.{Bool, true, false, not}
+use native.Mathlib.Nat.{lt-of-not-le}
+use native.Mathlib.Decide.{decLe}
 use lib.Dec.{T, leb, le→leb}
 use mir.Facts.{no-leb}
 use Rattle.definition.specs.Syntax.{pick, TypeError}
-use Rattle.definition.specs.Run.{done, fail, stop, M, andThen, _>>=_, charge}
+use Rattle.definition.specs.Run.{Out, done, fail, stop, M, andThen, _>>=_, charge}
 
 -- ## Tests
 
@@ -34,6 +36,16 @@ charge-yes c l n h = pick-true _ _ (is-true (leb c l) (le→leb c l h))
 pub charge-no : (c l n : ℕ) → l < c → charge c l n ≡ stop
 unfolding charge
 charge-no c l n h = pick-false _ _ (is-false (leb c l) (no-leb h))
+
+-- a charge and what comes after it: with so much less left, or out of budget
+pub charge-then : {A : Type 0} (P : Out A → Type 0) (x : M A) (c l n : ℕ) → (c ≤ l → P (x (l - c) n)) → (l < c → P stop)
+    → P ((charge c >>= λ u. x) l n)
+unfolding _>>=_ andThen
+charge-then P x c l n within past =
+    elim (decLe c l) [
+      | yes h ↦ rw (charge-yes c l n h) (within h)
+      | no h ↦ rw (charge-no c l n (lt-of-not-le h)) (past (lt-of-not-le h))
+    ]
 
 -- ## A bind whose first part is known
 

@@ -13,7 +13,7 @@ use borrow.Author.Tests.{ltb-false, eqb-false}
 use Rattle.definition.specs.Syntax.{pick}
 use Rattle.definition.specs.Question.{Read, got, fault, Question, readQuestion, question-computes}
 use Rattle.definition.specs.Reply.{Reply, refusal, readReply, workWords, reply}
-use Rattle.laws.specs.Budgets.{Allowed, replyWith}
+use Rattle.laws.specs.OtherBudgets.{Allowed, replyWith}
 use Rattle.laws.specs.Count.{IsRun}
 use Rattle.laws.proofs.Steps.{is-false}
 

@@ -1,26 +1,17 @@
--- Order 5, "no question in either mode draws 16": the type errors that are drawn, and the codes that a reply has.
-use mathlib.Core.Bool.{Bool, false, _||_}
+-- The codes that a reply has.
+use mathlib.Core.Path.{_≡_}
+use mathlib.Core.Bool.{Bool, false, _&&_, _||_}
 use mathlib.Core.List.{List, [], _∷_}
 use Prim.Native.Nat.{ℕ}
-use lib.Dec.{T, eqb}
+use lib.Dec.{T, leb, eqb}
 use Rattle.definition.specs.Run.{Out, done, fail, stop}
-use Rattle.definition.specs.Syntax.{Error, UnboundVariable, ApplicationTypeError, TypeApplicationError, OccursCheck, SubtypingError, InstantiationError, ParameterMismatch}
+use Rattle.definition.specs.Reply.{errorCode}
 
--- every type error but InstantiationError
-abbrev pub Drawn : Error → Type 0
-Drawn UnboundVariable = Unit {0}
-Drawn ApplicationTypeError = Unit {0}
-Drawn TypeApplicationError = Unit {0}
-Drawn OccursCheck = Unit {0}
-Drawn SubtypingError = Unit {0}
-Drawn InstantiationError = ⊥
-Drawn ParameterMismatch = Unit {0}
+-- none of 1 to 5
+abbrev pub Late : ℕ → Type 0
+Late c = (leb 1 c && leb c 5) ≡ false
 
--- a run that ends, if in a type error, in one of these
-abbrev pub EndsDrawn : {A : Type 0} → Out A → Type 0
-EndsDrawn (done a l n) = Unit {0}
-EndsDrawn (fail e l) = Drawn (e .error)
-EndsDrawn stop = Unit {0}
+-- ---- Order 5: "no question in either mode draws 16"
 
 -- document 01's table without 8, which is the telephone host's alone, and without 16
 abbrev pub replyCodes : List ℕ
@@ -30,5 +21,11 @@ abbrev pub isOneOf : ℕ → List ℕ → Bool
 isOneOf c [] = false
 isOneOf c (d ∷ ds) = eqb c d || isOneOf c ds
 
-pub record IsCode (c : ℕ) : Type 0 where
-  pub among : T (isOneOf c replyCodes)
+abbrev pub Listed : ℕ → Type 0
+Listed c = T (isOneOf c replyCodes)
+
+-- a run that ends in no type error, or in one whose code is listed
+abbrev pub EndsListed : {A : Type 0} → Out A → Type 0
+EndsListed (done a l n) = Unit {0}
+EndsListed (fail e l) = Listed (errorCode (e .error))
+EndsListed stop = Unit {0}

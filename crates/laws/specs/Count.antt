@@ -9,7 +9,7 @@ use Rattle.definition.specs.Syntax.{pick}
 use Rattle.definition.specs.Question.{Question, got, readQuestion}
 use Rattle.definition.specs.Run.{Out, done, fail, stop, M}
 use Rattle.definition.specs.Reply.{answer}
-use Rattle.laws.specs.Budgets.{Allowed}
+use Rattle.laws.specs.OtherBudgets.{Allowed}
 
 -- ---- "Units is 0 on 1 to 5, the budget on 6, else the total charged." "Units equal this count in the definition."
 

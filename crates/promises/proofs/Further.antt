@@ -1,14 +1,14 @@
 -- The theorems beside those of Main: of the library's entry and the definition, of the count, of a report's parts, of what "alike" means. Nobody
 -- who believes Main needs them; docs/THEOREMS.md says of each what it does not say. Each restates the theorem behind its `=`. Their words stand
--- where Main's do, and besides in crates/laws/specs/Rings.antt (`Ring`, `Leads`, `Applies`), crates/sections/specs and crates/judging/specs;
--- computed tables in crates/laws/proofs/Cases.antt and crates/alike/proofs/Examples.antt.
+-- where Main's do, and besides in crates/laws/specs/Rings.antt (`Ring`, `Leads`, `Applies`) and Codes.antt (`Listed`), crates/sections/specs and
+-- crates/judging/specs; computed tables in crates/laws/proofs/Cases.antt and crates/alike/proofs/Examples.antt.
 use mathlib.Core.Path.{_≡_}
 use mathlib.Core.List.{List, [], _∷_}
 use mathlib.Core.Logic.{_↔_, _≢_}
 use mathlib.Core.Option.{Option, none, some}
 use Prim.Native.Nat.{ℕ, _≤_, _<_}
 use lib.ListN.{length, take}
-use lib.Dec.{eqb}
+use lib.Dec.{T, eqb}
 use Rattle.definition.specs.Syntax as syntax
 use Rattle.definition.specs.Syntax.{pick, TyVar, Ty, Ctx, Judgement, treeWords}
 use Rattle.definition.specs.Question.{Question, got, fault, readQuestion}
@@ -18,8 +18,8 @@ use Rattle.definition.specs.Rules.{Result, Here, judge}
 use Rattle.definition.specs.Reply.{Reply, refusal, answer, outReply, reply}
 use Rattle.definition.specs.Memory.{Call, call}
 use Rattle.definition.specs.Host.{byteReply}
-use Rattle.laws.specs.Codes.{EndsDrawn, IsCode}
-use Rattle.laws.specs.Budgets.{Allowed, Settled, atBudget, replyWith, WithEnough}
+use Rattle.laws.specs.Codes.{Late, replyCodes, isOneOf, Listed, EndsListed}
+use Rattle.laws.specs.OtherBudgets.{Allowed, Settled, atBudget, replyWith, WithEnough}
 use Rattle.laws.specs.Count.{charged, Count, countTo, Passes, IsRun}
 use Rattle.laws.specs.Rings.{Leads, Ring, Applies}
 use Rattle.laws.proofs as laws-proofs
@@ -40,7 +40,7 @@ use Rattle.judging.proofs as judging-proofs
 use Rattle.replies.specs.declared.Reply as program
 use Rattle.entry.specs.Entry.{Replied}
 use Rattle.sized.proofs as sized-proofs
-use Rattle.host.specs.Host.{numbersOf}
+use Rattle.host.specs.Host.{Answered, Checked, numbersOf}
 use Rattle.sections.specs.declared.Section.{Section}
 use Rattle.sections.specs.declared.Section.the-variants.{Tree}
 use Rattle.sections.specs.Sections.{partOf}
@@ -67,7 +67,10 @@ four-or-five = alike-proofs.WellFormed.four-or-five
 
 -- # The count, and 6
 
--- what gets 6 from the definition is run
+-- what gets none of 1 to 5 from the definition is run; so is what gets 6
+pub late-is-run : (budget work room : ℕ) (ws : List ℕ) → Late (reply budget work room ws .code) → (q : Question) × IsRun budget work ws q
+late-is-run = promises-proofs.Count.late-is-run
+
 pub six-is-run : (budget work room : ℕ) (ws : List ℕ) → reply budget work room ws .code ≡ 6 → (q : Question) × IsRun budget work ws q
 six-is-run = promises-proofs.Count.six-is-run
 
@@ -130,19 +133,26 @@ module _ (budget work room : ℕ) (allowed : Allowed budget work) where
 
 -- # Order 5, of the definition
 
--- every reply's code is in document 01's table, without 8, which is the telephone host's, and 16
-pub every-code : (budget work room : ℕ) (q : List ℕ) → IsCode (reply budget work room q .code)
+-- every reply's code is listed: it is in document 01's table, without 8, which is the telephone host's, and 16
+pub every-code : (budget work room : ℕ) (q : List ℕ) → Listed (reply budget work room q .code)
 every-code = promises-proofs.Never16.every-code
 
--- a judgement, and what a question asks, in any mode, with any budget l and n fresh names taken: no type error but those that are drawn
-pub judgement-drawn : (h : Here) (j : Judgement) (l n : ℕ) → EndsDrawn (judge h j l n)
-judgement-drawn = laws-proofs.Never16.judgement-drawn
+-- so is what both functions return, but for the telephone host's 8
+pub check-code : {budget : ℕ} {q w w′ s s′ ns : List ℕ} {r : ℕ} → Checked budget q w w′ s s′ ns r → Listed r
+check-code = promises-proofs.Never16.check-code
 
-pub answer-drawn : (q : Question) (l n : ℕ) → EndsDrawn (answer q l n)
-answer-drawn = laws-proofs.Never16.answer-drawn
+pub answer-code : {b s s′ : List ℕ} {r : ℕ} → Answered b s s′ r → T (isOneOf r (8 ∷ replyCodes))
+answer-code = promises-proofs.Never16.answer-code
 
--- the same question at two budgets that are allowed, with as much room. Whatever the code: at the smaller one the larger one's reply, where the budget
--- is no less than its units, else 6 (`atBudget`)
+-- a judgement, and what a question asks, in any mode, with any budget l and n fresh names taken: no type error whose code is not listed
+pub judgement-listed : (h : Here) (j : Judgement) (l n : ℕ) → EndsListed (judge h j l n)
+judgement-listed = laws-proofs.Never16.judgement-listed
+
+pub answer-listed : (q : Question) (l n : ℕ) → EndsListed (answer q l n)
+answer-listed = laws-proofs.Never16.answer-listed
+
+-- the same question at two budgets that are allowed, with as much room. Whatever the code: at the smaller one the larger one's reply, where the
+-- smaller budget is no less than that reply's units, else 6 (`atBudget`)
 pub at-smaller-budget : {budget work budget′ work′ : ℕ} (room : ℕ) (ws : List ℕ) → Allowed budget work → Allowed budget′ work′ → budget′ ≤ budget
     → reply budget′ work′ room ws ≡ atBudget budget′ (reply budget work room ws)
 at-smaller-budget = laws-proofs.OtherBudgets.at-smaller-budget

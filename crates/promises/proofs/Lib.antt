@@ -4,7 +4,7 @@ pub mod One
 pub mod Demand3
 pub mod Count
 pub mod Never16
-pub mod Budgets
+pub mod OtherBudgets
 pub mod Reports
 pub mod Main
 pub mod Further

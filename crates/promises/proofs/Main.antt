@@ -1,15 +1,16 @@
--- The three demands, and what orders of document 02 ask to be shown, as theorems: what is read after the definition (crates/definition/specs). Each restates the theorem behind its `=`.
--- Further.antt has the other theorems of docs/THEOREMS.md, which says of each what it does not say. The words of the statements:
+-- The three demands, and what order 5 asks to be shown, as theorems: what is read after the definition (crates/definition/specs). Each restates
+-- the theorem behind its `=`. Further.antt has the other theorems of docs/THEOREMS.md, which says of each what it does not say. The words of the
+-- statements:
 --   Answered, Checked          what sporeflask_answer and sporeflask_check promise: crates/host/specs/Host.antt
 --   SameAnswers, SameChecks    two calls return and leave the same: specs/Common.antt
---   SameReplies, SameTold      two calls return the same and leave the same reply, work apart; of both functions: specs/Common.antt
+--   SameReplies, SameTold      two calls of sporeflask_check, or one of each function, give the same reply: specs/Common.antt
 --   AlikeAnswers, AlikeChecks  two calls return and leave the same but for paired names: specs/Common.antt
 --   IsRun                      a call that none of 1 to 5 refuses, and the question that its words are: crates/laws/specs/Count.antt
 --   Count                      the count of a run, a number or none: the same file
 --   countTo                    a question's count as far as a bound, computed: the same file
---   Allowed                    a budget from 1 to 8,192, and work that is long enough for it: crates/laws/specs/Budgets.antt
---   Settled                    a code that is none of 1, 2 and 6: the same file
 --   Passes                     a count is none, or larger than a budget: the same file
+--   Allowed                    a budget from 1 to 8,192, and work that is long enough for it: crates/laws/specs/OtherBudgets.antt
+--   Settled                    a code that is none of 1, 2 and 6: the same file
 --   AlikeQuestions             well-formed questions that are alike by a pairing of their names: crates/alike/specs/Alike.antt
 --   Pairing, itself            a pairing of variables' and of types' names; the one of every name with itself: the same file
 --   Change, pairing, change    new names and literals; how they pair the names; words with them: crates/alike/proofs/Changes.antt
@@ -28,7 +29,7 @@ use Rattle.definition.specs.Types.{apply}
 use Rattle.definition.specs.Reply.{Reply, answer, reply}
 use Rattle.definition.specs.Memory.{reportAfter, workAfter, call}
 use Rattle.definition.specs.Host.{wordAt, wordsOf, byteReply, numbers, hostCall}
-use Rattle.laws.specs.Budgets.{Allowed, Settled}
+use Rattle.laws.specs.OtherBudgets.{Allowed, Settled}
 use Rattle.laws.specs.Count.{Count, countTo, Passes, IsRun}
 use Rattle.laws.proofs.Cases.{seen, asked, cases}
 use Rattle.laws.proofs.LaterPasses.{calls}
@@ -151,20 +152,28 @@ answer-never-16 = promises-proofs.Never16.answer-never-16
 -- ## "a question answered at one budget, with any code except 1, 2 and 6, gets the same reply at every larger one that document 01 allows, given
 -- the same report slice and enough work"
 
--- sporeflask_check, called twice. At a smaller budget it is the same too, or 6: this exactly where the budget is less than the units.
+-- sporeflask_check, called twice with the same question and report slice. At a smaller budget it gives the same too, or 6, and 6 exactly where that
+-- budget is less than the first call's units, the fourth number.
 module _ {budget budget′ : ℕ} {q w v w₁ v₂ s s₁ s₂ n₁ n₂ : List ℕ} {r₁ r₂ : ℕ} (c : Checked budget q w w₁ s s₁ n₁ r₁)
     (c′ : Checked budget′ q v v₂ s s₂ n₂ r₂) (settled : Settled r₁) (allowed : Allowed budget′ (length v)) where
   pub check-same-at-larger-budget : budget ≤ budget′ → SameReplies r₁ r₂ n₁ n₂ s₁ s₂
-  check-same-at-larger-budget = promises-proofs.Budgets.check-same-at-larger-budget c c′ settled allowed
+  check-same-at-larger-budget = promises-proofs.OtherBudgets.check-same-at-larger-budget c c′ settled allowed
 
   pub check-same-from-its-units : getD n₁ 3 0 ≤ budget′ → SameReplies r₁ r₂ n₁ n₂ s₁ s₂
-  check-same-from-its-units = promises-proofs.Budgets.check-same-from-its-units c c′ settled allowed
+  check-same-from-its-units = promises-proofs.OtherBudgets.check-same-from-its-units c c′ settled allowed
 
   pub check-6-exactly-below-its-units : (r₂ ≡ 6) ↔ (budget′ < getD n₁ 3 0)
-  check-6-exactly-below-its-units = promises-proofs.Budgets.check-6-exactly-below-its-units c c′ settled allowed
+  check-6-exactly-below-its-units = promises-proofs.OtherBudgets.check-6-exactly-below-its-units c c′ settled allowed
 
--- sporeflask_answer, whose budget is 384, and then sporeflask_check with the question's words, as much room and no smaller budget: one reply
-pub answer-same-at-larger-budget : {budget : ℕ} {b s s′ w w′ t t′ ns : List ℕ} {r r′ : ℕ} → Answered b s s′ r
-    → Checked budget (wordsOf b (length b / 4)) w w′ t t′ ns r′ → 16 ≤ length s → length b % 4 ≡ 0 → r ≢ 6
-    → length t ≡ min ((length s - 16) / 4) 4096 → Allowed budget (length w) → 384 ≤ budget → SameTold r r′ ns s s′ t t′
-answer-same-at-larger-budget = promises-proofs.Budgets.answer-same-at-larger-budget
+-- sporeflask_answer, whose budget is 384, and sporeflask_check with the question's words and a report slice t that has as much room: what the first
+-- gave the second gives with 384 or more; and what the second gave, with any budget, tells what the first gives
+module _ {budget : ℕ} {b s s′ w w′ t t′ ns : List ℕ} {r r′ : ℕ} (a : Answered b s s′ r) (c : Checked budget (wordsOf b (length b / 4)) w w′ t t′ ns r′)
+    (long : 16 ≤ length s) (whole : length b % 4 ≡ 0) (room : length t ≡ min ((length s - 16) / 4) 4096) (allowed : Allowed budget (length w)) where
+  pub answer-same-at-larger-budget : r ≢ 6 → 384 ≤ budget → SameTold r r′ ns s s′ t t′
+  answer-same-at-larger-budget = promises-proofs.OtherBudgets.answer-same-at-larger-budget a c long whole room allowed
+
+  pub answer-same-from-its-units : r′ ≢ 6 → getD ns 3 0 ≤ 384 → SameTold r r′ ns s s′ t t′
+  answer-same-from-its-units = promises-proofs.OtherBudgets.answer-same-from-its-units a c long whole room allowed
+
+  pub answer-6-exactly-below-its-units : r′ ≢ 6 → (r ≡ 6) ↔ (384 < getD ns 3 0)
+  answer-6-exactly-below-its-units = promises-proofs.OtherBudgets.answer-6-exactly-below-its-units a c long whole room allowed

@@ -1,4 +1,4 @@
--- "no question in either mode draws 16": every reply's code is in the table without 16, and no call of a function for C returns or tells 16.
+-- "no question in either mode draws 16": every reply's code is listed, and 16 is not; so no call of a function for C returns or tells 16.
 use mathlib.Core.Path.{_≡_, refl}
 use mathlib.Core.Logic.{_≢_}
 use mathlib.Core.Bool.{Bool, true, false, _&&_, _||_}
@@ -14,50 +14,70 @@ use Rattle.definition.specs.Question.{Read, got, fault, Question, readQuestion}
 use Rattle.definition.specs.Reply.{Reply, refusal, readReply, reply}
 use Rattle.definition.specs.Memory.{call}
 use Rattle.definition.specs.Host.{wordAt, wordsOf, bytesOf, deskReply, byteReply, numbers, HostCall, hostCall}
-use Rattle.laws.specs.Codes.{replyCodes, isOneOf, IsCode}
-use Rattle.laws.specs.Budgets.{replyWith}
+use Rattle.laws.specs.Codes.{replyCodes, isOneOf, Listed}
+use Rattle.laws.specs.OtherBudgets.{replyWith}
 use Rattle.laws.proofs.Steps.{is-false}
-use Rattle.laws.proofs.Never16.{pick-coded, run-coded, not-16}
+use Rattle.laws.proofs.Never16.{pick-listed, run-listed, not-16}
 use Rattle.laws.proofs.Tried.{Tried, badBudget, shortWork, badLength, isRead, tried}
 use Rattle.alike.proofs.WellFormed.{IsFault, shape, name, four-or-five}
 use Rattle.host.specs.Host.{Answered, Checked}
 
 -- ## Replies
 
-fault-coded : {c : ℕ} → IsFault c → IsCode c
-fault-coded shape = record { among = tt }
-fault-coded name = record { among = tt }
+fault-listed : {c : ℕ} → IsFault c → Listed c
+fault-listed shape = tt
+fault-listed name = tt
 
-pub every-code : (budget work room : ℕ) (q : List ℕ) → IsCode (reply budget work room q .code)
+pub every-code : (budget work room : ℕ) (q : List ℕ) → Listed (reply budget work room q .code)
 unfolding readReply replyWith refusal
 every-code budget work room q = go (tried budget work room q)
   where
-    read : (r : Read Question) → readQuestion q ≡ r → IsCode (readReply budget room r .code)
-    read (got Q p rest) e = run-coded budget room Q
-    read (fault c p) e = fault-coded (four-or-five q e)
+    read : (r : Read Question) → readQuestion q ≡ r → Listed (readReply budget room r .code)
+    read (got Q p rest) e = run-listed budget room Q
+    read (fault c p) e = fault-listed (four-or-five q e)
 
-    go : {R : Reply} → Tried budget work room q R → IsCode (R .code)
-    go badBudget = record { among = tt }
-    go shortWork = record { among = tt }
-    go (badLength a) = record { among = tt }
+    go : {R : Reply} → Tried budget work room q R → Listed (R .code)
+    go badBudget = tt
+    go shortWork = tt
+    go (badLength a) = tt
     go (isRead a few) = read (readQuestion q) refl
 
 pub never-16 : (budget work room : ℕ) (q : List ℕ) → reply budget work room q .code ≢ 16
-never-16 budget work room q = not-16 (every-code budget work room q)
+never-16 budget work room q = not-16 replyCodes tt (every-code budget work room q)
 
--- ## sporeflask_check: neither returned nor the first of the four numbers
+-- ## sporeflask_check
 
+pub check-code : {budget : ℕ} {q w w′ s s′ ns : List ℕ} {r : ℕ} → Checked budget q w w′ s s′ ns r → Listed r
+unfolding call
+check-code {budget} {q} {w} {s = s} c = rw (c .returns) (every-code budget (length w) (length s) q)
+
+-- neither returned nor the first of the four numbers
 pub check-never-16 : {budget : ℕ} {q w w′ s s′ ns : List ℕ} {r : ℕ} → Checked budget q w w′ s s′ ns r → (r ≢ 16) × (getD ns 0 0 ≢ 16)
 unfolding call numbers
 check-never-16 {budget} {q} {w} {s = s} c =
-    let n : reply budget (length w) (length s) q .code ≢ 16 = never-16 budget (length w) (length s) q in
-    (rw (c .returns) n, rw (c .four) n)
+    (not-16 replyCodes tt (check-code c), rw (c .four) (never-16 budget (length w) (length s) q))
 
--- ## sporeflask_answer: neither returned nor the first word of the reply
+-- ## sporeflask_answer
 
-byte-coded : (room : ℕ) (b : List ℕ) → IsCode (byteReply room b .code)
+byte-listed : (room : ℕ) (b : List ℕ) → Listed (byteReply room b .code)
 unfolding byteReply deskReply refusal
-byte-coded room b = pick-coded _ _ _ (every-code 384 16384 (min room 4096) (wordsOf b (length b / 4))) (record { among = tt })
+byte-listed room b = pick-listed _ _ _ (every-code 384 16384 (min room 4096) (wordsOf b (length b / 4))) tt
+
+pub answer-code : {b s s′ : List ℕ} {r : ℕ} → Answered b s s′ r → T (isOneOf r (8 ∷ replyCodes))
+unfolding hostCall pick
+answer-code {b} {s} a = rw (a .returns) (go (ltb (length s) 16) _)
+  where
+    R : Reply
+    R = byteReply ((length s - 16) / 4) b
+
+    more : (x : Bool) → Listed (R .code) → T (x || isOneOf (R .code) replyCodes)
+    more true h = tt
+    more false h = h
+
+    go : (short : Bool) (t : List ℕ)
+        → T (isOneOf (pick {A = HostCall} short (record { returns = 8; replySlice = s }) (record { returns = R .code; replySlice = t }) .returns) (8 ∷ replyCodes))
+    go true t = tt
+    go false t = more (eqb (R .code) 8) (byte-listed ((length s - 16) / 4) b)
 
 -- a number that is one of some is no larger than what none of them passes
 allUpTo : List ℕ → ℕ → Bool
@@ -76,22 +96,15 @@ no-larger {c} (d ∷ ds) {m} s k = go (eqb c d) refl (leb d m) refl s k (no-larg
     go false e true f s k rest = rest s k
 
 -- so that a code's first byte is all of it
-first-word : {c : ℕ} (ws rest : List ℕ) → IsCode c → wordAt (bytesOf (c ∷ ws) ++ rest) 0 ≡ c
+first-word : {c : ℕ} (ws rest : List ℕ) → Listed c → wordAt (bytesOf (c ∷ ws) ++ rest) 0 ≡ c
 unfolding wordAt bytesOf allUpTo
-first-word {c} ws rest h = let small : c ≤ 17 = no-larger replyCodes tt (h .among) in omega arith
+first-word {c} ws rest h = let small : c ≤ 17 = no-larger replyCodes tt h in omega arith
 
+-- neither returned nor the first word of the reply
 pub answer-never-16 : {b s s′ : List ℕ} {r : ℕ} → Answered b s s′ r → (r ≢ 16) × (16 ≤ length s → wordAt s′ 0 ≢ 16)
 unfolding hostCall numbers pick
 answer-never-16 {b} {s} a =
-    (rw (a .returns) (returned (ltb (length s) 16) _), λ h. rw (a .reply, is-false (ltb (length s) 16) (no-ltb h), first-word _ _ code) (not-16 code))
-  where
-    R : Reply
-    R = byteReply ((length s - 16) / 4) b
-
-    code : IsCode (R .code)
-    code = byte-coded ((length s - 16) / 4) b
-
-    returned : (short : Bool) (t : List ℕ)
-        → pick {A = HostCall} short (record { returns = 8; replySlice = s }) (record { returns = R .code; replySlice = t }) .returns ≢ 16
-    returned true t e = absurd (omega (arith, e))
-    returned false t e = not-16 code e
+    let code = byte-listed ((length s - 16) / 4) b in (
+      not-16 (8 ∷ replyCodes) tt (answer-code a),
+      λ h. rw (a .reply, is-false (ltb (length s) 16) (no-ltb h), first-word _ _ code) (not-16 replyCodes tt code),
+    )

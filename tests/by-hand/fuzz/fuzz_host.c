@@ -103,11 +103,12 @@ static void ask_twice(const struct call *c, uint8_t fill) {
     hold_same(c);
 }
 
-/* Order 5: at another budget, with as much room, the same where it is no less than the units, 6 where it is less; of 1, 2 and 6 it says nothing. */
+/* Order 5: at another budget, with as much room, the same where it is no less than the units, 6 where it is less. 1 and 2 tell of no other
+   budget, 6 of no larger one. */
 static void ask_at_another_budget(struct call *c, const struct chosen *to) {
     const uint32_t code = numbers[0], units = numbers[3], budgets[] = {units - 1, units, units + 1, SPOREFLASK_MOST_BUDGET};
     c->budget = budgets[to->elsewhere % 4];
-    if (code == SPOREFLASK_BAD_BUDGET || code == SPOREFLASK_SHORT_WORK || code == SPOREFLASK_BUDGET) return;
+    if (code == SPOREFLASK_BAD_BUDGET || code == SPOREFLASK_SHORT_WORK || (code == SPOREFLASK_BUDGET && c->budget >= units)) return;
     if (c->budget == 0 || c->budget > SPOREFLASK_MOST_BUDGET) return;
     c->work_words = SPOREFLASK_WORK_WORDS(c->budget);
     c->work = place(work_arena, 4 * c->work_words, to->sides & 2, 0);

@@ -20,7 +20,7 @@ pub record Settled (code : ℕ) : Type 0 where
   pub not-2 : code ≢ 2
   pub not-6 : code ≢ 6
 
--- what a question that gets R gets at a budget: R, where the budget is no less than its units, else 6
+-- what a question that gets R gets at a budget: R, where the budget is no less than R's units, else 6
 unfoldable pub atBudget : ℕ → Reply → Reply
 atBudget budget R = pick (leb (R .units) budget) R (refusal 6 0 budget)
 
