@@ -161,8 +161,9 @@ enum sporeflask_entry {
    On UNBOUND_VARIABLE to PARAMETER_MISMATCH: two type sections, each after its count, empty where there is no type. The
    code's line says which types they hold. Otherwise no report.
 
-   At another budget, from 1 to SPOREFLASK_MOST_BUDGET, with the same room and enough work for it, a reply other than
-   BAD_BUDGET, SHORT_WORK and BUDGET is the same where the budget is no less than its units; below them it is BUDGET. */
+   At another budget, from 1 to SPOREFLASK_MOST_BUDGET, with the same room and enough work and stack for it, a reply
+   other than BAD_BUDGET, SHORT_WORK and BUDGET is the same where the budget is no less than its units; below them it is
+   BUDGET. The budget of sporeflask_answer is SPOREFLASK_DESK_BUDGET. */
 
 /* The first of the four numbers. `at` is 0 unless its line says otherwise. */
 enum sporeflask_code {

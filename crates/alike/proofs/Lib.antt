@@ -1,4 +1,5 @@
--- Demand 3 proved: Demand3 has the theorems, WellFormed, Changes, Deciding and Examples show what "alike" reaches, the others lead there.
+-- Demand 3 proved: Demand3 has the theorems, WellFormed, Changes, Deciding and Examples show what "alike" reaches, Refusals which calls are run and which
+-- codes replies have, the others lead there.
 pub mod Related
 pub mod Contexts
 pub mod Runs
@@ -10,6 +11,7 @@ pub mod Reading
 pub mod Replies
 pub mod Demand3
 pub mod WellFormed
+pub mod Refusals
 pub mod Changes
 pub mod Deciding
 pub mod Examples

@@ -129,7 +129,7 @@ module _ {rules : Rules} (c : Congruent rules) where
       from-depths (λ d. judgeTo rules d h j) (judgeBy rules h j) (λ d. judgeToR SteadyOne each (λ A. halt-steady) apply-steady c d h j)
       (λ d. judgeBy-upto c d h j)
 
--- each of the six judgements, in whatever it runs
+-- each of the six judgements, whatever it runs in
 pub judge-steady : (h : Here) (j : Judgement) → Steady (judge h j)
 judge-steady = judgeBy-steady rule-congruent
 

@@ -1,5 +1,5 @@
 -- Order 5's sentences with a condition left out: an example shows of each that it does not hold then. The question is case (a), which is charged
--- 2 units and has a report of 13 words.
+-- 2 units and has a report of 13 words. And 16 alone is struck.
 use mathlib.Core.Path.{_≡_, refl, ap}
 use mathlib.Core.Logic.{_↔_, _≢_}
 use mathlib.Core.Bool.{not}
@@ -31,6 +31,7 @@ Sentence Code Sizes =
 abbrev AsAsked : ℕ → ℕ → ℕ → ℕ → Type 0
 AsAsked room room′ budget′ work′ = (room′ ≡ room) × Allowed budget′ work′
 
+-- as order 5 has it, it holds
 pub as-asked : Sentence Settled AsAsked
 as-asked budget work room q s budget′ work′ room′ h z =
     rw (z .0) (same-at-larger-budget budget work room q (settled-allowed budget work room q s) (s .not-6) (z .1) h)
@@ -49,6 +50,7 @@ unfolding reply-computes
 seven-stays budget work a h =
     as-asked 2 4160 12 one (record { not-1 = apart 7 1 tt; not-2 = apart 7 2 tt; not-6 = apart 7 6 tt }) budget work 12 h (refl, a)
 
+-- with 1, with 2, with 6 among the codes
 pub with-1 : Sentence (λ c. (c ≢ 2) × (c ≢ 6)) AsAsked → ⊥
 unfolding reply-computes
 with-1 h = apart 0 1 tt (ap codeOf (h 0 4160 13 one (apart 1 2 tt, apart 1 6 tt) 2 4160 13 (lit≤ tt) (refl, allowed)))
@@ -61,6 +63,7 @@ pub with-6 : Sentence (λ c. (c ≢ 1) × (c ≢ 2)) AsAsked → ⊥
 unfolding reply-computes
 with-6 h = apart 0 6 tt (ap codeOf (h 1 4160 13 one (apart 6 1 tt, apart 6 2 tt) 2 4160 13 (lit≤ tt) (refl, allowed)))
 
+-- with another room, with less work, with a budget past 8,192
 pub other-room : Sentence Settled (λ room room′ budget′ work′. Allowed budget′ work′) → ⊥
 unfolding reply-computes
 other-room h = apart 7 0 tt (ap codeOf (h 2 4160 13 one settled 2 4160 12 (lit≤ tt) allowed))
@@ -79,7 +82,7 @@ pub up-to-units : ((budget work room : ℕ) (q : List ℕ) → Settled (reply bu
 unfolding reply-computes
 up-to-units h = apart 0 6 tt (h 2 4160 13 one settled 2 4160 allowed .1 (lit≤ tt))
 
--- ## "the report that the question gets with enough budget (past 8,192 if need be) and room": one at most
+-- ## With enough budget and room: one reply at most
 
 abbrev asked : Question
 asked = record { kind = 7; manner = plain; asks = infer [] (litInt 4 1 0) }

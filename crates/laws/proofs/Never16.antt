@@ -1,5 +1,5 @@
--- No run ends in InstantiationError, in any mode, whatever the budget, and no reply to one has 16: `solve` would refuse with it only where a type is no monotype, and Arrow
--- and Forall have rules of their own.
+-- No run ends in InstantiationError, in any mode, whatever the budget, and no question that is run gets 16: `solve` would refuse with it only
+-- where a type is no monotype, and Arrow and Forall have rules of their own.
 use mathlib.Core.Logic.{_≢_}
 use mathlib.Core.Bool.{Bool, true, false, not}
 use mathlib.Core.List.{List}
@@ -52,7 +52,7 @@ judge-listed : (h : Here) (j : Judgement) → OnlyListed Result (judge h j) (jud
 unfolding judgeBy
 judge-listed h j = record { ends = λ l n. judgeToR OnlyListed only-listed halt-listed apply-listed rule-congruent l h j .ends l n }
 
--- each of the six judgements, in whatever it runs, with any budget and any fresh names taken; and what a question asks
+-- each of the six judgements, whatever it runs in, with any budget and any fresh names taken; and what a question asks
 pub judgement-listed : (h : Here) (j : Judgement) (l n : ℕ) → EndsListed (judge h j l n)
 judgement-listed h j l n = judge-listed h j .ends l n
 
@@ -80,6 +80,7 @@ pub run-listed : (budget room : ℕ) (q : Question) → Listed (replyWith budget
 unfolding replyWith
 run-listed budget room q = out-listed (q .kind) budget room (answer q budget 0) (answer-listed q budget 0)
 
+-- a code that is one of cs, where 16 is not
 pub not-16 : {c : ℕ} (cs : List ℕ) → T (not (isOneOf 16 cs)) → T (isOneOf c cs) → c ≢ 16
 not-16 cs h k e = let z : T (isOneOf 16 cs) = rw e at k in not-both (isOneOf 16 cs) h z
   where

@@ -2,7 +2,7 @@
 -- that reply's units, else 6. So a reply that is not 6 stays at every larger budget, and there is one at most with enough budget and room.
 use mathlib.Core.Path.{_≡_, refl, sym, ap, _∙_}
 use mathlib.Core.Logic.{_↔_, _≢_}
-use mathlib.Core.Bool.{Bool, true, false, _||_}
+use mathlib.Core.Bool.{Bool, true, false, _&&_, _||_}
 use mathlib.Core.List.{List}
 use Prim.Native.Nat.{ℕ, _+_, _-_, _≤_, _<_}
 use native.Mathlib.Omega.{arith}
@@ -15,7 +15,7 @@ use Rattle.definition.specs.Syntax.{pick}
 use Rattle.definition.specs.Question.{Read, got, fault, Question, readQuestion}
 use Rattle.definition.specs.Run.{Out, done, fail, stop, M, andThen, _>>=_, give, refuse, charge}
 use Rattle.definition.specs.Rules.{Result}
-use Rattle.definition.specs.Reply.{Reply, refusal, reported, errorCode, errorAt, errorWords, resultWords, answer, outReply, readReply, reply}
+use Rattle.definition.specs.Reply.{Reply, refusal, most, reported, errorCode, errorAt, errorWords, resultWords, answer, outReply, readReply, reply}
 use Rattle.laws.specs.OtherBudgets.{Allowed, Settled, atBudget, replyWith, WithEnough}
 use Rattle.laws.specs.Count.{IsRun}
 use Rattle.laws.proofs.Steps.{is-true, is-false, pick-true, pick-false, charge-then}
@@ -39,7 +39,7 @@ at-ended : (l : ℕ) (R : Reply) → atBudget l R .code ≢ 6 → R .units ≤ l
 unfolding refusal
 at-ended l R h = elim (decLe (R .units) l) [ yes i ↦ i | no i ↦ absurd (h (ap codeOf (at-short l R (lt-of-not-le i)))) ]
 
--- ## Replies, one for each budget, of which each decides all of smaller budgets
+-- ## Replies, one for each budget, of which each decides those of all smaller budgets
 
 record ByUnits (F : ℕ → Reply) : Type 0 where
   smaller : (l k : ℕ) → l ≤ k → F l ≡ atBudget l (F k)
@@ -69,6 +69,7 @@ reported-units : (room c p u : ℕ) (ws : List ℕ) → reported room c p u ws .
 unfolding reported
 reported-units room c p u ws = pick-units _ _ _ refl refl
 
+-- a run that came to o with the budget k comes with l to what is charged k - l more (`smaller`, Budgets); so its reply is the other's at l
 late-reply : (kind room l k : ℕ) (o : Out Result) → l ≤ k → outReply kind l room (late (k - l) o) ≡ atBudget l (outReply kind k room o)
 unfolding late outReply refusal give refuse _>>=_ andThen
 late-reply kind room l k o h = go o
@@ -119,7 +120,7 @@ fromThree-by-units room ws = go (eqb (length ws) 0 || ltb 2048 (length ws))
     go true = record { smaller = λ l k h. sym (at-enough l (refusal 3 0 0) (omega arith)) }
     go false = read-by-units room (readQuestion ws)
 
--- any two that are allowed, whatever the code
+-- any two allowed budgets, whatever the code
 pub at-smaller-budget : {budget work budget′ work′ : ℕ} (room : ℕ) (ws : List ℕ) → Allowed budget work → Allowed budget′ work′ → budget′ ≤ budget
     → reply budget′ work′ room ws ≡ atBudget budget′ (reply budget work room ws)
 at-smaller-budget {budget} {budget′ = budget′} room ws a a′ h =
@@ -198,3 +199,20 @@ one-with-enough {q} {R} {R′} e e′ =
 pub with-enough : {budget work : ℕ} {ws : List ℕ} {q : Question} → IsRun budget work ws q → (room : ℕ)
     → reply budget work room ws .code ≢ 6 → reply budget work room ws .code ≢ 7 → WithEnough q (reply budget work room ws)
 with-enough {budget} a room h k = record { budget = budget; room = room; is = run-reply a room; not-6 = h; not-7 = k }
+
+-- and so is every result of a run, whose words are no more than a reply can have, with whatever budget it was come to
+pub accepted-with-enough : (q : Question) (budget : ℕ) {left names : ℕ} {r : Result} → answer q budget 0 ≡ done r left names
+    → length (resultWords (q .kind) r) ≤ most
+    → WithEnough q (record { code = 0; at = 0; len = length (resultWords (q .kind) r); units = budget - left; report = resultWords (q .kind) r })
+unfolding replyWith outReply reported
+accepted-with-enough q budget {r = r} e h =
+    let n : ℕ = length (resultWords (q .kind) r) in
+    let room : leb n n ≡ true = is-true (leb n n) (yes-leb (le-refl n)) in
+    let fits : (leb n n && leb n most) ≡ true = rw room (is-true (leb n most) (yes-leb h)) in
+    record {
+      budget = budget;
+      room = n;
+      is = rw e (sym (pick-true _ _ fits));
+      not-6 = λ x. omega (arith, x);
+      not-7 = λ x. omega (arith, x);
+    }

@@ -17,7 +17,7 @@ use Rattle.laws.specs.OtherBudgets.{Allowed, replyWith}
 use Rattle.laws.specs.Count.{IsRun}
 use Rattle.laws.proofs.Steps.{is-false}
 
--- ## A number outside of 1 to high
+-- ## The test for a number outside of 1 to high
 
 pub within : {high x : ℕ} → 1 ≤ x → x ≤ high → (eqb x 0 || ltb high x) ≡ false
 within {high} {x} h k =
@@ -45,6 +45,7 @@ pub allowed-reply : {budget work : ℕ} (room : ℕ) (ws : List ℕ) → Allowed
 unfolding reply pick
 allowed-reply {budget} {work} room ws a = rw (within (a .low) (a .high), is-false (ltb work (workWords budget)) (no-ltb (a .enough)))
 
+-- how a reply comes about: 1, 2, 3, or what was read
 pub data Tried (budget work room : ℕ) (ws : List ℕ) : Reply → Type 0 where
   badBudget : Tried budget work room ws (refusal 1 0 0)
   shortWork : Tried budget work room ws (refusal 2 0 0)
@@ -83,6 +84,7 @@ unfolding question-computes
 some-words [] e = absurd (is-got (readQuestion []) e)
 some-words (w ∷ ws) e = omega arith
 
+-- the reply to a call that is run is its question's, with that budget and room
 pub run-reply : {budget work : ℕ} {ws : List ℕ} {q : Question} → IsRun budget work ws q → (room : ℕ)
     → reply budget work room ws ≡ replyWith budget room q
 unfolding replyWith readReply pick

@@ -26,11 +26,11 @@ atBudget budget R = pick (leb (R .units) budget) R (refusal 6 0 budget)
 
 -- ---- Order 4: "the report that the question gets with enough budget (past 8,192 if need be) and room"
 
--- what a question gets with any budget at all
+-- what a question that is run gets, with any budget at all
 unfoldable pub replyWith : ℕ → ℕ → Question → Reply
 replyWith budget room q = outReply (q .kind) budget room (answer q budget 0)
 
--- R is what the question gets, with a budget that is enough and a report slice that has room
+-- R is what the question gets, its report or a type error's, with a budget that is enough and a report slice that has room
 pub record WithEnough (q : Question) (R : Reply) : Type 0 where
   pub budget : ℕ
   pub room : ℕ

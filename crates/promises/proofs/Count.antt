@@ -1,27 +1,24 @@
 -- The count through the contracts of both functions for C: "6 Budget: the next charge would pass the budget", and at no other time.
 use mathlib.Core.Path.{_≡_, refl, sym, ap, _∙_}
-use mathlib.Core.Bool.{Bool, true, false, _&&_}
+use mathlib.Core.Bool.{Bool, true, false}
 use mathlib.Core.Logic.{_↔_, _≢_}
 use mathlib.Core.List.{List}
 use mathlib.Core.Option.{some}
 use Prim.Native.Nat.{ℕ, _-_, _/_, _%_, _≤_, min}
 use native.Mathlib.Omega.{arith}
 use lib.ListN.{length, getD}
-use lib.Dec.{T, leb, ltb, eqb}
+use lib.Dec.{ltb, eqb}
 use mir.Facts.{no-ltb}
 use borrow.Author.Tests.{ltb-false, eqb-true}
 use Rattle.definition.specs.Syntax.{pick}
-use Rattle.definition.specs.Question.{Read, got, fault, Question, readQuestion}
-use Rattle.definition.specs.Reply.{Reply, refusal, answer, readReply, reply}
+use Rattle.definition.specs.Question.{Question}
+use Rattle.definition.specs.Reply.{Reply, refusal, answer, reply}
 use Rattle.definition.specs.Memory.{call}
 use Rattle.definition.specs.Host.{wordsOf, deskReply, byteReply, numbers, HostCall, hostCall}
-use Rattle.laws.specs.Codes.{Late}
-use Rattle.laws.specs.OtherBudgets.{Allowed}
 use Rattle.laws.specs.Count.{Count, countTo, Passes, IsRun}
 use Rattle.laws.proofs.Count.{six-exactly-past-count-to, units-are-the-count}
 use Rattle.laws.proofs.Steps.{is-false}
-use Rattle.laws.proofs.Tried.{Tried, badBudget, shortWork, badLength, isRead, tried}
-use Rattle.alike.proofs.WellFormed.{IsFault, shape, name, four-or-five}
+use Rattle.alike.proofs.Refusals.{six-is-run}
 use Rattle.sized.proofs.Answering.{whole}
 use Rattle.host.specs.Host.{Answered, Checked}
 
@@ -51,33 +48,6 @@ answer-6-exactly-past-count {b} {s} h k a c =
 
 -- ## And at no other time: a call that gets 6 is one that is run
 
-no-late : (c : ℕ) → T (leb 1 c && leb c 5) → Late c → ⊥
-no-late c t e = rw e at t
-
--- none of 1 to 5, so that the question was run
-pub late-is-run : (budget work room : ℕ) (ws : List ℕ) → Late (reply budget work room ws .code) → (q : Question) × IsRun budget work ws q
-unfolding readReply refusal
-late-is-run budget work room ws e = go (tried budget work room ws) e
-  where
-    early : {A : Type 0} {c : ℕ} → IsFault c → Late c → A
-    early shape e = absurd (no-late 4 tt e)
-    early name e = absurd (no-late 5 tt e)
-
-    run : Allowed budget work → length ws ≤ 2048 → (r : Read Question) → readQuestion ws ≡ r → Late (readReply budget room r .code)
-        → (q : Question) × IsRun budget work ws q
-    run a few (got q p vs) read e = (q, record { allowed = a; few = few; place = p; rest = vs; read = read })
-    run a few (fault c p) read e = early (four-or-five ws read) e
-
-    go : {R : Reply} → Tried budget work room ws R → Late (R .code) → (q : Question) × IsRun budget work ws q
-    go badBudget e = absurd (no-late 1 tt e)
-    go shortWork e = absurd (no-late 2 tt e)
-    go (badLength a) e = absurd (no-late 3 tt e)
-    go (isRead a few) e = run a few (readQuestion ws) refl e
-
-pub six-is-run : (budget work room : ℕ) (ws : List ℕ) → reply budget work room ws .code ≡ 6 → (q : Question) × IsRun budget work ws q
-six-is-run budget work room ws e = late-is-run budget work room ws (rw e)
-
--- of both functions
 pub check-6-is-run : {budget : ℕ} {q w w′ s s′ ns : List ℕ} {r : ℕ} → Checked budget q w w′ s s′ ns r → r ≡ 6 → (Q : Question) × IsRun budget (length w) q Q
 unfolding call
 check-6-is-run {budget} {q} {w} {s = s} c e = six-is-run budget (length w) (length s) q (sym (c .returns) ∙ e)

@@ -1,21 +1,21 @@
--- The theorems beside those of Main: of the library's entry and the definition, of the count, of a report's parts, of what "alike" means. Nobody
+-- The theorems beside those of Main: of the library's entry and the definition, of the count, of order 5, of a report's parts, of "alike". Nobody
 -- who believes Main needs them; docs/THEOREMS.md says of each what it does not say. Each restates the theorem behind its `=`. Their words stand
--- where Main's do, and besides in crates/laws/specs/Rings.antt (`Ring`, `Leads`, `Applies`) and Codes.antt (`Listed`), crates/sections/specs and
--- crates/judging/specs; computed tables in crates/laws/proofs/Cases.antt and crates/alike/proofs/Examples.antt.
+-- where Main's do, and besides in crates/laws/specs (Rings, Codes, OtherBudgets), crates/sections/specs and crates/judging/specs;
+-- computed tables in crates/laws/proofs/Cases.antt and crates/alike/proofs/Examples.antt.
 use mathlib.Core.Path.{_≡_}
 use mathlib.Core.List.{List, [], _∷_}
 use mathlib.Core.Logic.{_↔_, _≢_}
 use mathlib.Core.Option.{Option, none, some}
-use Prim.Native.Nat.{ℕ, _≤_, _<_}
+use Prim.Native.Nat.{ℕ, _-_, _≤_, _<_}
 use lib.ListN.{length, take}
 use lib.Dec.{T, eqb}
 use Rattle.definition.specs.Syntax as syntax
 use Rattle.definition.specs.Syntax.{pick, TyVar, Ty, Ctx, Judgement, treeWords}
 use Rattle.definition.specs.Question.{Question, got, fault, readQuestion}
-use Rattle.definition.specs.Run.{Out, stop, M}
+use Rattle.definition.specs.Run.{Out, done, stop, M}
 use Rattle.definition.specs.Types.{apply}
 use Rattle.definition.specs.Rules.{Result, Here, judge}
-use Rattle.definition.specs.Reply.{Reply, refusal, answer, outReply, reply}
+use Rattle.definition.specs.Reply.{Reply, refusal, most, resultWords, answer, outReply, reply}
 use Rattle.definition.specs.Memory.{Call, call}
 use Rattle.definition.specs.Host.{byteReply}
 use Rattle.laws.specs.Codes.{Late, replyCodes, isOneOf, Listed, EndsListed}
@@ -69,10 +69,10 @@ four-or-five = alike-proofs.WellFormed.four-or-five
 
 -- what gets none of 1 to 5 from the definition is run; so is what gets 6
 pub late-is-run : (budget work room : ℕ) (ws : List ℕ) → Late (reply budget work room ws .code) → (q : Question) × IsRun budget work ws q
-late-is-run = promises-proofs.Count.late-is-run
+late-is-run = alike-proofs.Refusals.late-is-run
 
 pub six-is-run : (budget work room : ℕ) (ws : List ℕ) → reply budget work room ws .code ≡ 6 → (q : Question) × IsRun budget work ws q
-six-is-run = promises-proofs.Count.six-is-run
+six-is-run = alike-proofs.Refusals.six-is-run
 
 -- of a call that is run: 6 exactly where the count passes the budget; the same with the count as far as a bound; units are the count
 module _ {budget work : ℕ} {ws : List ℕ} {q : Question} (run : IsRun budget work ws q) (room : ℕ) where
@@ -131,11 +131,11 @@ module _ (budget work room : ℕ) (allowed : Allowed budget work) where
   pub ring-made : reply budget work room (5 ∷ 0 ∷ 2 ∷ 34 ∷ 1 ∷ 0 ∷ 2 ∷ 4 ∷ 1 ∷ 5 ∷ 5 ∷ 4 ∷ 1 ∷ 4 ∷ 1 ∷ []) ≡ refusal 6 0 budget
   ring-made = laws-proofs.Endless.ring-made budget work room allowed
 
--- # Order 5, of the definition
+-- # Order 5
 
 -- every reply's code is listed: it is in document 01's table, without 8, which is the telephone host's, and 16
 pub every-code : (budget work room : ℕ) (q : List ℕ) → Listed (reply budget work room q .code)
-every-code = promises-proofs.Never16.every-code
+every-code = alike-proofs.Refusals.every-code
 
 -- so is what both functions return, but for the telephone host's 8
 pub check-code : {budget : ℕ} {q w w′ s s′ ns : List ℕ} {r : ℕ} → Checked budget q w w′ s s′ ns r → Listed r
@@ -187,6 +187,12 @@ one-with-enough = laws-proofs.OtherBudgets.one-with-enough
 pub with-enough : {budget work : ℕ} {ws : List ℕ} {q : Question} → IsRun budget work ws q → (room : ℕ)
     → reply budget work room ws .code ≢ 6 → reply budget work room ws .code ≢ 7 → WithEnough q (reply budget work room ws)
 with-enough = laws-proofs.OtherBudgets.with-enough
+
+-- and so is every result of a run, with whatever budget it was come to
+pub accepted-with-enough : (q : Question) (budget : ℕ) {left names : ℕ} {r : Result} → answer q budget 0 ≡ done r left names
+    → length (resultWords (q .kind) r) ≤ most
+    → WithEnough q (record { code = 0; at = 0; len = length (resultWords (q .kind) r); units = budget - left; report = resultWords (q .kind) r })
+accepted-with-enough = laws-proofs.OtherBudgets.accepted-with-enough
 
 -- # A report's sections, "the part of the caller's report slice it fills, count excluded, empty where there is none", and its tree's nodes
 

@@ -15,7 +15,7 @@
 --   Pairing, itself            a pairing of variables' and of types' names; the one of every name with itself: the same file
 --   Change, pairing, change    new names and literals; how they pair the names; words with them: crates/alike/proofs/Changes.antt
 -- b is a question's bytes, q its words, Q what they are read as; w and s are the slices before a call, w′ and s′ after it, ns the four numbers,
--- r what is returned; of two calls these are w₁, w₂ and so on.
+-- r what is returned; of two calls these are w₁, w₂ and so on, and v the second one's work. `getD ns 3 0` is the fourth of ns.
 use mathlib.Core.Path.{_≡_}
 use mathlib.Core.List.{List, map}
 use mathlib.Core.Logic.{_↔_, _≢_}
@@ -139,9 +139,9 @@ changed = alike-proofs.Changes.changed
 
 -- # Order 5: "The number that nobody gets. .. Show that no question in either mode draws 16"
 
--- of every budget, work, room and list of words; neither returned nor told as the first of the four numbers
+-- of every budget, work, room and list of words, the mode among them; neither returned nor told as the first of the four numbers
 pub never-16 : (budget work room : ℕ) (q : List ℕ) → reply budget work room q .code ≢ 16
-never-16 = promises-proofs.Never16.never-16
+never-16 = alike-proofs.Refusals.never-16
 
 pub check-never-16 : {budget : ℕ} {q w w′ s s′ ns : List ℕ} {r : ℕ} → Checked budget q w w′ s s′ ns r → (r ≢ 16) × (getD ns 0 0 ≢ 16)
 check-never-16 = promises-proofs.Never16.check-never-16
@@ -166,7 +166,7 @@ module _ {budget budget′ : ℕ} {q w v w₁ v₂ s s₁ s₂ n₁ n₂ : List 
   check-6-exactly-below-its-units = promises-proofs.OtherBudgets.check-6-exactly-below-its-units c c′ settled allowed
 
 -- sporeflask_answer, whose budget is 384, and sporeflask_check with the question's words and a report slice t that has as much room: what the first
--- gave the second gives with 384 or more; and what the second gave, with any budget, tells what the first gives
+-- gave, unless 6, the second gives with 384 or more; and what the second gave with any allowed budget, unless 6, tells what the first gives
 module _ {budget : ℕ} {b s s′ w w′ t t′ ns : List ℕ} {r r′ : ℕ} (a : Answered b s s′ r) (c : Checked budget (wordsOf b (length b / 4)) w w′ t t′ ns r′)
     (long : 16 ≤ length s) (whole : length b % 4 ≡ 0) (room : length t ≡ min ((length s - 16) / 4) 4096) (allowed : Allowed budget (length w)) where
   pub answer-same-at-larger-budget : r ≢ 6 → 384 ≤ budget → SameTold r r′ ns s s′ t t′

@@ -1,4 +1,4 @@
--- "no question in either mode draws 16": every reply's code is listed, and 16 is not; so no call of a function for C returns or tells 16.
+-- "no question in either mode draws 16", through the contracts: what both functions for C return is listed, but for 8, and 16 is not.
 use mathlib.Core.Path.{_≡_, refl}
 use mathlib.Core.Logic.{_≢_}
 use mathlib.Core.Bool.{Bool, true, false, _&&_, _||_}
@@ -10,40 +10,14 @@ use lib.Dec.{T, ltb, eqb, leb}
 use mir.Facts.{no-ltb}
 use borrow.Author.Tests.{eqb-true, leb-true}
 use Rattle.definition.specs.Syntax.{pick}
-use Rattle.definition.specs.Question.{Read, got, fault, Question, readQuestion}
-use Rattle.definition.specs.Reply.{Reply, refusal, readReply, reply}
+use Rattle.definition.specs.Reply.{Reply, refusal, reply}
 use Rattle.definition.specs.Memory.{call}
 use Rattle.definition.specs.Host.{wordAt, wordsOf, bytesOf, deskReply, byteReply, numbers, HostCall, hostCall}
 use Rattle.laws.specs.Codes.{replyCodes, isOneOf, Listed}
-use Rattle.laws.specs.OtherBudgets.{replyWith}
 use Rattle.laws.proofs.Steps.{is-false}
-use Rattle.laws.proofs.Never16.{pick-listed, run-listed, not-16}
-use Rattle.laws.proofs.Tried.{Tried, badBudget, shortWork, badLength, isRead, tried}
-use Rattle.alike.proofs.WellFormed.{IsFault, shape, name, four-or-five}
+use Rattle.laws.proofs.Never16.{pick-listed, not-16}
+use Rattle.alike.proofs.Refusals.{every-code, never-16}
 use Rattle.host.specs.Host.{Answered, Checked}
-
--- ## Replies
-
-fault-listed : {c : ℕ} → IsFault c → Listed c
-fault-listed shape = tt
-fault-listed name = tt
-
-pub every-code : (budget work room : ℕ) (q : List ℕ) → Listed (reply budget work room q .code)
-unfolding readReply replyWith refusal
-every-code budget work room q = go (tried budget work room q)
-  where
-    read : (r : Read Question) → readQuestion q ≡ r → Listed (readReply budget room r .code)
-    read (got Q p rest) e = run-listed budget room Q
-    read (fault c p) e = fault-listed (four-or-five q e)
-
-    go : {R : Reply} → Tried budget work room q R → Listed (R .code)
-    go badBudget = tt
-    go shortWork = tt
-    go (badLength a) = tt
-    go (isRead a few) = read (readQuestion q) refl
-
-pub never-16 : (budget work room : ℕ) (q : List ℕ) → reply budget work room q .code ≢ 16
-never-16 budget work room q = not-16 replyCodes tt (every-code budget work room q)
 
 -- ## sporeflask_check
 
@@ -98,7 +72,7 @@ no-larger {c} (d ∷ ds) {m} s k = go (eqb c d) refl (leb d m) refl s k (no-larg
 -- so that a code's first byte is all of it
 first-word : {c : ℕ} (ws rest : List ℕ) → Listed c → wordAt (bytesOf (c ∷ ws) ++ rest) 0 ≡ c
 unfolding wordAt bytesOf allUpTo
-first-word {c} ws rest h = let small : c ≤ 17 = no-larger replyCodes tt h in omega arith
+first-word {c} ws rest h = let small : c ≤ 255 = no-larger replyCodes tt h in omega arith
 
 -- neither returned nor the first word of the reply
 pub answer-never-16 : {b s s′ : List ℕ} {r : ℕ} → Answered b s s′ r → (r ≢ 16) × (16 ≤ length s → wordAt s′ 0 ≢ 16)
