@@ -313,6 +313,26 @@ static void numbers_of_kinds_and_codes(void) {
     for (size_t i = 0; i < COUNT(SIZES); i++) hold(SIZES[i][0] == SIZES[i][1], "sizes", "the number of the table's row", i);
 }
 
+/* Whether the header has a name for a code. A name more or less does not compile: -Wswitch, with no default. */
+static bool has_name(enum sporeflask_code code) {
+    switch (code) {
+    case SPOREFLASK_OK: case SPOREFLASK_BAD_BUDGET: case SPOREFLASK_SHORT_WORK: case SPOREFLASK_BAD_LENGTH:
+    case SPOREFLASK_BAD_SHAPE: case SPOREFLASK_RESERVED_NAME: case SPOREFLASK_BUDGET: case SPOREFLASK_NO_ROOM:
+    case SPOREFLASK_SHORT_REPLY: case SPOREFLASK_UNBOUND_VARIABLE: case SPOREFLASK_APPLICATION_TYPE_ERROR:
+    case SPOREFLASK_TYPE_APPLICATION_ERROR: case SPOREFLASK_OCCURS_CHECK: case SPOREFLASK_SUBTYPING_ERROR:
+    case SPOREFLASK_PARAMETER_MISMATCH: return true;
+    }
+    return false;
+}
+
+/* Those that are returned (answer-code, docs/THEOREMS.md), and no other: not 16. */
+static void names_of_codes(void) {
+    for (int code = 0; code < 32; code++) {
+        bool returned = code <= 8 || (code >= 11 && code <= 15) || code == 17;
+        hold(has_name((enum sporeflask_code)code) == returned, "codes", "a name for the code", (size_t)code);
+    }
+}
+
 /* In the order of document 01's "Rules 1 to 37". */
 static void numbers_of_rules(void) {
     static const int RULES[] = {
@@ -527,6 +547,7 @@ int main(void) {
     question_words();
     numbers_of_names();
     numbers_of_kinds_and_codes();
+    names_of_codes();
     numbers_of_rules();
     formula_in_names();
     threads();

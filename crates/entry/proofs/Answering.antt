@@ -1,11 +1,9 @@
 -- From what was read, and from a run, to the reply.
 use mathlib.Core.Path.{_≡_, refl, ap, _∙_}
-use mathlib.Core.Bool.{Bool, true, false, _&&_}
 use mathlib.Core.List.{List, _++_}
 use Prim.Native.Nat.{ℕ, _-_}
 use lib.ListN.{length, drop, replicate}
 use lib.Seq.{drop-at}
-use lib.Dec.{leb}
 use Rattle.definition.specs.Syntax.{pick}
 use Rattle.definition.specs.Question.{readQuestion}
 use Rattle.definition.specs.Run.{Out, done, fail, stop}
@@ -18,18 +16,14 @@ use Rattle.reading.specs.declared.Question.{Question}
 use Rattle.replies.specs.declared.Reply.{Reply}
 use Rattle.laws.specs.Codes.{Late}
 use Rattle.laws.proofs.Codes.{error, error-late}
+use Rattle.laws.proofs.Steps.{pick-has}
 use Rattle.entry.specs.Entry.{Replied, outcome, Gives, Cleared}
 
 -- ## A run's reply is none of 1 to 5
 
-late-pick : (b : Bool) (x y : definition.Reply) → Late (x .code) → Late (y .code) → Late (pick b x y .code)
-unfolding pick
-late-pick true x y h k = h
-late-pick false x y h k = k
-
 reported-late : (room c p u : ℕ) (ws : List ℕ) → Late c → Late (reported room c p u ws .code)
 unfolding reported
-reported-late room c p u ws h = late-pick (leb (length ws) room && leb (length ws) definition.most) _ _ h refl
+reported-late room c p u ws h = pick-has (λ (R : definition.Reply). Late (R .code)) _ h refl
 
 out-late : (k budget room : ℕ) (o : Out Result) → Late (outReply k budget room o .code)
 unfolding outReply refusal

@@ -7,7 +7,7 @@ use Prim.Native.Nat.{ℕ, _-_, _≤_, _<_}
 use native.Mathlib.Omega.{arith}
 use native.Mathlib.Nat.{lt-of-not-le, le-refl}
 use native.Mathlib.Decide.{decLe}
-use mathlib.Core.Bool.{Bool, true, false}
+use mathlib.Core.Bool.{true, false}
 use mathlib.Core.List.{List}
 use lib.Dec.{leb}
 use mir.Facts.{yes-leb, no-leb}
@@ -18,7 +18,7 @@ use Rattle.definition.specs.Rules.{Result, Here, judge}
 use Rattle.definition.specs.Reply.{Reply, refusal, reported, errorCode, answer, outReply, reply}
 use Rattle.laws.specs.OtherBudgets.{replyWith}
 use Rattle.laws.specs.Count.{charged, upTo, Count, countTo, Passes, IsRun}
-use Rattle.laws.proofs.Steps.{is-true, is-false, pick-true, pick-false, charge-then}
+use Rattle.laws.proofs.Steps.{is-true, is-false, pick-true, pick-false, pick-has, charge-then}
 use Rattle.laws.proofs.Codes.{error}
 use Rattle.laws.proofs.Tried.{run-reply}
 use Rattle.laws.proofs.Budgets.{late, Steady, smaller, judge-steady, answer-steady}
@@ -123,14 +123,9 @@ data ReplyTo (b : ℕ) (R : Reply) : Option ℕ → Type 0 where
   six : R ≡ refusal 6 0 b → ReplyTo b R none
   other : {u : ℕ} → R .code ≢ 6 → R .units ≡ u → ReplyTo b R (some u)
 
-pick-told : {b : ℕ} {c : Option ℕ} (t : Bool) {x y : Reply} → ReplyTo b x c → ReplyTo b y c → ReplyTo b (pick t x y) c
-unfolding pick
-pick-told true h k = h
-pick-told false h k = k
-
 reported-told : (b room c p u : ℕ) (ws : List ℕ) → c ≢ 6 → ReplyTo b (reported room c p u ws) (some u)
 unfolding reported
-reported-told b room c p u ws h = pick-told _ (other h refl) (other (λ e. omega (arith, e)) refl)
+reported-told b room c p u ws h = pick-has (λ R. ReplyTo b R (some u)) _ (other h refl) (other (λ e. omega (arith, e)) refl)
 
 told : (kind b room : ℕ) (o : Out Result) → ReplyTo b (outReply kind b room o) (charged b o)
 unfolding outReply charged

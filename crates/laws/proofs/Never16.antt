@@ -13,6 +13,7 @@ use Rattle.definition.specs.Rules.{Result, Here, judgeBy, judge}
 use Rattle.definition.specs.Reply.{Reply, refusal, reported, answer, outReply}
 use Rattle.laws.specs.Codes.{isOneOf, Listed, EndsListed}
 use Rattle.laws.specs.OtherBudgets.{replyWith}
+use Rattle.laws.proofs.Steps.{pick-has}
 use Rattle.laws.proofs.Congruence.{Compatible, rule-congruent, applyToR, judgeToR, answerR}
 
 -- of m alone; the second run is there since a relation is of two
@@ -61,14 +62,9 @@ answer-listed q l n = answerR OnlyListed only-listed halt-listed apply-listed ju
 
 -- ## The codes of replies to what is run
 
-pub pick-listed : (b : Bool) (x y : Reply) → Listed (x .code) → Listed (y .code) → Listed (pick b x y .code)
-unfolding pick
-pick-listed true x y h k = h
-pick-listed false x y h k = k
-
 reported-listed : (room c p u : ℕ) (ws : List ℕ) → Listed c → Listed (reported room c p u ws .code)
 unfolding reported
-reported-listed room c p u ws h = pick-listed _ _ _ h tt
+reported-listed room c p u ws h = pick-has (λ (R : Reply). Listed (R .code)) _ h tt
 
 out-listed : (kind b room : ℕ) (o : Out Result) → EndsListed o → Listed (outReply kind b room o .code)
 unfolding outReply refusal

@@ -18,7 +18,7 @@ use Rattle.definition.specs.Rules.{Result}
 use Rattle.definition.specs.Reply.{Reply, refusal, most, reported, errorCode, errorAt, errorWords, resultWords, answer, outReply, readReply, reply}
 use Rattle.laws.specs.OtherBudgets.{Allowed, Settled, atBudget, replyWith, WithEnough}
 use Rattle.laws.specs.Count.{IsRun}
-use Rattle.laws.proofs.Steps.{is-true, is-false, pick-true, pick-false, charge-then}
+use Rattle.laws.proofs.Steps.{is-true, is-false, pick-true, pick-false, pick-has, charge-then}
 use Rattle.laws.proofs.Budgets.{late, smaller, answer-steady}
 use Rattle.laws.proofs.Tried.{fromThree, allowed-reply, Tried, badBudget, shortWork, badLength, isRead, tried, run-reply}
 
@@ -60,14 +60,9 @@ module _ {F : ℕ → Reply} (u : ByUnits F) {b : ℕ} (ended : F b .code ≢ 6)
 
 -- ## Runs, at any budget at all
 
-pick-units : (t : Bool) (x y : Reply) {u : ℕ} → x .units ≡ u → y .units ≡ u → pick t x y .units ≡ u
-unfolding pick
-pick-units true x y h k = h
-pick-units false x y h k = k
-
 reported-units : (room c p u : ℕ) (ws : List ℕ) → reported room c p u ws .units ≡ u
 unfolding reported
-reported-units room c p u ws = pick-units _ _ _ refl refl
+reported-units room c p u ws = pick-has (λ (R : Reply). R .units ≡ u) _ refl refl
 
 -- a run that came to o with the budget k comes with l to what is charged k - l more (`smaller`, Budgets); so its reply is the other's at l
 late-reply : (kind room l k : ℕ) (o : Out Result) → l ≤ k → outReply kind l room (late (k - l) o) ≡ atBudget l (outReply kind k room o)

@@ -27,6 +27,12 @@ pub pick-false : {A : Type 0} {b : Bool} (x y : A) → b ≡ false → pick b x 
 unfolding pick
 pick-false x y e = rw e
 
+-- what both have, the one that is picked has
+pub pick-has : {A : Type 0} (P : A → Type 0) (b : Bool) {x y : A} → P x → P y → P (pick b x y)
+unfolding pick
+pick-has P true h k = h
+pick-has P false h k = k
+
 -- ## A charge
 
 pub charge-yes : (c l n : ℕ) → c ≤ l → charge c l n ≡ done tt (l - c) n

@@ -14,8 +14,8 @@ use Rattle.definition.specs.Reply.{Reply, refusal, reply}
 use Rattle.definition.specs.Memory.{call}
 use Rattle.definition.specs.Host.{wordAt, wordsOf, bytesOf, deskReply, byteReply, numbers, HostCall, hostCall}
 use Rattle.laws.specs.Codes.{replyCodes, isOneOf, Listed}
-use Rattle.laws.proofs.Steps.{is-false}
-use Rattle.laws.proofs.Never16.{pick-listed, not-16}
+use Rattle.laws.proofs.Steps.{is-false, pick-has}
+use Rattle.laws.proofs.Never16.{not-16}
 use Rattle.alike.proofs.Refusals.{every-code, never-16}
 use Rattle.host.specs.Host.{Answered, Checked}
 
@@ -35,7 +35,7 @@ check-never-16 {budget} {q} {w} {s = s} c =
 
 byte-listed : (room : ℕ) (b : List ℕ) → Listed (byteReply room b .code)
 unfolding byteReply deskReply refusal
-byte-listed room b = pick-listed _ _ _ (every-code 384 16384 (min room 4096) (wordsOf b (length b / 4))) tt
+byte-listed room b = pick-has (λ (R : Reply). Listed (R .code)) _ (every-code 384 16384 (min room 4096) (wordsOf b (length b / 4))) tt
 
 pub answer-code : {b s s′ : List ℕ} {r : ℕ} → Answered b s s′ r → T (isOneOf r (8 ∷ replyCodes))
 unfolding hostCall pick

@@ -1,20 +1,20 @@
 -- How many words a reply's report has: none on NoRoom, else as many as its length says; never more than there is room for.
 use mathlib.Core.Path.{_≡_, refl, sym}
-use mathlib.Core.Bool.{Bool, true, false, _&&_, _||_}
+use mathlib.Core.Bool.{Bool, true, false, _&&_}
 use mathlib.Core.List.{List, []}
 use mathlib.Core.Logic.{_≢_}
-use Prim.Native.Nat.{ℕ, _-_, _≤_, _/_, _%_, min}
+use Prim.Native.Nat.{ℕ, _-_, _≤_, _/_, min}
 use native.Mathlib.Omega.{arith}
 use lib.ListN.{length}
-use lib.Dec.{T, leb, ltb, eqb, leb→le}
+use lib.Dec.{T, leb, eqb, leb→le}
 use borrow.Author.Tests.{eq-eqb, ne-eqb}
 use Rattle.definition.specs.Syntax.{pick}
 use Rattle.definition.specs.Question.{Read, got, fault, Question, readQuestion}
 use Rattle.definition.specs.Run.{Out, done, fail, stop}
 use Rattle.definition.specs.Rules.{Result}
-use Rattle.definition.specs.Reply.{Reply, most, refusal, reported, errorCode, outReply, readReply, workWords, reply}
+use Rattle.definition.specs.Reply.{Reply, most, refusal, reported, errorCode, outReply, readReply, reply}
 use Rattle.definition.specs.Host.{deskReply, byteReply, wordsOf}
-use Rattle.laws.proofs.Steps.{pick-true, pick-false}
+use Rattle.laws.proofs.Steps.{pick-true, pick-false, pick-has}
 use Rattle.laws.proofs.Codes.{error, not-seven}
 use Rattle.replies.specs.declared.Reply as program
 use Rattle.replies.specs.Numbers.{Numbers, writtenOf}
@@ -22,11 +22,6 @@ use Rattle.replies.specs.Numbers.{Numbers, writtenOf}
 pub record LengthTold (room : ℕ) (R : Reply) : Type 0 where
   pub many : length (R .report) ≡ pick (eqb (R .code) 7) 0 (R .len)
   pub within : length (R .report) ≤ room
-
-either : (b : Bool) {room : ℕ} {R S : Reply} → LengthTold room R → LengthTold room S → LengthTold room (pick b R S)
-unfolding pick
-either true h k = h
-either false h k = k
 
 refused : (room c p u : ℕ) → LengthTold room (refusal c p u)
 unfolding refusal pick
@@ -59,13 +54,13 @@ reads budget room (got q p ws) = outs (q .kind) budget room _
 pub replies : (budget work room : ℕ) (ws : List ℕ) → LengthTold room (reply budget work room ws)
 unfolding reply
 replies budget work room ws =
-    either (eqb budget 0 || ltb 8192 budget) (refused room 1 0 0)
-    (either (ltb work (workWords budget)) (refused room 2 0 0)
-    (either (eqb (length ws) 0 || ltb 2048 (length ws)) (refused room 3 0 0) (reads budget room (readQuestion ws))))
+    pick-has (LengthTold room) _ (refused room 1 0 0)
+    (pick-has (LengthTold room) _ (refused room 2 0 0)
+    (pick-has (LengthTold room) _ (refused room 3 0 0) (reads budget room (readQuestion ws))))
 
 pub in-bytes : (room : ℕ) (b : List ℕ) → LengthTold (min room 4096) (byteReply room b)
 unfolding byteReply deskReply
-in-bytes room b = either (eqb (length b % 4) 0) (replies 384 16384 (min room 4096) (wordsOf b (length b / 4))) (refused (min room 4096) 3 0 0)
+in-bytes room b = pick-has (LengthTold (min room 4096)) _ (replies 384 16384 (min room 4096) (wordsOf b (length b / 4))) (refused (min room 4096) 3 0 0)
 
 -- ## In the program's reply
 
