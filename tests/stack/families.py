@@ -1,9 +1,13 @@
-"""Questions that nest as deeply as 2,048 words allow, a family for each way to go deep; then samples: the recorded answers, fuzz inputs."""
+"""Questions that nest as deeply as 2,048 words allow, or fewer, a family for each way to go deep: its name, and its question by how often
+it nests. Types to be reported, nested more and more. Samples: theatres' formulas, the recorded answers, fuzz inputs."""
+import itertools
 import pathlib
 import struct
+import subprocess
 import sys
 
-sys.path.insert(0, str(pathlib.Path(__file__).resolve().parent.parent))
+TESTS = pathlib.Path(__file__).resolve().parent.parent
+sys.path.insert(0, str(TESTS))
 from shared.recorded import ANSWERS, of  # noqa: E402
 
 MOST = 2048
@@ -25,24 +29,24 @@ def nest(around, n, inner):
     return before * n + inner + after * n
 
 
-def deepest(build):
-    """build(n) for the greatest n that 2,048 words allow."""
-    low, high = 0, MOST
+def most(build, words=MOST):
+    """The greatest n for which build(n) has no more than so many words."""
+    low, high = 0, words
     while low < high:
         middle = (low + high + 1) // 2
-        low, high = (middle, high) if len(build(middle)) <= MOST else (low, middle - 1)
-    return build(low)
+        low, high = (middle, high) if len(build(middle)) <= words else (low, middle - 1)
+    return low
 
 
 def readings():
     """Broken questions: an item that begins at each word and never ends."""
     heads = {"app": [17], "tapp": [19], "ann": [21], "if": [25], "tabs": [20, 1], "let": [24, 1], "binop": [26, 1]}
     for name, head in heads.items():
-        yield f"read-{name}", deepest(lambda n: question(INFER, expr=head * n))
+        yield f"read-{name}", lambda n: question(INFER, expr=head * n)
     for name, (before, _) in TYPES.items():
-        yield f"read-{name}", deepest(lambda n: question(SUBTYPE, left=before * n, right=[1]))
+        yield f"read-{name}", lambda n: question(SUBTYPE, left=before * n, right=[1])
     for name, entry in {"marks": [36, 1], "solutions": [35, 1, 1]}.items():
-        yield f"read-{name}", deepest(lambda n: question(INFER, context=entry * n, expr=TRUE))
+        yield f"read-{name}", lambda n: question(INFER, context=entry * n, expr=TRUE)
 
 
 def expressions():
@@ -51,25 +55,25 @@ def expressions():
               "tabs": ([20, 1], []), "argument": ([17] + X, [])}
     for name, parts in around.items():
         context = [32, 5, 5, 1, 1] if name == "argument" else []
-        yield f"infer-{name}", deepest(lambda n: question(INFER, context, nest(parts, n, ONE)))
-    yield "check-abs", deepest(lambda n: question(CHECK, (), nest(([18, 5, 1], []), n, ONE), (), nest(RIGHT, n, [1])))
-    yield "check-foralls", deepest(lambda n: question(CHECK, (), ONE, (), nest(ALL, n, [1])))
+        yield f"infer-{name}", lambda n: question(INFER, context, nest(parts, n, ONE))
+    yield "check-abs", lambda n: question(CHECK, (), nest(([18, 5, 1], []), n, ONE), (), nest(RIGHT, n, [1]))
+    yield "check-foralls", lambda n: question(CHECK, (), ONE, (), nest(ALL, n, [1]))
 
 
 def types():
     for name, parts in TYPES.items():
         tall = lambda n: nest(parts, n, [4, 8])  # noqa: E731
-        yield f"subtype-{name}", deepest(lambda n: question(SUBTYPE, (), (), tall(n), tall(n)))
-        yield f"subtype-shared-{name}", deepest(lambda n: question(INFER, [32, 5] + nest(parts, n, [1]), [25] + TRUE + X + X))
-        yield f"inst_l-{name}", deepest(lambda n: question(INST_L, (), (), [4, 1], tall(n)))
-        yield f"inst_r-{name}", deepest(lambda n: question(INST_R, (), (), tall(n), [4, 1]))
-        yield f"occurs-{name}", deepest(lambda n: question(SUBTYPE, (), (), [4, 1], tall(n)))
-        yield f"apply-{name}", deepest(lambda n: question(INFER, [32, 5] + tall(n), [17] + X + TRUE))
-        yield f"substitute-{name}", deepest(lambda n: question(INFER, [32, 5, 6, 8] + tall(n), [19] + X + [1]))
-        yield f"compare-{name}", deepest(lambda n: question(CHECK, (), [18, 5] + tall(n) + ONE, (), [5] + tall(n) + [1], mode=1))
-        yield f"solved-{name}", deepest(lambda n: question(CHECK, [35, 8] + tall(n), ONE, (), [4, 8]))
+        yield f"subtype-{name}", lambda n: question(SUBTYPE, (), (), tall(n), tall(n))
+        yield f"subtype-shared-{name}", lambda n: question(INFER, [32, 5] + nest(parts, n, [1]), [25] + TRUE + X + X)
+        yield f"inst_l-{name}", lambda n: question(INST_L, (), (), [4, 1], tall(n))
+        yield f"inst_r-{name}", lambda n: question(INST_R, (), (), tall(n), [4, 1])
+        yield f"occurs-{name}", lambda n: question(SUBTYPE, (), (), [4, 1], tall(n))
+        yield f"apply-{name}", lambda n: question(INFER, [32, 5] + tall(n), [17] + X + TRUE)
+        yield f"substitute-{name}", lambda n: question(INFER, [32, 5, 6, 8] + tall(n), [19] + X + [1])
+        yield f"compare-{name}", lambda n: question(CHECK, (), [18, 5] + tall(n) + ONE, (), [5] + tall(n) + [1], mode=1)
+        yield f"solved-{name}", lambda n: question(CHECK, [35, 8] + tall(n), ONE, (), [4, 8])
     chain = lambda n: [word for i in range(n) for word in (35, i, 4, i + 1)]  # noqa: E731
-    yield "apply-solutions", deepest(lambda n: question(CHECK, chain(n), ONE, (), [4, 0]))
+    yield "apply-solutions", lambda n: question(CHECK, chain(n), ONE, (), [4, 0])
 
 
 # An expression that needs no context and makes two unknowns whose solutions lead to each other: x : 2 to 2, taken as 1 to 1, then applied.
@@ -80,9 +84,35 @@ def combined():
     """Judgements as deep as words allow, and under them a context application that spends the rest of the budget."""
     for tenths in range(11):
         mixed = lambda n: nest(([21], [1]), n * tenths // 10, nest(([19], [1]), n - n * tenths // 10, LOOP))  # noqa: E731
-        yield f"{tenths}-tenths-ann-then-tapp-then-loop", deepest(lambda n: question(INFER, (), mixed(n)))
-    yield "binop-then-loop", deepest(lambda n: question(INFER, (), nest(([26, 1], TRUE), n, LOOP)))
-    yield "tapp-then-solved-loop", deepest(lambda n: question(INFER, [35, 8, 6, 9, 4, 8], nest(([19], [1]), n, [21, *ONE, 4, 8])))
+        yield f"{tenths}-tenths-ann-then-tapp-then-loop", lambda n: question(INFER, (), mixed(n))
+    yield "binop-then-loop", lambda n: question(INFER, (), nest(([26, 1], TRUE), n, LOOP))
+    yield "tapp-then-solved-loop", lambda n: question(INFER, [35, 8, 6, 9, 4, 8], nest(([19], [1]), n, [21, *ONE, 4, 8]))
+
+
+def reported():
+    """A type to be reported, as a result, in contexts, in a type error; as it stands in the question, or made by substitution. It nests from
+    once to as often as 2,048 words allow, and the name ends with how often."""
+    made = [19, *X, 1]
+    for name, parts in TYPES.items():
+        tall = lambda n: nest(parts, n, [4, 1])  # noqa: E731
+        for where, build in {
+            "result-written": lambda n: question(INFER, [32, 5] + tall(n), X),
+            "result-made": lambda n: question(INFER, [32, 5, 6, 1] + tall(n), made),
+            "context-written": lambda n: question(INFER, [32, 5] + tall(n), ONE),
+            "context-made": lambda n: question(INFER, [32, 5, 6, 1] + tall(n), [24, 6] + made + ONE),
+            "error-written": lambda n: question(SUBTYPE, (), (), [5] + tall(n) + [1], [2]),
+            "error-made": lambda n: question(INFER, [32, 5, 6, 1, 5] + tall(n) + [1], [21] + made + [2]),
+        }.items():
+            for n in sorted({min(n, most(build)) for n in (1, 2, 4, 8, 16, 32, 64, *range(128, MOST, 128))}):
+                yield f"{where}-{name}-{n}", build(n)
+
+
+def formulas():
+    """Theatres' formulas, in both modes."""
+    for mode in ([], ["--strict"]):
+        told = subprocess.run([TESTS / "formulas/compile.py", *mode, TESTS / "formulas/formulas.txt"], stdout=subprocess.PIPE, check=True, text=True)
+        for line in told.stdout.splitlines():
+            yield "formula", line.rpartition("|")[2].split()
 
 
 def samples(folders):
@@ -94,7 +124,8 @@ def samples(folders):
             yield "fuzzed", struct.unpack(f"<{len(data) // 4}I", data[:len(data) // 4 * 4])
 
 
-def nested():
-    """Pairs of a family's name and a question's words."""
-    for family in (readings(), expressions(), types(), combined()):
-        yield from family
+def nested(words=MOST):
+    """Pairs of a family's name and the words of its deepest question that has no more than so many."""
+    for name, build in itertools.chain(readings(), expressions(), types(), combined()):
+        if len(build(0)) <= words:
+            yield name, build(most(build, words))

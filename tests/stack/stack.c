@@ -1,7 +1,9 @@
 /* How deep a call goes: asks each question of standard input on a painted stack, at several budgets and by sporeflask_answer.
-   A line in: NAME WORD.. ; a line out: NAME, the bytes of stack at each budget, those of sporeflask_answer. The first line out has what
-   the header gives to each. */
+   A line in: NAME WORD.. ; a line out: NAME, the bytes of stack at each budget, those of sporeflask_answer, and those that are in use at
+   the largest budget while the report is written (0 where none is). The first line out has what the header gives to each. */
 #define _GNU_SOURCE
+#include <signal.h>
+#include <stdbool.h>
 #include <stdio.h>
 #include <stdlib.h>
 #include <string.h>
@@ -10,14 +12,16 @@
 
 #include "sporeflask.h"
 
-enum { STACK = 8 << 20, PAGE = 4096, PAINT = 0xA7, MOST_LINE = 1 << 16, ROOM = 1 << 16 };
+enum { STACK = 8 << 20, PAGE = 4096, PAINT = 0xA7, MOST_LINE = 1 << 16, ROOM = 1 << 16, LARGEST_PAGE = 1 << 16, RED_ZONE = 128 };
 
 static const uint32_t budgets[] = {1, 16, 64, 384, 1024, 2048, 4096, 8192};
 enum { BUDGETS = sizeof budgets / sizeof budgets[0] };
 
 static uint8_t *stack, *top, painted[PAGE];
 static ucontext_t here, there;
-static uint32_t question[MOST_LINE], work[32 * 8192 + 4096], report[ROOM], numbers[4], budget;
+static uint32_t question[MOST_LINE], work[32 * 8192 + 4096], numbers[4], budget;
+static _Alignas(LARGEST_PAGE) uint32_t report[ROOM];
+static bool written;
 static uint8_t reply[SPOREFLASK_MOST_REPLY_BYTES];
 static size_t words;
 
@@ -61,9 +65,37 @@ static size_t depth_at(uint32_t with) {
     return (size_t)(top - at);
 }
 
+/* The report's first word, of a report that can't be written: paints all that is not in use then, and lets it be written. */
+static void at_first_word(int number, siginfo_t *fault, void *context) {
+    (void)number;
+    uint8_t *word = fault->si_addr, *use = (uint8_t *)((ucontext_t *)context)->uc_mcontext.gregs[REG_RSP] - RED_ZONE;
+    if (written || word < (uint8_t *)report || word >= (uint8_t *)(report + ROOM)) abort();
+    written = true;
+    memset(stack, PAINT, (size_t)(use - stack));
+    mprotect(report, sizeof report, PROT_READ | PROT_WRITE);
+}
+
+/* The bytes of stack in use from the report's first word on; 0 where none is written. */
+static size_t depth_of_writing(uint32_t with) {
+    written = false;
+    mprotect(report, sizeof report, PROT_READ);
+    size_t depth = depth_at(with);
+    mprotect(report, sizeof report, PROT_READ | PROT_WRITE);
+    return written ? depth : 0;
+}
+
+/* Faults are handled on a stack of their own: this one is painted. */
+static void catch_first_word(void) {
+    static uint8_t aside[1 << 16];
+    stack_t other = {.ss_sp = aside, .ss_size = sizeof aside};
+    struct sigaction action = {.sa_sigaction = at_first_word, .sa_flags = SA_SIGINFO | SA_ONSTACK};
+    if (sigaltstack(&other, NULL) != 0 || sigaction(SIGSEGV, &action, NULL) != 0) abort();
+}
+
 int main(void) {
     static char line[MOST_LINE];
     make_stack();
+    catch_first_word();
     printf("header");
     for (int i = 0; i < BUDGETS; i++) printf(" %zu", SPOREFLASK_CHECK_STACK_BYTES(budgets[i]));
     printf(" %zu\n", SPOREFLASK_ANSWER_STACK_BYTES);
@@ -72,7 +104,7 @@ int main(void) {
         printf("%.*s", (int)(next - line), line);
         for (words = 0; question[words] = (uint32_t)strtoul(next, &end, 10), end != next; next = end) words++;
         for (int i = 0; i < BUDGETS; i++) printf(" %zu", depth_at(budgets[i]));
-        printf(" %zu\n", depth_at(0));
+        printf(" %zu %zu\n", depth_at(0), depth_of_writing(SPOREFLASK_MOST_BUDGET));
     }
     return 0;
 }

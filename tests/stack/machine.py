@@ -1,0 +1,158 @@
+"""The archive's machine code, as objdump lists it: what each function calls, how high the stack is there, and what can come later.
+
+Nothing is guessed: code of a form that is not known here is `Unclear`.
+"""
+import collections
+import pathlib
+import re
+import subprocess
+import sys
+
+sys.path.insert(0, str(pathlib.Path(__file__).resolve().parent.parent))
+from shared.programs import x86  # noqa: E402
+
+Instruction = collections.namedtuple("Instruction", "name operands symbol next")
+Call = collections.namedtuple("Call", "at callee height")
+
+RETURN_ADDRESS = 8
+UNKNOWN = {"leave", "enter", "loop", "loope", "loopne", "syscall", "int", "iretq", "lret", "xbegin"}
+# a function's head, an instruction, its relocation; a section's relocations, one of them in a jump table
+HEAD = re.compile(r"[0-9a-f]+ <(?P<function>.+)>:")
+CODE = re.compile(r" *(?P<at>[0-9a-f]+):\t(?:(?:bnd|notrack|rep\w*|lock|data16|cs) +)*(?P<name>\S+) *(?P<operands>[^#]*?)(?: +#.*)?")
+SYMBOL = re.compile(r"\t+[0-9a-f]+: \S+\t(?P<symbol>.+)")
+RECORDS = re.compile(r"RELOCATION RECORDS FOR \[(?P<section>.+)\]:")
+CASE = re.compile(r"(?P<offset>[0-9a-f]+) R_X86_64_PC32 +\.text\.(?P<function>.+)\+0x(?P<to>[0-9a-f]+)")
+
+
+class Unclear(Exception):
+    pass
+
+
+def listing(archive):
+    """The code with its relocations, then all relocations, the jump tables' among them."""
+    objdump = "".join(x86("binutils")) + "objdump"
+    options = ["-dr", "--no-show-raw-insn"], ["-r"]
+    return "".join(subprocess.run([objdump, *each, str(archive)], stdout=subprocess.PIPE, check=True, text=True).stdout for each in options)
+
+
+def number(word):
+    """Of 64 bits, with its sign."""
+    found = int(word, 16)
+    return found - (1 << 64) if found >> 63 else found
+
+
+class Function:
+    """A function's instructions by address, the bytes of stack at each (the return address is the first 8), and its calls."""
+
+    def __init__(self, name, lines, cases):
+        self.name, self.code, self.heights, self.calls = name, {}, {}, []
+        self.read(lines)
+        tables = [int(found[1], 16) + 4 for each in self.code.values() if (found := re.fullmatch(r"\.rodata\..+?([+-]0x[0-9a-f]+)", each.symbol))]
+        self.cases = [to - offset + max(start for start in tables if start <= offset) for offset, to in cases]
+        self.walk()
+
+    def read(self, lines):
+        last = None
+        for line in lines:
+            if found := CODE.fullmatch(line):
+                at = int(found["at"], 16)
+                if self.code:
+                    self.code[last] = self.code[last]._replace(next=at)
+                self.code[at], last = Instruction(found["name"], found["operands"], "", None), at
+            elif found := SYMBOL.fullmatch(line):
+                self.code[last] = self.code[last]._replace(symbol=found["symbol"])
+
+    def unclear(self, at, why):
+        return Unclear(f"{self.name}+{at:#x}: {self.code[at].name} {self.code[at].operands}: {why}")
+
+    def callee(self, at):
+        """What is called there, if anything is; a jump out of the function is a call."""
+        name, operands, symbol, _ = self.code[at]
+        if name != "call" and not (name.startswith("j") and symbol):
+            return None
+        found = re.fullmatch(r"(?:\.text\.)?(.+)-0x4", symbol) if symbol else re.fullmatch(r"0 <(.+)>", operands)
+        if not found:
+            raise self.unclear(at, "which function?")
+        return found[1]
+
+    def goes_on(self, at):
+        """The addresses at which the function goes on after an instruction; at any of its jump tables' after a jump by a table."""
+        name, operands, symbol, follows = self.code[at]
+        if operands.startswith("*") and name == "jmp":
+            return self.cases or [None]
+        to = [int(operands.split()[0], 16)] if name.startswith("j") and not symbol else []
+        return to if name in ("jmp", "ret", "ud2") else [*to, follows]
+
+    def step(self, at):
+        """The addresses at which the function goes on, and the height there."""
+        name, operands, _, follows = self.code[at]
+        height = self.heights[at]
+        moved = re.fullmatch(r"\$(0x[0-9a-f]+),%rsp", operands)
+        if (name, operands) == ("cmp", "%r11,%rsp"):
+            self.heights[follows] = height
+            return [self.code[follows].next], self.probed(at)
+        if name in ("sub", "add") and moved:
+            height += number(moved[1]) if name == "sub" else -number(moved[1])
+        elif name in UNKNOWN or re.search(r"%[re]?spl?\b", re.sub(r"\(.*?\)", "", operands.removeprefix("%rsp," if name == "mov" else ""))):
+            raise self.unclear(at, "what becomes of the stack?")
+        elif name in ("push", "pop"):
+            height += 8 if name == "push" else -8
+        return self.goes_on(at), height
+
+    def probed(self, at):
+        """The height once a large frame is taken, page by page down to r11: mov %rsp,%r11; sub $0x..,%r11; a loop until they are equal."""
+        begun = [each for each in self.heights if self.code[each][:2] == ("mov", "%rsp,%r11")]
+        taken = [re.fullmatch(r"sub \$(0x[0-9a-f]+),%r11", " ".join(self.code[self.code[each].next][:2])) for each in begun]
+        if len(taken) != 1 or not taken[0] or self.code[self.code[at].next].name != "jne":
+            raise self.unclear(at, "what becomes of the stack?")
+        return self.heights[begun[0]] + number(taken[0][1])
+
+    def walk(self):
+        """Follows every way: a place has one height, and whoever leaves has nothing on the stack but the return address."""
+        todo = [(0, RETURN_ADDRESS)]
+        while todo:
+            at, height = todo.pop()
+            if at not in self.code:
+                raise Unclear(f"{self.name}: where does it go on?")
+            if self.heights.setdefault(at, height) != height:
+                raise self.unclear(at, f"is the stack {height} or {self.heights[at]} bytes high?")
+            name, callee = self.code[at].name, self.callee(at)
+            if (name == "ret" or callee and name != "call") and height != RETURN_ADDRESS:
+                raise self.unclear(at, f"it leaves with {height} bytes")
+            if callee:
+                self.calls.append(Call(at, callee, height if name == "call" else 0))
+            ways, height = self.step(at)
+            todo += [(to, height) for to in ways if self.heights.get(to) != height]
+        for at in self.code.keys() - self.heights.keys():
+            if not self.code[at].name.startswith("nop") and self.code[at][:2] != ("xchg", "%ax,%ax"):
+                raise self.unclear(at, "when does it come here?")
+
+    def frame(self, places=None):
+        """The most bytes that it takes itself, at these places alone if some are given. Where it calls nothing it may use what is below."""
+        used = {at: re.match(r".*-0x([0-9a-f]+)\(%rsp", self.code[at].operands) for at in places or self.heights}
+        return max(self.heights[at] + (int(below[1], 16) if below else 0) for at, below in used.items())
+
+    def later(self, calls):
+        """The places at which the function can be after one of these calls."""
+        seen, todo = set(), [to for call in calls for to in self.goes_on(call.at)]
+        while todo:
+            at = todo.pop()
+            if at not in seen:
+                seen.add(at)
+                todo += self.goes_on(at)
+        return seen
+
+
+def functions(told):
+    """The functions of a listing by their names."""
+    lines, cases, part = collections.defaultdict(list), collections.defaultdict(list), []
+    for line in told.splitlines():
+        if found := HEAD.fullmatch(line):
+            part = lines[found["function"]]
+        elif found := RECORDS.fullmatch(line):
+            part = cases[found["section"]]
+        else:
+            part.append(line)
+    of = {name: [CASE.fullmatch(line) for line in cases[f".rodata.{name}"]] for name in lines}
+    return {name: Function(name, lines[name], [(int(case["offset"], 16), int(case["to"], 16)) for case in of[name] if case and case["function"] == name])
+            for name in of}
