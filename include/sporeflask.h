@@ -52,7 +52,7 @@ enum {
    archive that docs/runs/STACK.md names. SPOREFLASK_CHECK_STACK_BYTES evaluates its argument more than once. */
 #define SPOREFLASK_ANSWER_STACK_BYTES ((size_t)720896)
 #define SPOREFLASK_CHECK_STACK_BYTES(budget)                         \
-    ((((size_t)(budget) <= 492    ? (size_t)592576                   \
+    ((((size_t)(budget) <= 493    ? (size_t)593024                   \
        : (size_t)(budget) <= 1021 ? 928 * (size_t)(budget) + 135168  \
        : (size_t)(budget) <= 2042 ? 592 * (size_t)(budget) + 478224  \
                                   : 432 * (size_t)(budget) + 804944) \

@@ -457,17 +457,17 @@ struct deep {
     uint32_t budget, numbers[4];
 };
 
-/* `before` n times, the expression inside, and where there is an `after`, this n times: a question of kind 1 without inputs, with n as
-   large as its words allow. */
+/* `before` n times, the expression inside, and `after` n times: a question of kind 1 without inputs, with n as large as its words allow.
+   Without an `after` the question ends there, broken. */
 static void nest(struct deep *d, const char *label, uint32_t before, const uint32_t *inside, size_t count, const uint32_t *after) {
-    size_t room = SPOREFLASK_MOST_WORDS - 6 - count, n = after == NULL ? room : room / 2, at = 4;
+    size_t types = after == NULL ? 0 : 2, room = SPOREFLASK_MOST_WORDS - 4 - types - count, n = after == NULL ? room : room / 2, at = 4;
     d->label = label;
     d->words[0] = SPOREFLASK_INFER;
     for (size_t i = 0; i < n; i++) d->words[at++] = before;
     for (size_t i = 0; i < count; i++) d->words[at++] = inside[i];
     for (size_t i = 0; after != NULL && i < n; i++) d->words[at++] = *after;
     d->words[3] = (uint32_t)(at - 4);
-    d->count = at + 2;
+    d->count = at + types;
 }
 
 static void *call_deep(void *given) {
@@ -520,17 +520,6 @@ static void deep_questions(void) {
     hold_deep(&loop, 8192, SPOREFLASK_CHECK_STACK_BYTES(8192), SPOREFLASK_BUDGET, 8192);
 }
 
-/* docs/STACK.md's last column. */
-static void stack_sizes(void) {
-    static const struct { uint32_t budget; size_t kilobytes; } TABLE[] = {{1, 640},     {16, 640},    {64, 640},    {384, 640},
-                                                                          {1024, 1088}, {2048, 1664}, {4096, 2560}, {8192, 4288}};
-    hold(SPOREFLASK_ANSWER_STACK_BYTES >= 704 << 10, "docs/STACK.md", "sporeflask_answer's bytes", SPOREFLASK_ANSWER_STACK_BYTES);
-    for (size_t i = 0; i < COUNT(TABLE); i++) {
-        size_t bytes = SPOREFLASK_CHECK_STACK_BYTES(TABLE[i].budget);
-        hold(bytes >= TABLE[i].kilobytes << 10, "docs/STACK.md", "sporeflask_check's bytes", bytes);
-    }
-}
-
 int main(void) {
     make_noise();
     work_slice = new_slice();
@@ -551,7 +540,6 @@ int main(void) {
     numbers_of_rules();
     formula_in_names();
     threads();
-    stack_sizes();
     deep_questions();
     printf("%lu checks, %lu failed\n", checks, failed);
     return failed == 0 ? 0 : 1;

@@ -1,5 +1,6 @@
 """Questions that nest as deeply as 2,048 words allow, or fewer, a family for each way to go deep: its name, and its question by how often
-it nests. Types to be reported, nested more and more. Samples: theatres' formulas, the recorded answers, fuzz inputs."""
+it nests (a lambda that is called before the next one is made). Types to be reported, nested more and more. Samples: theatres' formulas, the
+recorded answers, fuzz inputs."""
 import itertools
 import pathlib
 import struct
@@ -15,6 +16,8 @@ TRUE, ONE, X = [23, 1], [22, 1, 0], [16, 5]
 INFER, CHECK, SUBTYPE, INST_L, INST_R = 1, 2, 4, 5, 6
 LEFT, RIGHT, ALL = ([5], [1]), ([5, 1], []), ([6, 9], [])  # what stands before and after the inner type
 TYPES = {"left-arrows": LEFT, "right-arrows": RIGHT, "foralls": ALL}
+# how often types nest that are reported, beside as often as 2,048 words allow
+NESTINGS = (1, 4, 16, 64, 128, 256, 384, 512, 640, 768, 896)
 
 
 def question(kind, context=(), expr=(), left=(), right=(), mode=0):
@@ -38,15 +41,23 @@ def most(build, words=MOST):
     return low
 
 
+def broken(kind, before, words):
+    """A question that ends with the section of these words, after `before` that are empty."""
+    return [kind, 0, *[0] * before, len(words), *words]
+
+
 def readings():
-    """Broken questions: an item that begins at each word and never ends."""
+    """Broken questions: an item that begins at each word and never ends, or entries to the end."""
     heads = {"app": [17], "tapp": [19], "ann": [21], "if": [25], "tabs": [20, 1], "let": [24, 1], "binop": [26, 1]}
     for name, head in heads.items():
-        yield f"read-{name}", lambda n: question(INFER, expr=head * n)
+        yield f"read-{name}", lambda n: broken(INFER, 1, head * n)
     for name, (before, _) in TYPES.items():
-        yield f"read-{name}", lambda n: question(SUBTYPE, left=before * n, right=[1])
+        yield f"read-{name}", lambda n: broken(SUBTYPE, 2, before * n)
+        yield f"read-bound-{name}", lambda n: broken(INFER, 0, [32, 1] + before * n)
+        yield f"read-annotated-{name}", lambda n: broken(INFER, 1, [18, 1] + before * n)
     for name, entry in {"marks": [36, 1], "solutions": [35, 1, 1]}.items():
-        yield f"read-{name}", lambda n: question(INFER, context=entry * n, expr=TRUE)
+        yield f"read-{name}", lambda n: broken(INFER, 0, entry * n)
+    yield "load-marks", lambda n: question(INFER, context=[36, 1] * n, expr=TRUE)
 
 
 def expressions():
@@ -90,8 +101,8 @@ def combined():
 
 
 def reported():
-    """A type to be reported, as a result, in contexts, in a type error; as it stands in the question, or made by substitution. It nests from
-    once to as often as 2,048 words allow, and the name ends with how often."""
+    """Types to be reported, as a result, in contexts, in a type error; as they stand in the question, or made by substitution: the family, how
+    often the type nests, the question's words."""
     made = [19, *X, 1]
     for name, parts in TYPES.items():
         tall = lambda n: nest(parts, n, [4, 1])  # noqa: E731
@@ -103,8 +114,8 @@ def reported():
             "error-written": lambda n: question(SUBTYPE, (), (), [5] + tall(n) + [1], [2]),
             "error-made": lambda n: question(INFER, [32, 5, 6, 1, 5] + tall(n) + [1], [21] + made + [2]),
         }.items():
-            for n in sorted({min(n, most(build)) for n in (1, 2, 4, 8, 16, 32, 64, *range(128, MOST, 128))}):
-                yield f"{where}-{name}-{n}", build(n)
+            for n in (*NESTINGS, most(build)):
+                yield f"{where}-{name}", n, build(n)
 
 
 def formulas():

@@ -4,34 +4,59 @@ import pathlib
 
 PAGE = pathlib.Path(__file__).resolve().parents[2] / "docs/STACK.md"
 LEVELS = "| Function | Calls | A level, bytes |"
-WRITING = "| Function | While the report is written, bytes |"
+AFTER = "| Function | After the judgement, bytes |"
+WAYS = "| Way down | Functions | Bytes | Units | Words |"
+DESK_BUDGET = 384
 
 
-def stated(head, page):
-    """The table with this head: the bytes in its last column by the names in the others."""
+def number(cell):
+    return int(cell.replace(",", ""))
+
+
+def table(head, page):
+    """The rows of the one table with this head, as their cells."""
+    if page.count(head + "\n") != 1:
+        raise ValueError(f"not one table {head}")
     lines = page.partition(head + "\n")[2].splitlines()[1:]
-    cells = [line.strip("|").replace("`", "").split("|") for line in itertools.takewhile(lambda line: line.startswith("|"), lines)]
-    return {tuple(map(str.strip, names)): int(last.replace(",", "")) for *names, last in cells}
+    return [[cell.strip().replace("`", "") for cell in line.strip("|").split("|")] for line in itertools.takewhile(lambda line: line.startswith("|"), lines)]
+
+
+def levels(page):
+    """The bytes between a call of a function and one that it makes in its own ring."""
+    return {(caller, callee): number(bytes) for caller, callee, bytes in table(LEVELS, page)}
+
+
+def after_judgement(page):
+    return {function: number(bytes) for function, bytes in table(AFTER, page)}
 
 
 class Bound:
-    """The most bytes of stack that a call takes: the page's section of that name, in its order."""
+    """The most bytes of stack that a call takes, as the page's section of that name has it."""
+
+    once = 4 << 10
+    arrays = 4 * (2048 + 16384 + 4096)
 
     def __init__(self, page):
-        levels, writing = stated(LEVELS, page), stated(WRITING, page)
-        level = lambda caller, callee: levels[caller, callee]  # noqa: E731
-        self.read = level("reading::read_expr", "reading::read_expr")
-        self.infer = level("inference::infer", "inference::infer")
-        self.ann = level("inference::infer", "inference::check") + level("inference::check", "inference::infer")
-        self.apply = level("substitution::apply_ctx_type", "substitution::apply_ctx_type")
-        self.once = 4 << 10
-        self.arrays = writing["sporeflask_answer",] - writing["sporeflask_check",]
+        self.ways = [(way, functions.split(), *map(number, numbers)) for way, functions, *numbers in table(WAYS, page)]
+        self.level = {(caller.rpartition("::")[2], callee.rpartition("::")[2]): bytes for (caller, callee), bytes in levels(page).items()}
+        read, infer, apply = (self.level[name, name] for name in ("read_expr", "infer", "apply_ctx_type"))
+        ann = self.along(["infer", "check", "infer"])
+        self.read = read
+        # bytes for a unit and for a word
+        self.prices = [(infer, 0), (ann - infer, infer - ann // 2), (apply, ann // 2 - apply)]
+
+    def along(self, functions):
+        return sum(self.level[pair] for pair in itertools.pairwise(functions))
+
+    def paid(self, way):
+        """Whether a way down takes as many bytes as the page says, and no more than any of the prices gives for its units and words."""
+        _, functions, bytes, units, words = way
+        return bytes == self.along(functions) and all(bytes <= unit * units + word * words for unit, word in self.prices)
 
     def check(self, words, budget):
-        """TApp takes 2 words and a unit, Ann 2 words and two units, application a unit."""
-        both, by_words = self.ann - self.infer, (2 * self.infer - self.ann) // 2
-        judging = min(self.infer * budget, both * budget + by_words * words, self.apply * budget + (self.ann - 2 * self.apply) // 2 * words)
-        return max(self.read * words, judging) + self.once
+        """Of sporeflask_check, with a question of so many words: it is read from its fifth on, and judged without its six counts and codes."""
+        judged = min(unit * budget + word * (words - 6) for unit, word in self.prices)
+        return max(self.read * (words - 4), judged) + self.once
 
     def answer(self, words):
-        return self.check(words, 384) + self.arrays
+        return self.check(words, DESK_BUDGET) + self.arrays

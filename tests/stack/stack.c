@@ -1,6 +1,7 @@
-/* How deep a call goes: asks each question of standard input on a painted stack, at several budgets and by sporeflask_answer.
-   A line in: NAME WORD.. ; a line out: NAME, the bytes of stack at each budget, those of sporeflask_answer, and those that are in use at
-   the largest budget while the report is written (0 where none is). The first line out has what the header gives to each. */
+/* How deep a call goes: asks each question of standard input on a painted stack, at each budget that is an argument and by
+   sporeflask_answer. A line in: NAME WORD.. ; a line out: NAME, the bytes of stack at each budget, those of sporeflask_answer, and those in
+   use at the largest budget from the report's first word on (0 where none is written). The first line out has what the header gives to
+   every budget from 1 on, and to sporeflask_answer. */
 #define _GNU_SOURCE
 #include <signal.h>
 #include <stdbool.h>
@@ -13,9 +14,6 @@
 #include "sporeflask.h"
 
 enum { STACK = 8 << 20, PAGE = 4096, PAINT = 0xA7, MOST_LINE = 1 << 16, ROOM = 1 << 16, LARGEST_PAGE = 1 << 16, RED_ZONE = 128 };
-
-static const uint32_t budgets[] = {1, 16, 64, 384, 1024, 2048, 4096, 8192};
-enum { BUDGETS = sizeof budgets / sizeof budgets[0] };
 
 static uint8_t *stack, *top, painted[PAGE];
 static ucontext_t here, there;
@@ -92,18 +90,31 @@ static void catch_first_word(void) {
     if (sigaltstack(&other, NULL) != 0 || sigaction(SIGSEGV, &action, NULL) != 0) abort();
 }
 
-int main(void) {
+static void print_header(void) {
+    printf("header");
+    for (uint32_t each = 1; each <= SPOREFLASK_MOST_BUDGET; each++) printf(" %zu", SPOREFLASK_CHECK_STACK_BYTES(each));
+    printf(" %zu\n", SPOREFLASK_ANSWER_STACK_BYTES);
+}
+
+/* The question's words, from a line of them. */
+static void read_words(const char *line) {
+    char *end;
+    for (words = 0;; words++, line = end) {
+        question[words] = (uint32_t)strtoul(line, &end, 10);
+        if (end == line) return;
+    }
+}
+
+int main(int count, char **budgets) {
     static char line[MOST_LINE];
     make_stack();
     catch_first_word();
-    printf("header");
-    for (int i = 0; i < BUDGETS; i++) printf(" %zu", SPOREFLASK_CHECK_STACK_BYTES(budgets[i]));
-    printf(" %zu\n", SPOREFLASK_ANSWER_STACK_BYTES);
+    print_header();
     while (fgets(line, sizeof line, stdin)) {
-        char *next = line + strcspn(line, " \n"), *end;
-        printf("%.*s", (int)(next - line), line);
-        for (words = 0; question[words] = (uint32_t)strtoul(next, &end, 10), end != next; next = end) words++;
-        for (int i = 0; i < BUDGETS; i++) printf(" %zu", depth_at(budgets[i]));
+        size_t name = strcspn(line, " \n");
+        printf("%.*s", (int)name, line);
+        read_words(line + name);
+        for (int i = 1; i < count; i++) printf(" %zu", depth_at((uint32_t)strtoul(budgets[i], NULL, 10)));
         printf(" %zu %zu\n", depth_at(0), depth_of_writing(SPOREFLASK_MOST_BUDGET));
     }
     return 0;
