@@ -1,4 +1,4 @@
-"""The archive's machine code, as objdump lists it: what each function calls, how high the stack is there, and what can come later.
+"""The archive's machine code, as objdump lists it: what each function calls, the bytes on the stack there, and what can come later.
 
 Nothing is guessed: code of a form that is not known here is `Unclear`.
 """
@@ -12,16 +12,20 @@ sys.path.insert(0, str(pathlib.Path(__file__).resolve().parent.parent))
 from shared.programs import x86  # noqa: E402
 
 Instruction = collections.namedtuple("Instruction", "name operands symbol next")
+# at which place, what, and the bytes on the stack there
 Call = collections.namedtuple("Call", "at callee height")
 
 RETURN_ADDRESS = 8
-UNKNOWN = {"leave", "enter", "loop", "loope", "loopne", "syscall", "int", "iretq", "lret", "xbegin"}
 # a function's head, an instruction, its relocation; a section's relocations, one of them in a jump table
 HEAD = re.compile(r"[0-9a-f]+ <(?P<function>.+)>:")
 CODE = re.compile(r" *(?P<at>[0-9a-f]+):\t(?:(?:bnd|notrack|rep\w*|lock|data16|cs) +)*(?P<name>\S+) *(?P<operands>[^#]*?)(?: +#.*)?")
 SYMBOL = re.compile(r"\t+[0-9a-f]+: \S+\t(?P<symbol>.+)")
 RECORDS = re.compile(r"RELOCATION RECORDS FOR \[(?P<section>.+)\]:")
 CASE = re.compile(r"(?P<offset>[0-9a-f]+) R_X86_64_PC32 +\.text\.(?P<function>.+)\+0x(?P<to>[0-9a-f]+)")
+# what is pushed or popped
+EIGHT_BYTES = re.compile(r"%r(?!sp)(?:[a-z]{2}|\d{1,2})|\$0x[0-9a-f]+|[^%]*\(.*\)")
+# what moves the stack, and what goes on elsewhere, in other ways than those below
+UNKNOWN = re.compile(r"(push|pop(?!cnt)).+|leave|enter|loop.*|sys.*|int.*|iret.*|lret|lcall|ljmp|xbegin|hlt")
 
 
 class Unclear(Exception):
@@ -41,14 +45,19 @@ def number(word):
     return found - (1 << 64) if found >> 63 else found
 
 
+def names_stack(name, operands):
+    """Whether an instruction names the stack pointer, other than as an address or to copy it."""
+    copied = operands.removeprefix("%rsp,") if name == "mov" else operands
+    return re.search(r"%[re]?spl?\b", re.sub(r"\(.*?\)", "", copied))
+
+
 class Function:
-    """A function's instructions by address, the bytes of stack at each (the return address is the first 8), and its calls."""
+    """A function's instructions by address, the bytes on the stack before each (at first the return address), and its calls."""
 
     def __init__(self, name, lines, cases):
         self.name, self.code, self.heights, self.calls = name, {}, {}, []
         self.read(lines)
-        tables = [int(found[1], 16) + 4 for each in self.code.values() if (found := re.fullmatch(r"\.rodata\..+?([+-]0x[0-9a-f]+)", each.symbol))]
-        self.cases = [to - offset + max(start for start in tables if start <= offset) for offset, to in cases]
+        self.cases = [self.case(offset, to) for offset, to in cases]
         self.walk()
 
     def read(self, lines):
@@ -56,14 +65,32 @@ class Function:
         for line in lines:
             if found := CODE.fullmatch(line):
                 at = int(found["at"], 16)
+                if at in self.code:
+                    raise Unclear(f"{self.name}: which of two?")
                 if self.code:
                     self.code[last] = self.code[last]._replace(next=at)
                 self.code[at], last = Instruction(found["name"], found["operands"], "", None), at
             elif found := SYMBOL.fullmatch(line):
                 self.code[last] = self.code[last]._replace(symbol=found["symbol"])
 
+    def text(self, at):
+        return f"{self.code[at].name} {self.code[at].operands}" if at in self.code else ""
+
     def unclear(self, at, why):
-        return Unclear(f"{self.name}+{at:#x}: {self.code[at].name} {self.code[at].operands}: {why}")
+        return Unclear(f"{self.name}+{at:#x}: {self.text(at)}: {why}")
+
+    def case(self, offset, to):
+        """Where a jump leads by an entry of a table. The entry is the address less the table's, and its relocation adds the entry's offset."""
+        section = re.compile(rf"\.rodata\.{re.escape(self.name)}([+-]0x[0-9a-f]+)")
+        tables = [int(found[1], 16) + 4 for each in self.code.values() if (found := section.fullmatch(each.symbol))]
+        return to - offset + max((start for start in tables if start <= offset), default=offset)
+
+    def by_table(self, at):
+        """Whether the register of a jump was made of a table's address and an entry: movslq (%table,%entry,4),%to; add %table,%to; jmp *%to."""
+        before = [each for each in self.code if each < at][-8:]
+        to = self.code[at].operands.removeprefix("*")
+        made = " ".join(self.text(each) for each in before if self.text(each).endswith("," + to))
+        return re.search(rf"movslq \((%\w+),%\w+,4\),{to} add \1,{to}$", made)
 
     def callee(self, at):
         """What is called there, if anything is; a jump out of the function is a call."""
@@ -76,33 +103,33 @@ class Function:
         return found[1]
 
     def goes_on(self, at):
-        """The addresses at which the function goes on after an instruction; at any of its jump tables' after a jump by a table."""
+        """The places at which the function goes on after an instruction."""
         name, operands, symbol, follows = self.code[at]
-        if operands.startswith("*") and name == "jmp":
-            return self.cases or [None]
+        if name == "jmp" and operands.startswith("*"):
+            return self.cases if self.by_table(at) else [None]
         to = [int(operands.split()[0], 16)] if name.startswith("j") and not symbol else []
         return to if name in ("jmp", "ret", "ud2") else [*to, follows]
 
     def step(self, at):
-        """The addresses at which the function goes on, and the height there."""
+        """The places at which the function goes on, and the bytes on the stack there."""
         name, operands, _, follows = self.code[at]
         height = self.heights[at]
         moved = re.fullmatch(r"\$(0x[0-9a-f]+),%rsp", operands)
-        if (name, operands) == ("cmp", "%r11,%rsp"):
+        if self.text(at) == "cmp %r11,%rsp":
             self.heights[follows] = height
             return [self.code[follows].next], self.probed(at)
         if name in ("sub", "add") and moved:
             height += number(moved[1]) if name == "sub" else -number(moved[1])
-        elif name in UNKNOWN or re.search(r"%[re]?spl?\b", re.sub(r"\(.*?\)", "", operands.removeprefix("%rsp," if name == "mov" else ""))):
-            raise self.unclear(at, "what becomes of the stack?")
-        elif name in ("push", "pop"):
+        elif name in ("push", "pop") and EIGHT_BYTES.fullmatch(operands):
             height += 8 if name == "push" else -8
+        elif UNKNOWN.fullmatch(name) or name in ("push", "pop") or names_stack(name, operands):
+            raise self.unclear(at, "what becomes of the stack?")
         return self.goes_on(at), height
 
     def probed(self, at):
-        """The height once a large frame is taken, page by page down to r11: mov %rsp,%r11; sub $0x..,%r11; a loop until they are equal."""
-        begun = [each for each in self.heights if self.code[each][:2] == ("mov", "%rsp,%r11")]
-        taken = [re.fullmatch(r"sub \$(0x[0-9a-f]+),%r11", " ".join(self.code[self.code[each].next][:2])) for each in begun]
+        """The bytes once a large frame is taken, page by page down to r11: mov %rsp,%r11; sub $0x..,%r11; a loop until they are equal."""
+        begun = [each for each in self.heights if self.text(each) == "mov %rsp,%r11"]
+        taken = [re.fullmatch(r"sub \$(0x[0-9a-f]+),%r11", self.text(self.code[each].next)) for each in begun]
         if len(taken) != 1 or not taken[0] or self.code[self.code[at].next].name != "jne":
             raise self.unclear(at, "what becomes of the stack?")
         return self.heights[begun[0]] + number(taken[0][1])
@@ -114,23 +141,26 @@ class Function:
             at, height = todo.pop()
             if at not in self.code:
                 raise Unclear(f"{self.name}: where does it go on?")
-            if self.heights.setdefault(at, height) != height:
-                raise self.unclear(at, f"is the stack {height} or {self.heights[at]} bytes high?")
+            if at in self.heights:
+                if self.heights[at] != height:
+                    raise self.unclear(at, f"are there {height} or {self.heights[at]} bytes on the stack?")
+                continue
+            self.heights[at] = height
             name, callee = self.code[at].name, self.callee(at)
             if (name == "ret" or callee and name != "call") and height != RETURN_ADDRESS:
                 raise self.unclear(at, f"it leaves with {height} bytes")
             if callee:
                 self.calls.append(Call(at, callee, height if name == "call" else 0))
             ways, height = self.step(at)
-            todo += [(to, height) for to in ways if self.heights.get(to) != height]
+            todo += [(to, height) for to in ways]
         for at in self.code.keys() - self.heights.keys():
-            if not self.code[at].name.startswith("nop") and self.code[at][:2] != ("xchg", "%ax,%ax"):
+            if not re.match(r"nop|xchg %ax,%ax$", self.text(at)):
                 raise self.unclear(at, "when does it come here?")
 
-    def frame(self, places=None):
-        """The most bytes that it takes itself, at these places alone if some are given. Where it calls nothing it may use what is below."""
-        used = {at: re.match(r".*-0x([0-9a-f]+)\(%rsp", self.code[at].operands) for at in places or self.heights}
-        return max(self.heights[at] + (int(below[1], 16) if below else 0) for at, below in used.items())
+    def frame(self, places):
+        """The most bytes that it takes itself at these places; what calls nothing may use some below its stack."""
+        below = {at: re.search(r"-0x([0-9a-f]+)\(%rsp", self.code[at].operands) for at in places}
+        return max(self.heights[at] + (int(found[1], 16) if found else 0) for at, found in below.items())
 
     def later(self, calls):
         """The places at which the function can be after one of these calls."""
@@ -145,14 +175,15 @@ class Function:
 
 def functions(told):
     """The functions of a listing by their names."""
-    lines, cases, part = collections.defaultdict(list), collections.defaultdict(list), []
+    lines, records, part = {}, collections.defaultdict(list), []
     for line in told.splitlines():
         if found := HEAD.fullmatch(line):
-            part = lines[found["function"]]
+            if found["function"] in lines:
+                raise Unclear(f"{found['function']}: which of two?")
+            part = lines[found["function"]] = []
         elif found := RECORDS.fullmatch(line):
-            part = cases[found["section"]]
+            part = records[found["section"]]
         else:
             part.append(line)
-    of = {name: [CASE.fullmatch(line) for line in cases[f".rodata.{name}"]] for name in lines}
-    return {name: Function(name, lines[name], [(int(case["offset"], 16), int(case["to"], 16)) for case in of[name] if case and case["function"] == name])
-            for name in of}
+    cases = {name: [found for line in records[f".rodata.{name}"] if (found := CASE.fullmatch(line)) and found["function"] == name] for name in lines}
+    return {name: Function(name, lines[name], [(int(case["offset"], 16), int(case["to"], 16)) for case in cases[name]]) for name in lines}

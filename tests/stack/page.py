@@ -21,13 +21,21 @@ def table(head, page):
     return [[cell.strip().replace("`", "") for cell in line.strip("|").split("|")] for line in itertools.takewhile(lambda line: line.startswith("|"), lines)]
 
 
+def by_names(rows):
+    """The bytes in the last column by the names in the others; a name has one row."""
+    found = {tuple(names): number(bytes) for *names, bytes in rows}
+    if len(found) != len(rows):
+        raise ValueError("a name has two rows")
+    return found
+
+
 def levels(page):
     """The bytes between a call of a function and one that it makes in its own ring."""
-    return {(caller, callee): number(bytes) for caller, callee, bytes in table(LEVELS, page)}
+    return {(caller, callee): bytes for (caller, callee), bytes in by_names(table(LEVELS, page)).items()}
 
 
 def after_judgement(page):
-    return {function: number(bytes) for function, bytes in table(AFTER, page)}
+    return {function: bytes for (function,), bytes in by_names(table(AFTER, page)).items()}
 
 
 class Bound:
