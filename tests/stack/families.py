@@ -13,7 +13,7 @@ from shared.recorded import ANSWERS, of  # noqa: E402
 
 MOST = 2048
 TRUE, ONE, X = [23, 1], [22, 1, 0], [16, 5]
-INFER, CHECK, SUBTYPE, INST_L, INST_R = 1, 2, 4, 5, 6
+INFER, CHECK, SUBTYPE, INST_L, INST_R, RUN = 1, 2, 4, 5, 6, 7
 LEFT, RIGHT, ALL = ([5], [1]), ([5, 1], []), ([6, 9], [])  # what stands before and after the inner type
 TYPES = {"left-arrows": LEFT, "right-arrows": RIGHT, "foralls": ALL}
 # how often types nest that are reported, beside as often as 2,048 words allow
@@ -83,6 +83,7 @@ def types():
         yield f"substitute-{name}", lambda n: question(INFER, [32, 5, 6, 8] + tall(n), [19] + X + [1])
         yield f"compare-{name}", lambda n: question(CHECK, (), [18, 5] + tall(n) + ONE, (), [5] + tall(n) + [1], mode=1)
         yield f"solved-{name}", lambda n: question(CHECK, [35, 8] + tall(n), ONE, (), [4, 8])
+        yield f"run-{name}", lambda n: question(RUN, (), [18, 5] + tall(n) + ONE)
     chain = lambda n: [word for i in range(n) for word in (35, i, 4, i + 1)]  # noqa: E731
     yield "apply-solutions", lambda n: question(CHECK, chain(n), ONE, (), [4, 0])
 

@@ -15,17 +15,21 @@ Instruction = collections.namedtuple("Instruction", "name operands symbol next")
 # at which place, what, and the bytes on the stack there
 Call = collections.namedtuple("Call", "at callee height")
 
-RETURN_ADDRESS = 8
-# a function's head, an instruction, its relocation; a section's relocations, one of them in a jump table
+# the second is what a function may use below its stack, by whatever register
+RETURN_ADDRESS, RED_ZONE = 8, 128
+# a function's head, an instruction, its relocation, what objdump makes of other bytes; a section's relocations, one, one in a jump table
 HEAD = re.compile(r"[0-9a-f]+ <(?P<function>.+)>:")
-CODE = re.compile(r" *(?P<at>[0-9a-f]+):\t(?:(?:bnd|notrack|rep\w*|lock|data16|cs) +)*(?P<name>\S+) *(?P<operands>[^#]*?)(?: +#.*)?")
+CODE = re.compile(r" *(?P<at>[0-9a-f]+):\t(?:(?:bnd|notrack|rep\w*|lock|data16|cs) +)*(?P<name>\S+) *(?P<operands>.*?)(?: +# .*)?")
 SYMBOL = re.compile(r"\t+[0-9a-f]+: \S+\t(?P<symbol>.+)")
+OTHER = re.compile(r" *[0-9a-f]+:\t.*|\t\.\.\.")
 RECORDS = re.compile(r"RELOCATION RECORDS FOR \[(?P<section>.+)\]:")
+RECORD = re.compile(r"[0-9a-f]+ R_.*")
 CASE = re.compile(r"(?P<offset>[0-9a-f]+) R_X86_64_PC32 +\.text\.(?P<function>.+)\+0x(?P<to>[0-9a-f]+)")
 # what is pushed or popped
 EIGHT_BYTES = re.compile(r"%r(?!sp)(?:[a-z]{2}|\d{1,2})|\$0x[0-9a-f]+|[^%]*\(.*\)")
-# what moves the stack, and what goes on elsewhere, in other ways than those below
-UNKNOWN = re.compile(r"(push|pop(?!cnt)).+|leave|enter|loop.*|sys.*|int.*|iret.*|lret|lcall|ljmp|xbegin|hlt")
+# what goes on with the next instruction, and moves the stack only where it names it
+PLAIN = re.compile(r"mov|(mov|cmov|set)\w+|lea|xchg|nop[wl]?|(add|adc|sub|sbb|cmp|test|and|or|xor|inc|dec|neg|not|sh[lr]|sar|ro[lr]|bt|i?mul)[bwlq]?"
+                   r"|p(add|sub|cmp|shuf|unpck|and|or|xor|sll|srl)\w*|(add|sub|mul|and|or|xor|shuf|unpck[lh])[ps][sd]")
 
 
 class Unclear(Exception):
@@ -72,6 +76,8 @@ class Function:
                 self.code[at], last = Instruction(found["name"], found["operands"], "", None), at
             elif found := SYMBOL.fullmatch(line):
                 self.code[last] = self.code[last]._replace(symbol=found["symbol"])
+            elif OTHER.fullmatch(line):
+                raise Unclear(f"{self.name}: {line.strip()}: what is this?")
 
     def text(self, at):
         return f"{self.code[at].name} {self.code[at].operands}" if at in self.code else ""
@@ -96,6 +102,8 @@ class Function:
         """What is called there, if anything is; a jump out of the function is a call."""
         name, operands, symbol, _ = self.code[at]
         if name != "call" and not (name.startswith("j") and symbol):
+            if symbol and not symbol.startswith((".rodata.", ".LCPI")):
+                raise self.unclear(at, f"what becomes of {symbol}?")
             return None
         found = re.fullmatch(r"(?:\.text\.)?(.+)-0x4", symbol) if symbol else re.fullmatch(r"0 <(.+)>", operands)
         if not found:
@@ -122,7 +130,7 @@ class Function:
             height += number(moved[1]) if name == "sub" else -number(moved[1])
         elif name in ("push", "pop") and EIGHT_BYTES.fullmatch(operands):
             height += 8 if name == "push" else -8
-        elif UNKNOWN.fullmatch(name) or name in ("push", "pop") or names_stack(name, operands):
+        elif not (name in ("call", "ret", "ud2") or name.startswith("j") or PLAIN.fullmatch(name)) or names_stack(name, operands):
             raise self.unclear(at, "what becomes of the stack?")
         return self.goes_on(at), height
 
@@ -130,7 +138,8 @@ class Function:
         """The bytes once a large frame is taken, page by page down to r11: mov %rsp,%r11; sub $0x..,%r11; a loop until they are equal."""
         begun = [each for each in self.heights if self.text(each) == "mov %rsp,%r11"]
         taken = [re.fullmatch(r"sub \$(0x[0-9a-f]+),%r11", self.text(self.code[each].next)) for each in begun]
-        if len(taken) != 1 or not taken[0] or self.code[self.code[at].next].name != "jne":
+        loops = re.match(r"jne ([0-9a-f]+) ", self.text(self.code[at].next))
+        if len(taken) != 1 or not taken[0] or not loops or not begun[0] < int(loops[1], 16) < at:
             raise self.unclear(at, "what becomes of the stack?")
         return self.heights[begun[0]] + number(taken[0][1])
 
@@ -158,9 +167,11 @@ class Function:
                 raise self.unclear(at, "when does it come here?")
 
     def frame(self, places):
-        """The most bytes that it takes itself at these places; what calls nothing may use some below its stack."""
-        below = {at: re.search(r"-0x([0-9a-f]+)\(%rsp", self.code[at].operands) for at in places}
-        return max(self.heights[at] + (int(found[1], 16) if found else 0) for at, found in below.items())
+        """The most bytes that it takes itself at these places."""
+        for at in places:
+            if any(int(found, 16) > RED_ZONE for found in re.findall(r"-0x([0-9a-f]+)\(%rsp", self.code[at].operands)):
+                raise self.unclear(at, "what is below the stack?")
+        return max(self.heights[at] for at in places) + RED_ZONE
 
     def later(self, calls):
         """The places at which the function can be after one of these calls."""
@@ -185,5 +196,12 @@ def functions(told):
             part = records[found["section"]]
         else:
             part.append(line)
-    cases = {name: [found for line in records[f".rodata.{name}"] if (found := CASE.fullmatch(line)) and found["function"] == name] for name in lines}
-    return {name: Function(name, lines[name], [(int(case["offset"], 16), int(case["to"], 16)) for case in cases[name]]) for name in lines}
+    return {name: Function(name, lines[name], [case_of(name, line) for line in records[f".rodata.{name}"] if RECORD.fullmatch(line)]) for name in lines}
+
+
+def case_of(name, line):
+    """An entry of a function's jump tables: its offset, and what its relocation adds."""
+    found = CASE.fullmatch(line)
+    if not found or found["function"] != name:
+        raise Unclear(f"{name}: {line}: where does it go on?")
+    return int(found["offset"], 16), int(found["to"], 16)

@@ -13,7 +13,7 @@
 
 #include "sporeflask.h"
 
-enum { STACK = 8 << 20, PAGE = 4096, PAINT = 0xA7, MOST_LINE = 1 << 16, ROOM = 1 << 16, LARGEST_PAGE = 1 << 16, RED_ZONE = 128 };
+enum { STACK = 8 << 20, PAGE = 4096, PAINT = 0xA7, MOST_LINE = 1 << 16, ROOM = 1 << 16, LARGEST_PAGE = 1 << 16, RED_ZONE = 128, GAP = 16 * PAGE };
 
 static uint8_t *stack, *top, painted[PAGE];
 static ucontext_t here, there;
@@ -40,11 +40,11 @@ static void make_stack(void) {
     memset(painted, PAINT, PAGE);
 }
 
-/* The lowest byte that is no longer as painted: no call leaves out a whole page, since every frame but that of sporeflask_answer is
-   smaller, and that one writes to each page. */
+/* The lowest byte that is no longer as painted; no call leaves out more than a gap. */
 static uint8_t *lowest(void) {
     uint8_t *at = stack + STACK;
-    while (at > stack && memcmp(at - PAGE, painted, PAGE) != 0) at -= PAGE;
+    for (uint8_t *page = at - PAGE; page >= stack && at - page <= GAP; page -= PAGE)
+        if (memcmp(page, painted, PAGE) != 0) at = page;
     while (*at == PAINT) at++;
     return at;
 }
