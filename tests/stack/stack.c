@@ -66,10 +66,10 @@ static size_t depth_at(uint32_t with) {
 /* The report's first word, of a report that can't be written: paints all that is not in use then, and lets it be written. */
 static void at_first_word(int number, siginfo_t *fault, void *context) {
     (void)number;
-    uint8_t *word = fault->si_addr, *use = (uint8_t *)((ucontext_t *)context)->uc_mcontext.gregs[REG_RSP] - RED_ZONE;
+    uint8_t *word = fault->si_addr, *use = (uint8_t *)((ucontext_t *)context)->uc_mcontext.gregs[REG_RSP] - RED_ZONE, *at = lowest();
     if (written || word < (uint8_t *)report || word >= (uint8_t *)(report + ROOM)) abort();
     written = true;
-    memset(stack, PAINT, (size_t)(use - stack));
+    if (at < use) memset(at, PAINT, (size_t)(use - at));
     mprotect(report, sizeof report, PROT_READ | PROT_WRITE);
 }
 
