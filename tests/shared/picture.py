@@ -39,7 +39,7 @@ class Panel:
 def panel(place, below, series, scale=1, most_y=0):
     """The parts of a panel: series are names, colours and points."""
     points = [point for _, _, points in series for point in points]
-    axes = Panel(place, max(x for x, _ in points), most_y or max(y for _, y in points), scale)
+    axes = Panel(place, max(x for x, _ in points), max(most_y, *(y for _, y in points)), scale)
     yield from axes.axes(below)
     for line, (name, colour, points) in enumerate(series):
         for point in points:

@@ -13,7 +13,7 @@
 
 #include "sporeflask.h"
 
-enum { STACK = 8 << 20, PAGE = 4096, PAINT = 0xA7, MOST_LINE = 1 << 16, ROOM = 1 << 16, LARGEST_PAGE = 1 << 16, RED_ZONE = 128, GAP = 16 * PAGE };
+enum { STACK = 8 << 20, PAGE = 4096, PAINT = 0xA7, MOST_LINE = 1 << 20, ROOM = 1 << 16, LARGEST_PAGE = 1 << 16, RED_ZONE = 128, GAP = 16 * PAGE };
 
 static uint8_t *stack, *top, painted[PAGE];
 static ucontext_t here, there;
