@@ -61,10 +61,13 @@ class Bound:
         _, functions, bytes, units, words = way
         return bytes == self.along(functions) and all(bytes <= unit * units + word * words for unit, word in self.prices)
 
+    def judged(self, words, budget):
+        """Of a judgement; a question has six words that are no part of it."""
+        return min(unit * budget + word * (words - 6) for unit, word in self.prices)
+
     def check(self, words, budget):
-        """Of sporeflask_check, with a question of so many words: it is read from its fifth on, and judged without its six counts and codes."""
-        judged = min(unit * budget + word * (words - 6) for unit, word in self.prices)
-        return max(self.read * (words - 4), judged) + self.once
+        """Of sporeflask_check, with a question of so many words, which is read from its fifth on."""
+        return max(self.read * (words - 4), self.judged(words, budget)) + self.once
 
     def answer(self, words):
         return self.check(words, DESK_BUDGET) + self.arrays
