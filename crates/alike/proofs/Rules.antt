@@ -1,21 +1,22 @@
 -- Judgements that are alike run alike: one pass over the rules.
 use mathlib.Core.Path.{_≡_, refl, ap, ap₂}
 use Prim.Native.Nat.{ℕ, zero, suc, _+_}
-use mathlib.Core.Bool.{Bool, true, false, _&&_}
+use mathlib.Core.Bool.{Bool, true, false, _&&_, _||_}
+use mathlib.Core.List.{[], _∷_}
 use mathlib.Core.Option.{Option}
 use lib.Dec.{leb, eqb}
 use Rattle.definition.specs.Syntax.{pick, TmVar, TyVar, Ty, Expr, Ctx, Binding, Side, onL, onR, Judgement, placeOf, given, Rule, unboundVariable, applicationTypeError, typeApplicationError, occursCheck, subtypingError, parameterMismatch}
 use Rattle.definition.specs.Contexts.{_▹_}
 use Rattle.definition.specs.Types.{isMono}
 use Rattle.definition.specs.Run.{M, _>>=_, give}
-use Rattle.definition.specs.Rules.{Fired, Result, Judge, Here, _from_, closes, _orElse_, when, on, onBoth, tyCode, asVar, asETVar, asArrow, asForall, solve, reach, split, instArrow, instForall, instRule, subArr, subAllR, subAllL, subInst, notIn, sameBase, same, subtypeRule, exprCode, asAbs, parameter, chkLam, chkAll, chkSub, checkRule, infAppArr, infAppETVar, inferAppRule, infVar, infLam, infApp, infLet, branch, infIf, infBoth, infEq, infBinOp, infAnn, infTAbs, instantiate, infTApp, inferRule, rule, judgeStep, judgeTo, judgeBy, judge}
+use Rattle.definition.specs.Rules.{Fired, Result, Judge, Here, _from_, closes, _orElse_, when, on, onBoth, tyCode, asVar, asETVar, asArrow, asForall, solve, reach, split, instArrow, instForall, instRule, subArr, subAllR, subAllL, subInst, notIn, sameBase, same, subtypeRule, exprCode, asAbs, Letters, sameVar, sameTy, parameter, chkLam, chkAll, chkSub, checkRule, infAppArr, infAppETVar, inferAppRule, infVar, infLam, infApp, infLet, branch, infIf, infBoth, infEq, infBinOp, infAnn, infTAbs, instantiate, infTApp, inferRule, rule, judgeStep, judgeTo, judgeBy, judge}
 use Rattle.definition.specs.Reply.{errorCode, errorAt}
 use Rattle.alike.specs.Alike.{Pairing, InReplies}
 use Rattle.alike.proofs.Related
 use Rattle.alike.proofs.Related.{BindingR, EntryR, fromR, VarR, NameR, TyR, intR, boolR, varR, etvarR, arrowR, forallR, varBndR, tvarBndR, etvarBndR, setvarBndR, markR, CtxR, nilR, consR, ExprR, JudgementR, inferR, checkR, inferAppR, subtypeR, instR, TreeR, nodeR, TreesR, leafR, andR, TypeErrorR, OptionR, noneR, someR, pickR}
 use Rattle.alike.proofs.Contexts.{sameNameR, kVarR, kTVarR, kMarkR, findR, rightOfR, beforeR, pushR, replaceR, solvedAndRightR, lengthR}
 use Rattle.alike.proofs.Runs.{RunsAlike, bindR, giveR, refuseR, haltR, freshR, chargeR}
-use Rattle.alike.proofs.Types.{isMonoR, occursR, substR, applyR, sameTyR}
+use Rattle.alike.proofs.Types.{isMonoR, occursR, substR, applyR}
 
 -- what rules and judgements give
 abbrev pub FiredR : Pairing → Fired → Fired → Type 0
@@ -50,6 +51,13 @@ module _ {P : Pairing} {A : Type 0} {W : A → A → Type 0} where
   onBothR (someR p) noneR h = noneR
   onBothR (someR p) (someR q) h = someR (h _ _ _ _ p q)
 
+-- a test of what is there
+testR : {X : Type 0} {U : X → X → Type 0} {o o′ : Option X} {p p′ : X → Bool} → OptionR U o o′ → ((x x′ : X) → U x x′ → p x ≡ p′ x′)
+    → (on o p orElse false) ≡ (on o′ p′ orElse false)
+unfolding on _orElse_
+testR noneR h = refl
+testR (someR u) h = h _ _ u
+
 -- ## The parts of a type and of an expression
 
 abbrev ArrowR : Pairing → Ty × Ty → Ty × Ty → Type 0
@@ -72,6 +80,12 @@ pub record ExprParts (P : Pairing) (e e′ : Expr) : Type 0 where
   pub place : placeOf e ≡ placeOf e′
   code : exprCode e ≡ exprCode e′
   abs : OptionR (AbsR P) (asAbs e) (asAbs e′)
+
+-- the names of the Foralls passed
+data LettersR (P : Pairing) : Letters → Letters → Type 0 where
+  bare : LettersR P [] []
+  under : {a a′ b b′ : TyVar} {ls ls′ : Letters} → NameR P a a′ → NameR P b b′ → LettersR P ls ls′
+      → LettersR P ((a, b) ∷ ls) ((a′, b′) ∷ ls′)
 
 module _ {P : Pairing} where
   tyParts : {A A′ : Ty} → TyR P A A′ → TyParts P A A′
@@ -96,6 +110,25 @@ module _ {P : Pairing} where
   exprParts (Related.letInR x e f) = record { place = refl; code = refl; abs = noneR }
   exprParts (Related.ifThenElseR e f g) = record { place = refl; code = refl; abs = noneR }
   exprParts (Related.binOpR e f) = record { place = refl; code = refl; abs = noneR }
+
+  -- ## Strict parameters
+
+  sameVarR : {ls ls′ : Letters} {a a′ b b′ : TyVar} → LettersR P ls ls′ → NameR P a a′ → NameR P b b′ → sameVar ls a b ≡ sameVar ls′ a′ b′
+  unfolding sameVar
+  sameVarR bare a b = sameNameR a b
+  sameVarR (under c d s) a b =
+      let p = sameNameR c a in
+      let q = sameNameR d b in
+      pickR _≡_ (ap₂ _||_ p q) (ap₂ _&&_ p q) (sameVarR s a b)
+
+  sameTyR : {ls ls′ : Letters} {A A′ B B′ : Ty} → LettersR P ls ls′ → TyR P A A′ → TyR P B B′ → sameTy ls A B ≡ sameTy ls′ A′ B′
+  unfolding sameTy
+  sameTyR s intR q = ap (λ c. eqb c 1) (tyParts q .code)
+  sameTyR s boolR q = ap (λ c. eqb c 2) (tyParts q .code)
+  sameTyR s (varR p) q = testR (tyParts q .var) (λ b b′. sameVarR s p)
+  sameTyR s (etvarR p) q = testR (tyParts q .etvar) (λ b b′. sameNameR p)
+  sameTyR s (arrowR p p′) q = testR (tyParts q .arrow) (λ B B′ b. ap₂ _&&_ (sameTyR s p (b .0)) (sameTyR s p′ (b .1)))
+  sameTyR s (forallR p p′) q = testR (tyParts q .forall) (λ B B′ b. sameTyR (under p (b .0) s) p′ (b .1))
 
   -- ## inst_l and inst_r
 
@@ -231,7 +264,7 @@ module _ {P : Pairing} where
     unfolding parameter
     parameterR false c p q = giveR _ _ refl
     parameterR true c p q =
-        bindR (applyR c q) (λ T T′ t. pickR (RunsAlike P _≡_) (sameTyR p t) (giveR _ _ refl) (refuseR (parameterMismatchR p t)))
+        bindR (applyR c q) (λ T T′ t. pickR (RunsAlike P _≡_) (sameTyR bare p t) (giveR _ _ refl) (refuseR (parameterMismatchR p t)))
 
     checkRuleR : {Γ Γ′ : Ctx} {e e′ : Expr} {B B′ : Ty} → CtxR P Γ Γ′ → ExprR P e e′ → TyR P B B′
         → RunsAlike P (FiredR P) (checkRule h judge Γ e B) (checkRule h judge′ Γ′ e′ B′)

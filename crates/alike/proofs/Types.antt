@@ -5,7 +5,7 @@ use mathlib.Core.Bool.{not, _&&_, _||_}
 use mathlib.Core.Option.{Option}
 use Rattle.definition.specs.Syntax.{TyVar, Ty, Ctx}
 use Rattle.definition.specs.Run.{M}
-use Rattle.definition.specs.Types.{isMono, occurs, subst, solutionOr, applyStep, applyTo, apply, sameTy}
+use Rattle.definition.specs.Types.{isMono, occurs, subst, solutionOr, applyStep, applyTo, apply}
 use Rattle.alike.specs.Alike.{Pairing}
 use Rattle.alike.proofs.Related.{NameR, TyR, intR, boolR, varR, etvarR, arrowR, forallR, CtxR, OptionR, noneR, someR, pickR}
 use Rattle.alike.proofs.Contexts.{sameNameR, kSETVarR, findR}
@@ -68,44 +68,3 @@ module _ {P : Pairing} where
   pub applyR : {Γ Γ′ : Ctx} {A A′ : Ty} → CtxR P Γ Γ′ → TyR P A A′ → RunsAlike P (TyR P) (apply Γ A) (apply Γ′ A′)
   unfolding apply
   applyR c t = record { at = λ l n. applyToR l c t .at l n }
-
-  -- ## Equality
-
-  pub sameTyR : {A A′ B B′ : Ty} → TyR P A A′ → TyR P B B′ → sameTy A B ≡ sameTy A′ B′
-  unfolding sameTy
-  sameTyR intR intR = refl
-  sameTyR intR boolR = refl
-  sameTyR intR (varR q) = refl
-  sameTyR intR (etvarR q) = refl
-  sameTyR intR (arrowR q q′) = refl
-  sameTyR intR (forallR q q′) = refl
-  sameTyR boolR intR = refl
-  sameTyR boolR boolR = refl
-  sameTyR boolR (varR q) = refl
-  sameTyR boolR (etvarR q) = refl
-  sameTyR boolR (arrowR q q′) = refl
-  sameTyR boolR (forallR q q′) = refl
-  sameTyR (varR p) intR = refl
-  sameTyR (varR p) boolR = refl
-  sameTyR (varR p) (varR q) = sameNameR p q
-  sameTyR (varR p) (etvarR q) = refl
-  sameTyR (varR p) (arrowR q q′) = refl
-  sameTyR (varR p) (forallR q q′) = refl
-  sameTyR (etvarR p) intR = refl
-  sameTyR (etvarR p) boolR = refl
-  sameTyR (etvarR p) (varR q) = refl
-  sameTyR (etvarR p) (etvarR q) = sameNameR p q
-  sameTyR (etvarR p) (arrowR q q′) = refl
-  sameTyR (etvarR p) (forallR q q′) = refl
-  sameTyR (arrowR p p′) intR = refl
-  sameTyR (arrowR p p′) boolR = refl
-  sameTyR (arrowR p p′) (varR q) = refl
-  sameTyR (arrowR p p′) (etvarR q) = refl
-  sameTyR (arrowR p p′) (arrowR q q′) = ap₂ _&&_ (sameTyR p q) (sameTyR p′ q′)
-  sameTyR (arrowR p p′) (forallR q q′) = refl
-  sameTyR (forallR p p′) intR = refl
-  sameTyR (forallR p p′) boolR = refl
-  sameTyR (forallR p p′) (varR q) = refl
-  sameTyR (forallR p p′) (etvarR q) = refl
-  sameTyR (forallR p p′) (arrowR q q′) = refl
-  sameTyR (forallR p p′) (forallR q q′) = ap₂ _&&_ (sameNameR p q) (sameTyR p′ q′)

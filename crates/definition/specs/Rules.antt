@@ -8,6 +8,7 @@
 --                    pushed (case (d)); where there is none, Δ is all of it and Θ is empty. So too Δ, b, Θ and Δ, $b, Θ (`rightOf`,
 --                    `solvedAndRight`); solved Δ are its solved entries;
 --   [Γ]A, [R/a]A     are A with the context applied, and with R for a, each charged (Types);
+--   A ≈ B            says that they differ at most in the names bound by Forall (`sameTy`);
 --   a not in T       says that neither Var a nor ETVar a is free in T (`occurs`);
 --   before Γ a b     says that both are unsolved in Γ, and that ^a's earliest entry is the later one (Contexts);
 --   b fresh          takes the next fresh name (Run).
@@ -15,8 +16,8 @@
 -- where Reach, Arr and All come before Solve, `subtypeRule`, `checkRule`); what chooses a rule is asked there. Refusals are not drawn: they are
 -- where no arm fits, where x has no entry, and where Solve's conditions (is_mono, then a not in T) or strict ChkLam's do not hold.
 use Prim.Native.Nat.{ℕ, zero, suc, _+_}
-use mathlib.Core.Bool.{Bool, true, false, _&&_}
-use mathlib.Core.List.{[], _∷_}
+use mathlib.Core.Bool.{Bool, true, false, _&&_, _||_}
+use mathlib.Core.List.{List, [], _∷_}
 use mathlib.Core.Option.{Option, none, some}
 use lib.ListN.{length}
 use lib.Dec.{leb, eqb}
@@ -25,7 +26,7 @@ use Rattle.definition.specs.Syntax.{pick, TmVar, TyVar, Ty, int, bool, v
 use Rattle.definition.specs.Question.{Mode}
 use Rattle.definition.specs.Run.{M, _>>=_, give, refuse, halt, charge, fresh}
 use Rattle.definition.specs.Contexts.{kVar, kTVar, kMark, find, rightOf, _▹_, replace, solvedAndRight, before}
-use Rattle.definition.specs.Types.{types-compute, sameName, isMono, occurs, subst, apply, sameTy}
+use Rattle.definition.specs.Types.{types-compute, sameName, isMono, occurs, subst, apply}
 
 -- what a rule gives: which it is, its result type (Int where the judgement gives none), output context and children; and what a judgement gives:
 -- result type, output context, tree
@@ -285,13 +286,35 @@ asAbs (letIn p x e e′) = none
 asAbs (ifThenElse p e e′ e″) = none
 asAbs (binOp p o e e′) = none
 
+-- Order 2: "A programmer in strict mode wrote a parameter of type forall A, A to A, where forall B, B to B was expected, and got 17. Document 01's
+-- comparison, name for name, was too narrow. Strict parameters are equal when they differ only in the names bound by Forall. A bound name is not
+-- a free one of the same number, and Var is not ETVar. Plain mode is untouched; .." Two types are walked together, under the names of the Foralls
+-- passed in each, innermost first.
+abbrev pub Letters : Type 0
+Letters = List (TyVar × TyVar)
+
+-- two Vars: the innermost Foralls that bind one of them bind both; where none does, both are free, and are compared name for name
+unfoldable pub sameVar : Letters → TyVar → TyVar → Bool
+sameVar [] a b = sameName a b
+sameVar ((c, d) ∷ ls) a b = pick (sameName c a || sameName d b) (sameName c a && sameName d b) (sameVar ls a b)
+
+-- no Forall binds an ETVar
+unfoldable pub sameTy : Letters → Ty → Ty → Bool
+sameTy ls int B = eqb (tyCode B) 1
+sameTy ls bool B = eqb (tyCode B) 2
+sameTy ls (var a) B = on (asVar B) (λ b. sameVar ls a b) orElse false
+sameTy ls (etvar a) B = on (asETVar B) (λ b. sameName a b) orElse false
+sameTy ls (arrow A A′) B = on (asArrow B) (λ (C, C′). sameTy ls A C && sameTy ls A′ C′) orElse false
+sameTy ls (forall a A) B = on (asForall B) (λ (b, C). sameTy ((a, b) ∷ ls) A C) orElse false
+
 -- "ChkLam first applies the context to the expected parameter and compares the written parameter with it, name for name; unequal is 17,
--- written type left, applied type right." The written one is compared as written (reading 7); applying is paid for first (reading 8).
+-- written type left, applied type right." By order 2 it is up to bound names. The written one is compared as written (reading 7); applying is
+-- paid for first (reading 8), comparing costs nothing.
 unfoldable pub parameter : Bool → Ctx → Ty → Ty → M (Unit {0})
 parameter false Γ A P = give tt
-parameter true Γ A P = do P′ ← apply Γ P; pick (sameTy A P′) (give tt) (refuse (parameterMismatch A P′))
+parameter true Γ A P = do P′ ← apply Γ P; pick (sameTy [] A P′) (give tt) (refuse (parameterMismatch A P′))
 
--- strict: A = [Γ]P    Γ, x : P ⊢ e ⇐ C ⊣ Δ, x : _, Θ
+-- strict: A ≈ [Γ]P    Γ, x : P ⊢ e ⇐ C ⊣ Δ, x : _, Θ
 -- ---------------------------------------------------- ChkLam, which binds P as it stood (reading 6)
 -- Γ ⊢ λx:A. e ⇐ P → C ⊣ Θ
 unfoldable pub chkLam : Here → Judge → Ctx → TmVar × Ty × Expr → Ty × Ty → M Fired
@@ -513,5 +536,5 @@ judge = judgeBy rule
 
 -- `unfolding rules-compute` opens every definition above, and those they rest on
 unfoldable pub rules-compute : Unit {0}
-unfolding closes _orElse_ when on onBoth tyCode asVar asETVar asArrow asForall other instSolve instReach instArr solve reach split instArrow instForall instRule subArr subAllR subAllL subInst notIn sameBase same subtypeRule exprCode asAbs parameter chkLam chkAll chkSub checkRule infAppArr infAppETVar inferAppRule infVar infLam infApp infLet branch infIf infBoth infEq infBinOp infAnn infTAbs instantiate infTApp inferRule rule judgeStep judgeTo judgeBy types-compute
+unfolding closes _orElse_ when on onBoth tyCode asVar asETVar asArrow asForall other instSolve instReach instArr solve reach split instArrow instForall instRule subArr subAllR subAllL subInst notIn sameBase same subtypeRule exprCode asAbs sameVar sameTy parameter chkLam chkAll chkSub checkRule infAppArr infAppETVar inferAppRule infVar infLam infApp infLet branch infIf infBoth infEq infBinOp infAnn infTAbs instantiate infTApp inferRule rule judgeStep judgeTo judgeBy types-compute
 rules-compute = tt

@@ -1,4 +1,4 @@
--- is_mono, free_vars, occurs_check, subst_type, apply_ctx_type and equality of types, after 000, with their charges.
+-- is_mono, free_vars, occurs_check, subst_type and apply_ctx_type, after 000, with their charges.
 use Prim.Native.Nat.{ℕ, zero, suc}
 use mathlib.Core.Bool.{Bool, true, false, not, _&&_, _||_}
 use mathlib.Core.Option.{Option, none, some}
@@ -63,47 +63,7 @@ applyTo (suc d) Γ A = do u ← charge 1; applyStep Γ (λ B l n. applyTo d Γ B
 unfoldable pub apply : Ctx → Ty → M Ty
 apply Γ A l n = applyTo l Γ A l n
 
--- ---- "name for name": the same type, Forall's names among it; Var is not ETVar
-
-unfoldable pub sameTy : Ty → Ty → Bool
-sameTy int int = true
-sameTy int bool = false
-sameTy int (var b) = false
-sameTy int (etvar b) = false
-sameTy int (arrow B B′) = false
-sameTy int (forall b B) = false
-sameTy bool int = false
-sameTy bool bool = true
-sameTy bool (var b) = false
-sameTy bool (etvar b) = false
-sameTy bool (arrow B B′) = false
-sameTy bool (forall b B) = false
-sameTy (var a) int = false
-sameTy (var a) bool = false
-sameTy (var a) (var b) = sameName a b
-sameTy (var a) (etvar b) = false
-sameTy (var a) (arrow B B′) = false
-sameTy (var a) (forall b B) = false
-sameTy (etvar a) int = false
-sameTy (etvar a) bool = false
-sameTy (etvar a) (var b) = false
-sameTy (etvar a) (etvar b) = sameName a b
-sameTy (etvar a) (arrow B B′) = false
-sameTy (etvar a) (forall b B) = false
-sameTy (arrow A A′) int = false
-sameTy (arrow A A′) bool = false
-sameTy (arrow A A′) (var b) = false
-sameTy (arrow A A′) (etvar b) = false
-sameTy (arrow A A′) (arrow B B′) = sameTy A B && sameTy A′ B′
-sameTy (arrow A A′) (forall b B) = false
-sameTy (forall a A) int = false
-sameTy (forall a A) bool = false
-sameTy (forall a A) (var b) = false
-sameTy (forall a A) (etvar b) = false
-sameTy (forall a A) (arrow B B′) = false
-sameTy (forall a A) (forall b B) = sameName a b && sameTy A B
-
 -- `unfolding types-compute` opens every definition above, and those they rest on
 unfoldable pub types-compute : Unit {0}
-unfolding sameName isMono occurs subst solutionOr applyStep applyTo apply sameTy contexts-compute run-computes
+unfolding sameName isMono occurs subst solutionOr applyStep applyTo apply contexts-compute run-computes
 types-compute = tt

@@ -1,5 +1,5 @@
--- What is computed from the definition: the fifteen questions of document 01 with their replies, as one table under one theorem; its edges;
--- what no question shows; memory after each code; the telephone host.
+-- What is computed from the definition: the fifteen questions of document 01 with their replies, as one table under one theorem; order 2's, as
+-- another; document 01's edges; what no question shows; memory after each code; the telephone host.
 use mathlib.Core.Path.{_≡_, refl}
 use mathlib.Core.Bool.{Bool, true, false, not, _&&_}
 use Prim.Native.Nat.{ℕ, zero, suc, _+_, _*_, _≤_, _<_, min}
@@ -8,7 +8,7 @@ use mathlib.Core.List.{List, [], _∷_, _++_, map}
 use lib.ListN.{length, take, drop, replicate}
 use lib.Dec.{T, leb}
 use mir.Facts.{yes-leb, no-leb}
-use Rattle.definition.specs.Syntax.{pick, TmVar, TyVar, int, bool, var, etvar, arrow, forall, evar, app, abs, tapp, tabs, ann, litInt, litBool, letIn, ifThenElse, binOp, varBnd, tvarBnd, etvarBnd, setvarBnd, mark, onL, instantiationError}
+use Rattle.definition.specs.Syntax.{pick, TmVar, TyVar, Ty, tyWords, section, noSection, tySection, int, bool, var, etvar, arrow, forall, evar, app, abs, tapp, tabs, ann, litInt, litBool, letIn, ifThenElse, binOp, varBnd, tvarBnd, etvarBnd, setvarBnd, mark, onL, instantiationError}
 use Rattle.definition.specs.Run.{fail}
 use Rattle.definition.specs.Contexts.{bindingKey, kindOf}
 use Rattle.definition.specs.Types.{isMono}
@@ -74,6 +74,79 @@ cases =
 pub fifteen : map (λ c. seen (asked c) (c .2)) cases ≡ map (λ c. c .2) cases
 unfolding cases asked seen reply-computes
 fifteen = refl
+
+-- ---- Order 2, as one table beside the fifteen: fun x:A. 1 against P to Int, strict, among the entries that the words Γ spell
+
+unfoldable pub lambda : ℕ → List ℕ → Ty → Ty → List ℕ
+lambda mode Γ A P = 2 ∷ mode ∷ section Γ ++ (section (18 ∷ 5 ∷ tyWords A ++ 22 ∷ 1 ∷ 0 ∷ []) ++ (noSection ++ tySection (arrow P int)))
+
+-- A is accepted for P; or 17 shows A as written and P as the context leaves it
+unfoldable pub equal : List ℕ → Ty → Ty → Case
+equal Γ A P = (384, lambda 1 Γ A P, begins 0 0 (0 ∷ []))
+
+unfoldable pub unequal : List ℕ → Ty → Ty → Ty → Case
+unequal Γ A P P′ = (384, lambda 1 Γ A P, begins 17 0 (tySection A ++ tySection P′))
+
+-- the Var, the ETVar and the Forall of a number
+unfoldable pub v : ℕ → Ty
+v n = var (record { number = n })
+
+unfoldable pub u : ℕ → Ty
+u n = etvar (record { number = n })
+
+unfoldable pub all : ℕ → Ty → Ty
+all n A = forall (record { number = n }) A
+
+-- of A to A: all A, and all B
+unfoldable pub own : ℕ → Ty
+own n = all n (arrow (v n) (v n))
+
+unfoldable pub letterCases : List Case
+letterCases =
+    -- the order's own example, at its 8 units, with one less, and in plain mode, where nothing is applied
+    (8, lambda 1 [] (own 1) (own 2), wholly 0 0 47 8 (0 ∷ 0 ∷ 44 ∷ 19 ∷ 1 ∷ 4 ∷ 0 ∷ 0 ∷ 9 ∷ 5 ∷ 6 ∷ 2 ∷ 5 ∷ 3 ∷ 2 ∷ 3 ∷ 2 ∷ 1 ∷ 0 ∷ 0 ∷ 17 ∷ 0 ∷ 13 ∷ 9 ∷ 32 ∷ 5 ∷ 6 ∷ 2 ∷ 5 ∷ 3 ∷ 2 ∷ 3 ∷ 2 ∷ 0 ∷ 1 ∷ 1 ∷ 9 ∷ 32 ∷ 5 ∷ 6 ∷ 2 ∷ 5 ∷ 3 ∷ 2 ∷ 3 ∷ 2 ∷ 0 ∷ []))
+    ∷ (7, lambda 1 [] (own 1) (own 2), wholly 6 0 0 7 [])
+    ∷ (384, lambda 0 [] (own 1) (own 2), wholly 0 0 47 4 (0 ∷ 0 ∷ 44 ∷ 19 ∷ 1 ∷ 4 ∷ 0 ∷ 0 ∷ 9 ∷ 5 ∷ 6 ∷ 2 ∷ 5 ∷ 3 ∷ 2 ∷ 3 ∷ 2 ∷ 1 ∷ 0 ∷ 0 ∷ 17 ∷ 0 ∷ 13 ∷ 9 ∷ 32 ∷ 5 ∷ 6 ∷ 2 ∷ 5 ∷ 3 ∷ 2 ∷ 3 ∷ 2 ∷ 0 ∷ 1 ∷ 1 ∷ 9 ∷ 32 ∷ 5 ∷ 6 ∷ 2 ∷ 5 ∷ 3 ∷ 2 ∷ 3 ∷ 2 ∷ 0 ∷ []))
+    ∷  -- "a bound name is not a free one of the same number", on either side
+    unequal [] (all 1 (v 1)) (all 2 (v 1)) (all 2 (v 1))
+    ∷ unequal [] (all 2 (v 1)) (all 1 (v 1)) (all 1 (v 1))
+    ∷ unequal [] (all 1 (arrow (v 1) (v 2))) (own 2) (own 2)
+    ∷ unequal [] (own 2) (all 1 (arrow (v 1) (v 2))) (all 1 (arrow (v 1) (v 2)))
+    ∷  -- a free one keeps its number: beside a bound one, and where a Forall has ended
+    unequal [] (v 1) (v 2) (v 2)
+    ∷ equal [] (all 1 (arrow (v 1) (v 3))) (all 2 (arrow (v 2) (v 3)))
+    ∷ unequal [] (all 1 (arrow (v 1) (v 3))) (all 2 (arrow (v 2) (v 4))) (all 2 (arrow (v 2) (v 4)))
+    ∷ equal [] (arrow (all 1 (v 1)) (v 1)) (arrow (all 2 (v 2)) (v 1))
+    ∷ unequal [] (arrow (all 1 (v 1)) (v 1)) (arrow (all 2 (v 2)) (v 2)) (arrow (all 2 (v 2)) (v 2))
+    ∷  -- a Forall that binds nothing is a Forall
+    equal [] (all 1 int) (all 2 int)
+    ∷ unequal [] (all 1 int) int int
+    ∷  -- "Var is not ETVar", and no Forall binds an ETVar
+    unequal [] (v 1) (u 1) (u 1)
+    ∷ unequal [] (all 1 (v 1)) (all 1 (u 1)) (all 1 (u 1))
+    ∷ unequal [] (all 1 (u 1)) (all 1 (v 1)) (all 1 (v 1))
+    ∷ equal [] (all 1 (u 1)) (all 2 (u 1))
+    ∷ unequal [] (all 1 (u 1)) (all 2 (u 2)) (all 2 (u 2))
+    ∷  -- shadowing: the innermost Forall binds, on either side
+    equal [] (all 1 (all 1 (v 1))) (all 1 (all 2 (v 2)))
+    ∷ unequal [] (all 1 (all 1 (v 1))) (all 1 (all 2 (v 1))) (all 1 (all 2 (v 1)))
+    ∷ unequal [] (all 1 (all 2 (v 1))) (all 1 (all 1 (v 1))) (all 1 (all 1 (v 1)))
+    ∷  -- nested Foralls exchanged, with their names and without
+    equal [] (all 1 (all 2 (arrow (v 1) (v 2)))) (all 2 (all 1 (arrow (v 2) (v 1))))
+    ∷ unequal [] (all 1 (all 2 (arrow (v 1) (v 2)))) (all 2 (all 1 (arrow (v 1) (v 2)))) (all 2 (all 1 (arrow (v 1) (v 2))))
+    ∷  -- equal shapes with one deep difference, or none
+    equal [] (all 1 (arrow (own 2) (arrow int (arrow bool (v 1))))) (all 3 (arrow (own 3) (arrow int (arrow bool (v 3)))))
+    ∷ unequal [] (all 1 (arrow (own 2) (arrow int (arrow bool (v 1))))) (all 3 (arrow (own 3) (arrow int (arrow bool (v 1)))))
+    (all 3 (arrow (own 3) (arrow int (arrow bool (v 1)))))
+    ∷  -- a solved unknown under a Forall: compared is what application leaves, which puts ^C's B under the Forall of its letter
+    equal (35 ∷ 3 ∷ tyWords (v 2)) (all 1 (v 1)) (all 2 (u 3))
+    ∷ unequal (35 ∷ 3 ∷ tyWords (v 4)) (all 1 (v 1)) (all 2 (u 3)) (all 2 (v 4))
+    ∷ equal (35 ∷ 3 ∷ tyWords (own 4)) (all 1 (arrow (own 1) (v 1))) (all 2 (arrow (u 3) (v 2)))
+    ∷ []
+
+pub other-letters : map (λ c. seen (asked c) (c .2)) letterCases ≡ map (λ c. c .2) letterCases
+unfolding letterCases lambda equal unequal v u all own asked seen reply-computes
+other-letters = refl
 
 -- Document 01's edges 999,999 and 1,000,000 (the third, a solution that leads back to itself, is in Endless); one word of room less; 1, 2, 3
 -- in that order; 2,048 and 2,049 words

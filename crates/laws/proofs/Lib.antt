@@ -1,6 +1,7 @@
 -- Laws about the definition. Nothing here has to be believed: each is proved, and none changes what the definition says.
 pub mod Cases
 pub mod Steps
+pub mod Letters
 pub mod Codes
 pub mod Congruence
 pub mod Depth

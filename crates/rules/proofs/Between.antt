@@ -1,30 +1,35 @@
 -- The steps between judgements: strict mode's parameter, types with the context applied, a Forall's instance.
 use mathlib.Core.Path.{_≡_, refl, sym, _∙_}
 use mathlib.Core.Bool.{Bool, true, false}
-use mathlib.Core.List.{List}
-use Prim.Native.Nat.{ℕ}
+use mathlib.Core.List.{List, []}
+use Prim.Native.Nat.{ℕ, _+_, _≤_}
+use native.Mathlib.Nat.{le-refl}
 use native.Mathlib.Omega.{arith}
 use Rattle.definition.specs.Syntax.{pick, TyVar, Ty, int, bool, var, etvar, arrow, forall, Ctx, typeApplicationError, parameterMismatch}
 use Rattle.definition.specs.Run.{Out, done, M, andThen, give, refuse, _>>=_}
-use Rattle.definition.specs.Types.{apply, sameTy, subst}
-use Rattle.definition.specs.Rules.{tyCode, on, asForall, parameter, branch, instantiate, _orElse_}
+use Rattle.definition.specs.Types.{apply, subst}
+use Rattle.definition.specs.Rules.{tyCode, on, asForall, sameTy, parameter, branch, instantiate, _orElse_}
 use Rattle.definition.specs.Reply.{errorCode, errorAt}
 use Rattle.laws.proofs.Steps.{pick-true, pick-false, bind-done, bind-stop}
-use Rattle.layout.specs.Denotes.{Den}
+use Rattle.layout.specs.Words.{Keep}
+use Rattle.layout.specs.Places.{size}
+use Rattle.layout.specs.Denotes.{Den, Run}
 use Rattle.layout.specs.Room.{Room}
 use Rattle.layout.specs.declared.Span.{Span}
 use Rattle.layout.specs.declared.State.{State}
 use Rattle.layout.specs.declared.TyVar as declared
 use Rattle.layout.specs.declared.Made.{Made}
 use Rattle.layout.specs.declared.Made.the-variants as made
-use Rattle.layout.proofs.Denotes.{run-frame}
+use Rattle.layout.proofs.Words.{keep-less}
+use Rattle.layout.proofs.Denotes.{den-frame, run-frame}
 use Rattle.types.specs.Reading.{Held, HeldAs, HeldNamed, Tagged, Named, BodyOf}
 use Rattle.types.proofs.Held.{room-held, held-as, held-named, body-held}
 use Rattle.rules.proofs.TypeForms.{IsForall, is-forall}
-use Rattle.walks.specs.Walks.{BothHeld, Same}
+use Rattle.walks.specs.Letters.{lettersAt, Comparing, Same}
 use Rattle.substitution.specs.Passing.{Passed, Makes}
 use Rattle.substitution.specs.Calls.{SubstPre, Substed, ApplyPre, Applied}
 use Rattle.substitution.proofs.Passing as sub
+use Rattle.substitution.proofs.Paid.{apply-pays}
 use Rattle.judging.specs.declared.Here.{Here}
 use Rattle.judging.specs.declared.Shown.the-variants.{OneType, TwoTypes}
 use Rattle.judging.specs.declared.Step.the-variants.{Fail, Spent}
@@ -37,6 +42,11 @@ use Rattle.rules.specs.Going.{Two, TwoIn, GoesOrEnds, goes, fails, stops
 -- what the definition says in other words
 says : {X : Type 0} {q w w′ : List ℕ} {s : State} {D : X → ℕ → ℕ → ℕ → Type 0} {z : Mid} {O O′ : Out X} → O ≡ O′ → GoesOrEnds q w w′ s D z O′ → GoesOrEnds q w w′ s D z O
 says e p = rw e p
+
+-- past the top stands room for the letters of each Forall in what application gave: it has paid for them
+letters-room : {q w w₁ : List ℕ} {s s₁ : State} {r k : ℕ} (Γ : Ctx) (P : Ty) → Room q w s k
+    → (o : sub.Reached q w w₁ s s₁ r (apply Γ P (s .left) (s .fresh))) → s₁ .top + size (o .type) ≤ s₁ .low
+letters-room {s = s} Γ P m o = omega (arith, apply-pays Γ P (s .left) (s .fresh) (o .is), o .passed .built, o .passed .low, m .fits)
 
 -- ## The context applied to one of the two
 
@@ -51,12 +61,16 @@ module _ {q w : List ℕ} {s : State} {g : Span} {a b : ℕ} (pre : TwoIn q w s 
 
     -- ## Strict mode's parameter
 
-    pub both-held : Applied q w w₁ s g b z → z ≡ made.Done s₁ r → BothHeld q w₁ (s₁ .top) a r
-    both-held ap e =
+    pub comparing : Applied q w w₁ s g b z → z ≡ made.Done s₁ r → Comparing q w₁ (s₁ .top) 0 a r
+    comparing ap e =
         let o = sub.reached (ap .makes (pre .Γ) (pre .run) _ (pre .two .right)) e in
         let p = o .passed in
         let m = sub.room-on p (pre .two .room) in
-        record { one = room-held m (sub.den-on p (pre .two .left)); two = room-held m (o .den) }
+        record {
+          one = room-held m (sub.den-on p (pre .two .left));
+          two = record { base = m .base; fits = omega (arith, m .fits, m .low); cap = m .cap; type = o .type; den = o .den };
+          room = omega (arith, letters-room _ _ (pre .two .room) o, m .low);
+        }
 
 -- no fresh name was taken
 no-fresh : {X : Type 0} (f : M X) (l n : ℕ) {n′ l′ : ℕ} {x : X} → n ≡ n′ → f l n ≡ done x l′ n → f l n′ ≡ done x l′ n′
@@ -66,9 +80,33 @@ no-fresh f l n e h = rw e at h
 went : {w w′ : List ℕ} {s s′ : State} {n : ℕ} → Passed w w′ s s′ n → Passed w w′ s s′ 0
 went p = record { keep = p .keep; up = p .up; low = p .low; fresh = p .fresh; paid = omega (arith, p .paid); built = p .built }
 
+-- what is known once the context is applied and both types are compared: the comparison wrote past the top alone
+record Told (q w w₂ : List ℕ) (s s₁ : State) (a r : ℕ) (b : Bool) (Γ : Ctx) (A P : Ty) : Type 0 where
+  applied : Ty
+  is : apply Γ P (s .left) (s .fresh) ≡ done applied (s₁ .left) (s .fresh)
+  passed : Passed w w₂ s s₁ 1
+  left : Den q w₂ (s₁ .top) a A
+  right : Den q w₂ (s₁ .top) r applied
+  same : b ≡ sameTy [] A applied
+
+told : {q w w₁ w₂ : List ℕ} {s s₁ : State} {a r k : ℕ} {b : Bool} {A : Ty} (Γ : Ctx) (P : Ty) → Room q w s k → Den q w (s .top) a A
+    → sub.Reached q w w₁ s s₁ r (apply Γ P (s .left) (s .fresh)) → Same q w₁ w₂ (s₁ .top) 0 a r b → Told q w w₂ s s₁ a r b Γ A P
+unfolding lettersAt
+told {w₁ = w₁} {w₂ = w₂} {s₁ = s₁} Γ P m d o same =
+    let d₁ = sub.den-on (o .passed) d in
+    let kept : Keep (s₁ .top) (s₁ .low) w₁ w₂ = keep-less (omega arith) (omega (arith, letters-room Γ P m o)) (same .keep (o .type) (o .den)) in
+    record {
+      applied = o .type;
+      is = o .is;
+      passed = sub.then (o .passed) (sub.past-top kept);
+      left = den-frame kept (le-refl _) d₁;
+      right = den-frame kept (le-refl _) (o .den);
+      same = same .is _ (o .type) d₁ (o .den);
+    }
+
 -- the definition's parameter, once the context is applied
 compares : (Γ : Ctx) (A P : Ty) {T : Ty} (l n : ℕ) {l′ n′ : ℕ} → apply Γ P l n ≡ done T l′ n′
-    → parameter true Γ A P l n ≡ pick (sameTy A T) (give tt) (refuse (parameterMismatch A T)) l′ n′
+    → parameter true Γ A P l n ≡ pick (sameTy [] A T) (give tt) (refuse (parameterMismatch A T)) l′ n′
 unfolding parameter
 compares Γ A P l n e = bind-done (apply Γ P) _ l n e
 
@@ -86,27 +124,26 @@ module _ {m : Here} {q w : List ℕ} {s : State} {g : Span} {a p : ℕ} where
           says (rw e (bind-stop (apply Γ P) _ _ _ (o .is))) (stops (o .keep));
     }
 
-    module _ {s₁ : State} {r : ℕ} {b : Bool} (h : z ≡ made.Done s₁ r) (same : Same q w₁ (s₁ .top) a r b) where
-      pub parameter-same : b ≡ true → Compared m q w w₁ s g a p (On s₁ 0 0)
+    module _ {s₁ : State} {r k : ℕ} {w₂ : List ℕ} {b : Bool} (h : z ≡ made.Done s₁ r) (same : Same q w₁ w₂ (s₁ .top) 0 a r b) (room : Room q w s k) where
+      pub parameter-same : b ≡ true → Compared m q w w₂ s g a p (On s₁ 0 0)
       unfolding give
       parameter-same t = record {
         passes = λ Γ A P n d f.
-            let o = sub.reached (ap .makes Γ n P f) h in
-            let x : sameTy A (o .type) ≡ true = sym (same .is A (o .type) (sub.den-on (o .passed) d) (o .den)) ∙ t in
-            says (rw e (compares Γ A P _ _ (o .is) ∙ rw (pick-true (give (tt {0})) (refuse (parameterMismatch A (o .type))) x) refl)) (goes (went (o .passed)) tt);
+            let o = told Γ P room d (sub.reached (ap .makes Γ n P f) h) same in
+            let x : sameTy [] A (o .applied) ≡ true = sym (o .same) ∙ t in
+            says (rw e (compares Γ A P _ _ (o .is) ∙ rw (pick-true (give (tt {0})) (refuse (parameterMismatch A (o .applied))) x) refl)) (goes (went (o .passed)) tt);
       }
 
-      pub parameter-other : {k : ℕ} → b ≡ false → Room q w s k → Compared m q w w₁ s g a p (End (Fail (record { st = s₁; code = 17; name = 0; shown = TwoTypes a r; charge = 0 })))
+      pub parameter-other : b ≡ false → Compared m q w w₂ s g a p (End (Fail (record { st = s₁; code = 17; name = 0; shown = TwoTypes a r; charge = 0 })))
       unfolding errorCode errorAt refuse
-      parameter-other t room = record {
+      parameter-other t = record {
         passes = λ Γ A P n d f.
-            let o = sub.reached (ap .makes Γ n P f) h in
-            let d₁ = sub.den-on (o .passed) d in
+            let o = told Γ P room d (sub.reached (ap .makes Γ n P f) h) same in
             let rm = sub.room-on (o .passed) room in
-            let x : sameTy A (o .type) ≡ false = sym (same .is A (o .type) d₁ (o .den)) ∙ t in
-            let y : Failed q w₁ (record { st = s₁; code = 17; name = 0; shown = TwoTypes a r; charge = 0 }) (parameterMismatch A (o .type)) (s₁ .left) =
-            record { base = rm .base; within = room-within rm; code = refl; name = refl; shown = two-types d₁ (o .den); left = refl } in
-            says (rw e (compares Γ A P _ _ (o .is) ∙ rw (pick-false (give (tt {0})) (refuse (parameterMismatch A (o .type))) x) refl)) (fails (o .passed .keep) y);
+            let x : sameTy [] A (o .applied) ≡ false = sym (o .same) ∙ t in
+            let y : Failed q w₂ (record { st = s₁; code = 17; name = 0; shown = TwoTypes a r; charge = 0 }) (parameterMismatch A (o .applied)) (s₁ .left) =
+            record { base = rm .base; within = room-within rm; code = refl; name = refl; shown = two-types (o .left) (o .right); left = refl } in
+            says (rw e (compares Γ A P _ _ (o .is) ∙ rw (pick-false (give (tt {0})) (refuse (parameterMismatch A (o .applied))) x) refl)) (fails (o .passed .keep) y);
       }
 
 -- ## Two types with the context applied, or as they are

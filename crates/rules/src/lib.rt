@@ -318,7 +318,8 @@ pub fn pushed(s: Side, b: TyVar) -> Key
 
 // ---- Between judgements
 
-// Strict mode's ChkLam: the written parameter a against the expected p with the context applied, name for name; 17 if they differ.
+// Strict mode's ChkLam: the written parameter a against the expected p with the context applied; 17 if they differ in more than the names
+// bound by Forall.
 pub fn parameter(
     q: &[u32],
     work: &mut [u32],
@@ -338,7 +339,7 @@ pub fn parameter(
             return Mid::End(Step::Spent);
         };
         let top = st1.top;
-        let same = walks::same_type(q, work, top, a, p1);
+        let same = walks::same_type(q, work, top, 0, a, p1);
         if same {
             return Mid::On(st1, 0, 0);
         }

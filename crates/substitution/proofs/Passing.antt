@@ -24,8 +24,12 @@ use Rattle.substitution.specs.declared.Begun.the-variants as begun
 
 -- ## States, one after the other
 
+-- words were written between the top and the nodes, and not for good
+pub past-top : {w w′ : List ℕ} {s : State} → Keep (s .top) (s .low) w w′ → Passed w w′ s s 0
+past-top k = record { keep = k; up = le-refl _; low = refl; fresh = refl; paid = omega arith; built = le-refl _ }
+
 pub here : (w : List ℕ) (s : State) → Passed w w s s 0
-here w s = record { keep = keep-refl _ _ w; up = le-refl _; low = refl; fresh = refl; paid = omega arith; built = le-refl _ }
+here w s = past-top (keep-refl _ _ w)
 
 -- what is kept until s₁ and then from s₁ on is kept
 pub keep-on : {w w₁ w₂ : List ℕ} {s s₁ : State} {n : ℕ} → Passed w w₁ s s₁ n → Keep (s₁ .top) (s₁ .low) w₁ w₂ → Keep (s .top) (s .low) w w₂

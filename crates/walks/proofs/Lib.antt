@@ -2,4 +2,5 @@
 pub mod Names
 pub mod Mono
 pub mod Occurs
+pub mod Letters
 pub mod Same

@@ -1,2 +1,3 @@
 -- What the uncharged walks take and give.
 pub mod Walks
+pub mod Letters

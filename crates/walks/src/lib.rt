@@ -1,12 +1,20 @@
 // Walks over types by reference that are not charged: they end because the parts of a type rank below it.
 use layout::TyVar;
+use layout::put2;
+use layout::word;
 use types::body_of;
 use types::left_of;
 use types::name_of;
 use types::right_of;
 use types::tag;
+ghost use mathlib.Core.Path.{_≡_};
+ghost use Prim.Native.Nat.{_+_, _*_, _≤_};
+ghost use lib.ListN.{length};
+ghost use Rattle.definition.specs.Rules.{sameVar};
+ghost use Rattle.layout.specs.Names.{ty};
 ghost use Rattle.types.specs.Reading.{Held};
-ghost use Rattle.walks.specs.Walks.{Mono, Occurs, BothHeld, BothNamed, SameNames, Same};
+ghost use Rattle.walks.specs.Walks.{Mono, Occurs};
+ghost use Rattle.walks.specs.Letters.{BothNamed, BothNames, lettersAt, Comparing, Same};
 
 // Whether no Forall is in the type.
 pub fn is_mono(q: &[u32], work: &[u32], top: usize, r: usize) -> bool
@@ -64,22 +72,50 @@ pub fn occurs_check(q: &[u32], work: &[u32], top: usize, a: TyVar, r: usize) -> 
     }
 }
 
-// Whether two Vars, two ETVars or two Foralls have one name.
-fn same_name(q: &[u32], work: &[u32], top: usize, r: usize, s: usize) -> bool
+// The letters of two Vars, two ETVars or two Foralls.
+struct Pair {
+    a: TyVar,
+    b: TyVar,
+}
+
+fn letters_of(q: &[u32], work: &[u32], top: usize, r: usize, s: usize) -> Pair
     requires { ⌜ BothNamed (now q) (now work) top r s ⌝ }
-    ensures { λ b. ⌜ SameNames (now (q .entry)) (now (work .entry)) top r s b ⌝ }
+    ensures { λ p. ⌜ BothNames (now (q .entry)) (now (work .entry)) top r s p ⌝ }
 {
     let a = name_of(q, work, top, r);
     let b = name_of(q, work, top, s);
-    let x = a.0;
-    let y = b.0;
+    Pair { a: a, b: b }
+}
+
+// Whether two Vars mean the same under n pairs of letters in work, the innermost last: the innermost pair that has one of them has both; where
+// none has, both are free.
+fn same_var(work: &[u32], top: usize, n: usize, p: Pair) -> bool
+    requires { ⌜ top + 2 * n ≤ length (now work) ⌝ }
+    ensures { λ z. ⌜ z ≡ sameVar (lettersAt (now (work .entry)) top n) (ty (p .a)) (ty (p .b)) ⌝ }
+{
+    let x = p.a.0 as usize;
+    let y = p.b.0 as usize;
+    let mut i = n;
+    while 0 < i {
+        let at = top + 2 * (i - 1);
+        let c = word(work, at);
+        let d = word(work, at + 1);
+        if c == x {
+            return d == y;
+        }
+        if d == y {
+            return false;
+        }
+        i -= 1;
+    }
     x == y
 }
 
-// Whether two types are the same, name for name.
-pub fn same_type(q: &[u32], work: &[u32], top: usize, r: usize, s: usize) -> bool
-    requires { ⌜ BothHeld (now q) (now work) top r s ⌝ }
-    ensures { λ b. ⌜ Same (now (q .entry)) (now (work .entry)) top r s b ⌝ }
+// Whether two types differ at most in the names bound by Forall, under n pairs of letters that lie in work from top on. For each two Foralls
+// passed their pair is laid past the others; no Forall binds an ETVar.
+pub fn same_type(q: &[u32], work: &mut [u32], top: usize, n: usize, r: usize, s: usize) -> bool
+    requires { ⌜ Comparing (now q) (now work) top n r s ⌝ }
+    ensures { λ b. ⌜ Same (now (q .entry)) (now (work .entry)) (now (work .exit)) top n r s b ⌝ }
 {
     let k = tag(q, work, top, r);
     let m = tag(q, work, top, s);
@@ -87,26 +123,25 @@ pub fn same_type(q: &[u32], work: &[u32], top: usize, r: usize, s: usize) -> boo
         return false;
     }
     match k {
-        3 | 4 => same_name(q, work, top, r, s),
+        3 => same_var(work, top, n, letters_of(q, work, top, r, s)),
+        4 => same_var(work, top, 0, letters_of(q, work, top, r, s)),
         5 => {
             let left = left_of(q, work, top, r);
             let other_left = left_of(q, work, top, s);
-            let same = same_type(q, work, top, left, other_left);
+            let right = right_of(q, work, top, r);
+            let other_right = right_of(q, work, top, s);
+            let same = same_type(q, work, top, n, left, other_left);
             if same {
-                let right = right_of(q, work, top, r);
-                let other_right = right_of(q, work, top, s);
-                return same_type(q, work, top, right, other_right);
+                return same_type(q, work, top, n, right, other_right);
             }
             false
         }
         6 => {
-            let same = same_name(q, work, top, r, s);
-            if same {
-                let body = body_of(q, work, top, r);
-                let other_body = body_of(q, work, top, s);
-                return same_type(q, work, top, body, other_body);
-            }
-            false
+            let p = letters_of(q, work, top, r, s);
+            let body = body_of(q, work, top, r);
+            let other_body = body_of(q, work, top, s);
+            put2(work, top + 2 * n, p.a.0 as usize, p.b.0 as usize);
+            same_type(q, work, top, n + 1, body, other_body)
         }
         _ => true,
     }

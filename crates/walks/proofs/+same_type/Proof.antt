@@ -1,5 +1,5 @@
 -- `same_type` meets its contract.
--- The measure of `same_type`: the rank of the reference falls.
+-- The measure of `same_type`: the rank of the first reference falls.
 use borrow.Author.Needs.{needs}
 use Rattle.walks.proofs.same_type.Reads as same-type
 use Rattle.walks.proofs.+same_type.Lts-same_type as same-type-lts
@@ -10,17 +10,19 @@ use Prim.Native.Nat.{ℕ, _<_}
 use borrow.Fn.Kinds.{In}
 use borrow.Fn.PlainCycle.{Measures, is, falls, and}
 use Rattle.walks.proofs.same_type.Kinds as same-type-kinds
+use Rattle.layout.proofs.put2.Reads as put2-reads
 use Rattle.types.proofs.body_of.Reads as body-of-reads
 use Rattle.types.proofs.left_of.Reads as left-of-reads
 use Rattle.types.proofs.right_of.Reads as right-of-reads
 use Rattle.types.proofs.tag.Reads as tag-reads
-use Rattle.walks.proofs.same_name.Reads as same-name-reads
+use Rattle.walks.proofs.letters_of.Reads as letters-of-reads
+use Rattle.walks.proofs.same_var.Reads as same-var-reads
 use native.Mathlib.Omega.{arith}
 use Rattle.types.proofs.Cases.{no-other}
-use Rattle.walks.proofs.Same.{both-named, one-as, two-as, lefts-below, rights-below, bodies-below, same-apart, same-base, same-named, same-no, same-both, same-bound-no, same-body}
+use Rattle.walks.proofs.Same.{OneCode, Arrows, Lefts, Foralls, Laid, vars-named, etvars-named, foralls-named, one-as, two-as, lefts-below, rights-below, bodies-below, pair-room, same-apart, same-base, same-vars, same-etvars, same-no, same-both, same-under}
 
 abbrev μ-same-type : Measures 2 same-type-kinds.ps ℕ
-μ-same-type κs a = rank (a .1 .1 .1 .0)
+μ-same-type κs a = rank (a .1 .1 .1 .1 .0)
 
 abbrev same-type-at : ℕ → In 2 same-type-kinds.ps
 same-type-at t = and 2 same-type-kinds.ps (is 2 same-type-kinds.ps μ-same-type t) same-type.Pre
@@ -33,52 +35,91 @@ abbrev same-type-claims : ℕ → same-type-lts.Claims
 same-type-claims t = (
   tag-reads.Asked,
   tag-reads.Learnt,
+  letters-of-reads.Asked,
+  letters-of-reads.Learnt,
+  same-var-reads.Asked,
+  same-var-reads.Learnt,
   left-of-reads.Asked,
   left-of-reads.Learnt,
-  same-type-below t,
-  same-type.Post,
   right-of-reads.Asked,
   right-of-reads.Learnt,
-  same-name-reads.Asked,
-  same-name-reads.Learnt,
+  same-type-below t,
+  same-type.Post,
   body-of-reads.Asked,
   body-of-reads.Learnt,
+  put2-reads.Asked,
+  put2-reads.Learnt,
 )
 
-same-type-same-type-requires : (t : ℕ) → same-type-lts.Need-same-type-requires (same-type-claims t) (same-type-at t) same-type.Post
-same-type-same-type-requires t c κs =
-    let at-left-of = c .before in let at-match = at-left-of .before in let at-if1 = at-match .before in let at-tag2 = at-if1 .before in
-    let at-tag = at-tag2 .before in let at-start = at-tag .before .before .before in
-    lefts-below (at-start .pre .1) (at-tag .tag .ensures) (at-tag2 .tag2 .ensures) (at-if1 .if1 .left) (at-start .pre .0) (at-match .match .keys1)
-    (at-left-of .left-of .ensures) (c .left-of2 .ensures)
+module _ (t : ℕ) where
+  -- both codes were read and are the same; the parts of two Arrows were read; their left parts were compared; the letters and bodies of two
+  -- Foralls were read
+  abbrev one-code : same-type-lts.Else1 (same-type-claims t) (same-type-at t) same-type.Post → OneCode t
+  one-code c =
+      let at-tag2 = c .before in let at-tag = at-tag2 .before .before in let at-start = at-tag .before .before .before .before in record {
+        q = _;
+        w = _;
+        t = _;
+        n = _;
+        r = _;
+        s = _;
+        k = _;
+        measure = at-start .pre .0;
+        comparing = at-start .pre .1;
+        one = at-tag .tag .ensures;
+        two = rw (c .if1 .left) (at-tag2 .tag2 .ensures);
+      }
 
-same-type-same-type-requires-2 : (t : ℕ) → same-type-lts.Need-same-type-requires-2 (same-type-claims t) (same-type-at t) same-type.Post
-same-type-same-type-requires-2 t c κs =
-    let at-right-of = c .before in let at-match = at-right-of .before .before .before .before .before in let at-if1 = at-match .before in
-    let at-tag2 = at-if1 .before in let at-tag = at-tag2 .before in let at-start = at-tag .before .before .before in
-    rights-below (at-start .pre .1) (at-tag .tag .ensures) (at-tag2 .tag2 .ensures) (at-if1 .if1 .left) (at-start .pre .0) (at-match .match .keys1)
-    (at-right-of .right-of .ensures) (c .right-of2 .ensures)
+  abbrev arrows : same-type-lts.After-right-of2 (same-type-claims t) (same-type-at t) same-type.Post → Arrows t
+  arrows c =
+      let at-right-of = c .before .before in let at-left-of2 = at-right-of .before .before in let at-left-of = at-left-of2 .before .before in
+      let at-match = at-left-of .before .before in record {
+        on = one-code (at-match .before);
+        five = at-match .match .keys3;
+        from = _;
+        to = _;
+        from′ = _;
+        to′ = _;
+        left = at-left-of .left-of .ensures;
+        right = at-right-of .right-of .ensures;
+        left′ = at-left-of2 .left-of2 .ensures;
+        right′ = c .right-of2 .ensures;
+      }
 
-same-type-same-name-requires : (t : ℕ) → same-type-lts.Need-same-name-requires (same-type-claims t) (same-type-at t) same-type.Post
-same-type-same-name-requires t c κs =
-    let at-if1 = c .before in let at-tag2 = at-if1 .before in let at-tag = at-tag2 .before in let at-start = at-tag .before .before .before in
-    both-named (at-start .pre .1) (at-tag .tag .ensures) (at-tag2 .tag2 .ensures) (at-if1 .if1 .left) (omega (arith, c .match .keys2))
-    (λ e. omega (arith, c .match .keys2))
+  abbrev lefts : same-type-lts.After-same-type (same-type-claims t) (same-type-at t) same-type.Post → Lefts t
+  lefts c = record { both = arrows (c .before .before); w₁ = _; same = _; told = c .same-type .ensures }
 
-same-type-same-type-requires-3 : (t : ℕ) → same-type-lts.Need-same-type-requires-3 (same-type-claims t) (same-type-at t) same-type.Post
-same-type-same-type-requires-3 t c κs =
-    let at-body-of = c .before in let at-match = at-body-of .before .before .before in let at-if1 = at-match .before in
-    let at-tag2 = at-if1 .before in let at-tag = at-tag2 .before in let at-start = at-tag .before .before .before in
-    bodies-below (at-start .pre .1) (at-tag .tag .ensures) (at-tag2 .tag2 .ensures) (at-if1 .if1 .left) (at-start .pre .0) (at-match .match .keys2)
-    (at-body-of .body-of .ensures) (c .body-of2 .ensures)
+  abbrev foralls : same-type-lts.After-body-of2 (same-type-claims t) (same-type-at t) same-type.Post → Foralls t
+  foralls c =
+      let at-body-of = c .before .before in let at-letters-of = at-body-of .before .before in let at-match = at-letters-of .before .before in record {
+        on = one-code (at-match .before);
+        six = at-match .match .keys4;
+        p = _;
+        letters = at-letters-of .letters-of3 .ensures;
+        under = _;
+        under′ = _;
+        body = at-body-of .body-of .ensures;
+        body′ = c .body-of2 .ensures;
+      }
+
+  abbrev laid : same-type-lts.After-put2 (same-type-claims t) (same-type-at t) same-type.Post → Laid t
+  laid c = record { both = foralls (c .before .before .before .before); w₁ = _; put = c .put2 .ensures }
 
 same-type-closed : {M : Type 1} (t : ℕ) → same-type-lts.Closed (same-type-claims t) (same-type-at t) same-type.Post M
 same-type-closed t =
-    same-type-lts.spec (same-type-claims t) (same-type-at t) same-type.Post (λ c κs. search needs) (λ c κs. search needs) (λ c. search same-apart)
-    (λ c κs. search one-as) (λ c κs. search two-as) (same-type-same-type-requires t) (λ c κs. search one-as) (λ c κs. search two-as)
-    (same-type-same-type-requires-2 t) (λ c. search same-both) (same-type-same-name-requires t) (λ c κs. search one-as) (λ c κs. search two-as)
-    (same-type-same-type-requires-3 t) (λ c. search same-body) (λ c κs. search both-named) (λ c. search same-no) (λ c. search same-bound-no)
-    (λ c. search same-named) (λ c. search same-base) (λ c. search no-other)
+    same-type-lts.spec (same-type-claims t) (same-type-at t) same-type.Post (λ c κs. search needs) (λ c κs. search needs) (λ c. search needs)
+    (λ c. search same-apart) (λ c κs. vars-named (one-code t (search)) (search)) (λ c κs. omega arith)
+    (λ c κs. etvars-named (one-code t (search)) (search)) (λ c κs. omega arith) (λ c κs. one-as (one-code t (search)) 5 (search))
+    (λ c κs. two-as (one-code t (search)) 5 (search)) (λ c κs. one-as (one-code t (search)) 5 (search))
+    (λ c κs. two-as (one-code t (search)) 5 (search)) (λ c κs. lefts-below (arrows t (search))) (λ c κs. rights-below (lefts t (search)))
+    (λ c. search needs) (λ c. same-both (lefts t (search)) (search) (search)) (λ c κs. foralls-named (one-code t (search)) (search))
+    (λ c κs. one-as (one-code t (search)) 6 (search)) (λ c κs. two-as (one-code t (search)) 6 (search)) (λ c. omega arith) (λ c. omega arith)
+    (λ c. search needs) (λ c. search needs) (λ c κs. (pair-room (foralls t (search)), search needs, search needs))
+    (λ c. let i = foralls t (search) in omega (arith, pair-room i, i .on .comparing .one .cap)) (λ c κs. bodies-below (laid t (search)))
+    (λ c. search needs) (λ c. same-vars (one-code t (search)) (c .before .letters-of .ensures) (search) (search)) (λ c. search needs)
+    (λ c. same-etvars (one-code t (search)) (c .before .letters-of2 .ensures) (search) (search)) (λ c. search needs)
+    (λ c. same-no (lefts t (search)) (search)) (λ c. search needs) (λ c. same-under (laid t (search)) (search)) (λ c. search needs)
+    (λ c. same-base (one-code t (search)) (search) (search) (search) (search))
 
 pub +same-type-spec : {M : Type 1} → statement M
 +same-type-spec = close μ-same-type same-type-closed
