@@ -24,10 +24,10 @@ extern "C" {
    another or gone, so look at your host; of the second: something is added (a code, a mode, a kind, a function), and
    every question that was well-formed gets the reply that it got; of the third: replies, names and layout are as they
    were. */
-#define SPOREFLASK_VERSION_MAJOR 2
+#define SPOREFLASK_VERSION_MAJOR 3
 #define SPOREFLASK_VERSION_MINOR 0
-#define SPOREFLASK_VERSION_PATCH 1
-#define SPOREFLASK_VERSION "2.0.1"
+#define SPOREFLASK_VERSION_PATCH 0
+#define SPOREFLASK_VERSION "3.0.0"
 
 /* ---- Sizes, in words of 4 bytes unless their name says otherwise */
 
@@ -54,8 +54,8 @@ enum {
 #define SPOREFLASK_CHECK_STACK_BYTES(budget)                         \
     ((((size_t)(budget) <= 493    ? (size_t)593024                   \
        : (size_t)(budget) <= 1021 ? 928 * (size_t)(budget) + 135168  \
-       : (size_t)(budget) <= 2042 ? 592 * (size_t)(budget) + 478224  \
-                                  : 432 * (size_t)(budget) + 804944) \
+       : (size_t)(budget) <= 2042 ? 608 * (size_t)(budget) + 461888  \
+                                  : 432 * (size_t)(budget) + 821280) \
       + 65535) / 65536 * 65536)
 
 /* ---- The question
@@ -182,7 +182,8 @@ enum sporeflask_code {
     SPOREFLASK_OCCURS_CHECK = 14,           /* at: the name; the type that has it; none */
     SPOREFLASK_SUBTYPING_ERROR = 15,        /* the left type, which is there; the right one, which is wanted */
                                             /* 16: no question draws it (never-16, docs/THEOREMS.md) */
-    SPOREFLASK_PARAMETER_MISMATCH = 17      /* strict mode: the parameter's type as written; the one wanted */
+    SPOREFLASK_PARAMETER_MISMATCH = 17      /* strict mode: the parameter's type as written; the one wanted. They differ in
+                                               more than the names bound by Forall */
 };
 
 /* The first word of a node of the tree; behind each rule the number of its children. */

@@ -84,6 +84,8 @@ def types():
         yield f"compare-{name}", lambda n: question(CHECK, (), [18, 5] + tall(n) + ONE, (), [5] + tall(n) + [1], mode=1)
         yield f"solved-{name}", lambda n: question(CHECK, [35, 8] + tall(n), ONE, (), [4, 8])
         yield f"run-{name}", lambda n: question(RUN, (), [18, 5] + tall(n) + ONE)
+    letters = lambda n, letter: nest(([6, letter], []), n, [3, letter])  # noqa: E731
+    yield "compare-letters", lambda n: question(CHECK, (), [18, 5] + letters(n, 8) + ONE, (), [5] + letters(n, 9) + [1], mode=1)
     chain = lambda n: [word for i in range(n) for word in (35, i, 4, i + 1)]  # noqa: E731
     yield "apply-solutions", lambda n: question(CHECK, chain(n), ONE, (), [4, 0])
 

@@ -53,6 +53,16 @@ pairs =
     (2 ∷ 1 ∷ 0 ∷ 7 ∷ 18 ∷ 5 ∷ 3 ∷ 1 ∷ 22 ∷ 1 ∷ 0 ∷ 0 ∷ 4 ∷ 5 ∷ 3 ∷ 2 ∷ 1 ∷ [], begins 17 0 (2 ∷ 3 ∷ 1 ∷ 2 ∷ 3 ∷ 2 ∷ []))
     (2 ∷ 1 ∷ 0 ∷ 7 ∷ 18 ∷ 5 ∷ 3 ∷ 2 ∷ 22 ∷ 4294967295 ∷ 4294967295 ∷ 0 ∷ 4 ∷ 5 ∷ 3 ∷ 1 ∷ 1 ∷ [], begins 17 0 (2 ∷ 3 ∷ 2 ∷ 2 ∷ 3 ∷ 1 ∷ []))
     ∷
+    -- order 2, kind 2, strict: fun x:(all A. A). 1 against (all B. B) to Int; A and B exchanged, another literal
+    alike
+    (2 ∷ 1 ∷ 0 ∷ 9 ∷ 18 ∷ 5 ∷ 6 ∷ 1 ∷ 3 ∷ 1 ∷ 22 ∷ 1 ∷ 0 ∷ 0 ∷ 6 ∷ 5 ∷ 6 ∷ 2 ∷ 3 ∷ 2 ∷ 1 ∷ [], begins 0 0 (0 ∷ 0 ∷ 35 ∷ 19 ∷ 1 ∷ 4 ∷ 0 ∷ 0 ∷ 6 ∷ 5 ∷ 6 ∷ 2 ∷ 3 ∷ 2 ∷ 1 ∷ []))
+    (2 ∷ 1 ∷ 0 ∷ 9 ∷ 18 ∷ 5 ∷ 6 ∷ 2 ∷ 3 ∷ 2 ∷ 22 ∷ 7 ∷ 7 ∷ 0 ∷ 6 ∷ 5 ∷ 6 ∷ 1 ∷ 3 ∷ 1 ∷ 1 ∷ [], begins 0 0 (0 ∷ 0 ∷ 35 ∷ 19 ∷ 1 ∷ 4 ∷ 0 ∷ 0 ∷ 6 ∷ 5 ∷ 6 ∷ 1 ∷ 3 ∷ 1 ∷ 1 ∷ []))
+    ∷
+    -- the same of all A. B, where B is free, against all B. B; A gets the number that B had, and B another
+    alike
+    (2 ∷ 1 ∷ 0 ∷ 9 ∷ 18 ∷ 5 ∷ 6 ∷ 1 ∷ 3 ∷ 2 ∷ 22 ∷ 1 ∷ 0 ∷ 0 ∷ 6 ∷ 5 ∷ 6 ∷ 2 ∷ 3 ∷ 2 ∷ 1 ∷ [], begins 17 0 (4 ∷ 6 ∷ 1 ∷ 3 ∷ 2 ∷ 4 ∷ 6 ∷ 2 ∷ 3 ∷ 2 ∷ []))
+    (2 ∷ 1 ∷ 0 ∷ 9 ∷ 18 ∷ 5 ∷ 6 ∷ 2 ∷ 3 ∷ 7 ∷ 22 ∷ 1 ∷ 0 ∷ 0 ∷ 6 ∷ 5 ∷ 6 ∷ 7 ∷ 3 ∷ 7 ∷ 1 ∷ [], begins 17 0 (4 ∷ 6 ∷ 2 ∷ 3 ∷ 7 ∷ 4 ∷ 6 ∷ 7 ∷ 3 ∷ 7 ∷ []))
+    ∷
     -- kind 3: x, where x : A, for A to B; x gets the number that A had, and A the one that x had
     alike
     (3 ∷ 0 ∷ 4 ∷ 32 ∷ 5 ∷ 3 ∷ 1 ∷ 2 ∷ 16 ∷ 5 ∷ 5 ∷ 5 ∷ 3 ∷ 1 ∷ 3 ∷ 2 ∷ 0 ∷ [], begins 0 0 (2 ∷ 3 ∷ 2 ∷ 4 ∷ 32 ∷ 5 ∷ 3 ∷ 1 ∷ []))
@@ -107,6 +117,11 @@ pairs =
     apart
     (4 ∷ 0 ∷ 0 ∷ 0 ∷ 2 ∷ 3 ∷ 1 ∷ 2 ∷ 3 ∷ 2 ∷ [], begins 15 0 (2 ∷ 3 ∷ 1 ∷ 2 ∷ 3 ∷ 2 ∷ []))
     (4 ∷ 0 ∷ 0 ∷ 0 ∷ 2 ∷ 3 ∷ 1 ∷ 2 ∷ 3 ∷ 1 ∷ [], begins 0 0 (0 ∷ 0 ∷ 12 ∷ 23 ∷ 0 ∷ 0 ∷ []))
+    ∷
+    -- a bound name renamed alone, though both are accepted: all A. A against all B. B, and against all A. A; a pairing is of names, bound ones too
+    apart
+    (2 ∷ 1 ∷ 0 ∷ 9 ∷ 18 ∷ 5 ∷ 6 ∷ 1 ∷ 3 ∷ 1 ∷ 22 ∷ 1 ∷ 0 ∷ 0 ∷ 6 ∷ 5 ∷ 6 ∷ 2 ∷ 3 ∷ 2 ∷ 1 ∷ [], begins 0 0 (0 ∷ 0 ∷ 35 ∷ 19 ∷ 1 ∷ 4 ∷ 0 ∷ 0 ∷ 6 ∷ 5 ∷ 6 ∷ 2 ∷ 3 ∷ 2 ∷ 1 ∷ []))
+    (2 ∷ 1 ∷ 0 ∷ 9 ∷ 18 ∷ 5 ∷ 6 ∷ 1 ∷ 3 ∷ 1 ∷ 22 ∷ 1 ∷ 0 ∷ 0 ∷ 6 ∷ 5 ∷ 6 ∷ 1 ∷ 3 ∷ 1 ∷ 1 ∷ [], begins 0 0 (0 ∷ 0 ∷ 35 ∷ 19 ∷ 1 ∷ 4 ∷ 0 ∷ 0 ∷ 6 ∷ 5 ∷ 6 ∷ 1 ∷ 3 ∷ 1 ∷ 1 ∷ []))
     ∷
     -- Var for ETVar of one name: ^A against B, and ^A against ^B
     apart

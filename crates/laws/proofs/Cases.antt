@@ -97,21 +97,21 @@ u n = etvar (record { number = n })
 unfoldable pub all : ℕ → Ty → Ty
 all n A = forall (record { number = n }) A
 
--- of A to A: all A, and all B
-unfoldable pub own : ℕ → Ty
-own n = all n (arrow (v n) (v n))
+-- all A. A to A, for the letter of a number
+unfoldable pub identity : ℕ → Ty
+identity n = all n (arrow (v n) (v n))
 
 unfoldable pub letterCases : List Case
 letterCases =
     -- the order's own example, at its 8 units, with one less, and in plain mode, where nothing is applied
-    (8, lambda 1 [] (own 1) (own 2), wholly 0 0 47 8 (0 ∷ 0 ∷ 44 ∷ 19 ∷ 1 ∷ 4 ∷ 0 ∷ 0 ∷ 9 ∷ 5 ∷ 6 ∷ 2 ∷ 5 ∷ 3 ∷ 2 ∷ 3 ∷ 2 ∷ 1 ∷ 0 ∷ 0 ∷ 17 ∷ 0 ∷ 13 ∷ 9 ∷ 32 ∷ 5 ∷ 6 ∷ 2 ∷ 5 ∷ 3 ∷ 2 ∷ 3 ∷ 2 ∷ 0 ∷ 1 ∷ 1 ∷ 9 ∷ 32 ∷ 5 ∷ 6 ∷ 2 ∷ 5 ∷ 3 ∷ 2 ∷ 3 ∷ 2 ∷ 0 ∷ []))
-    ∷ (7, lambda 1 [] (own 1) (own 2), wholly 6 0 0 7 [])
-    ∷ (384, lambda 0 [] (own 1) (own 2), wholly 0 0 47 4 (0 ∷ 0 ∷ 44 ∷ 19 ∷ 1 ∷ 4 ∷ 0 ∷ 0 ∷ 9 ∷ 5 ∷ 6 ∷ 2 ∷ 5 ∷ 3 ∷ 2 ∷ 3 ∷ 2 ∷ 1 ∷ 0 ∷ 0 ∷ 17 ∷ 0 ∷ 13 ∷ 9 ∷ 32 ∷ 5 ∷ 6 ∷ 2 ∷ 5 ∷ 3 ∷ 2 ∷ 3 ∷ 2 ∷ 0 ∷ 1 ∷ 1 ∷ 9 ∷ 32 ∷ 5 ∷ 6 ∷ 2 ∷ 5 ∷ 3 ∷ 2 ∷ 3 ∷ 2 ∷ 0 ∷ []))
+    (8, lambda 1 [] (identity 1) (identity 2), wholly 0 0 47 8 (0 ∷ 0 ∷ 44 ∷ 19 ∷ 1 ∷ 4 ∷ 0 ∷ 0 ∷ 9 ∷ 5 ∷ 6 ∷ 2 ∷ 5 ∷ 3 ∷ 2 ∷ 3 ∷ 2 ∷ 1 ∷ 0 ∷ 0 ∷ 17 ∷ 0 ∷ 13 ∷ 9 ∷ 32 ∷ 5 ∷ 6 ∷ 2 ∷ 5 ∷ 3 ∷ 2 ∷ 3 ∷ 2 ∷ 0 ∷ 1 ∷ 1 ∷ 9 ∷ 32 ∷ 5 ∷ 6 ∷ 2 ∷ 5 ∷ 3 ∷ 2 ∷ 3 ∷ 2 ∷ 0 ∷ []))
+    ∷ (7, lambda 1 [] (identity 1) (identity 2), wholly 6 0 0 7 [])
+    ∷ (384, lambda 0 [] (identity 1) (identity 2), wholly 0 0 47 4 (0 ∷ 0 ∷ 44 ∷ 19 ∷ 1 ∷ 4 ∷ 0 ∷ 0 ∷ 9 ∷ 5 ∷ 6 ∷ 2 ∷ 5 ∷ 3 ∷ 2 ∷ 3 ∷ 2 ∷ 1 ∷ 0 ∷ 0 ∷ 17 ∷ 0 ∷ 13 ∷ 9 ∷ 32 ∷ 5 ∷ 6 ∷ 2 ∷ 5 ∷ 3 ∷ 2 ∷ 3 ∷ 2 ∷ 0 ∷ 1 ∷ 1 ∷ 9 ∷ 32 ∷ 5 ∷ 6 ∷ 2 ∷ 5 ∷ 3 ∷ 2 ∷ 3 ∷ 2 ∷ 0 ∷ []))
     ∷  -- "a bound name is not a free one of the same number", on either side
     unequal [] (all 1 (v 1)) (all 2 (v 1)) (all 2 (v 1))
     ∷ unequal [] (all 2 (v 1)) (all 1 (v 1)) (all 1 (v 1))
-    ∷ unequal [] (all 1 (arrow (v 1) (v 2))) (own 2) (own 2)
-    ∷ unequal [] (own 2) (all 1 (arrow (v 1) (v 2))) (all 1 (arrow (v 1) (v 2)))
+    ∷ unequal [] (all 1 (arrow (v 1) (v 2))) (identity 2) (identity 2)
+    ∷ unequal [] (identity 2) (all 1 (arrow (v 1) (v 2))) (all 1 (arrow (v 1) (v 2)))
     ∷  -- a free one keeps its number: beside a bound one, and where a Forall has ended
     unequal [] (v 1) (v 2) (v 2)
     ∷ equal [] (all 1 (arrow (v 1) (v 3))) (all 2 (arrow (v 2) (v 3)))
@@ -135,17 +135,17 @@ letterCases =
     equal [] (all 1 (all 2 (arrow (v 1) (v 2)))) (all 2 (all 1 (arrow (v 2) (v 1))))
     ∷ unequal [] (all 1 (all 2 (arrow (v 1) (v 2)))) (all 2 (all 1 (arrow (v 1) (v 2)))) (all 2 (all 1 (arrow (v 1) (v 2))))
     ∷  -- equal shapes with one deep difference, or none
-    equal [] (all 1 (arrow (own 2) (arrow int (arrow bool (v 1))))) (all 3 (arrow (own 3) (arrow int (arrow bool (v 3)))))
-    ∷ unequal [] (all 1 (arrow (own 2) (arrow int (arrow bool (v 1))))) (all 3 (arrow (own 3) (arrow int (arrow bool (v 1)))))
-    (all 3 (arrow (own 3) (arrow int (arrow bool (v 1)))))
+    equal [] (all 1 (arrow (identity 2) (arrow int (arrow bool (v 1))))) (all 3 (arrow (identity 3) (arrow int (arrow bool (v 3)))))
+    ∷ unequal [] (all 1 (arrow (identity 2) (arrow int (arrow bool (v 1))))) (all 3 (arrow (identity 3) (arrow int (arrow bool (v 1)))))
+    (all 3 (arrow (identity 3) (arrow int (arrow bool (v 1)))))
     ∷  -- a solved unknown under a Forall: compared is what application leaves, which puts ^C's B under the Forall of its letter
     equal (35 ∷ 3 ∷ tyWords (v 2)) (all 1 (v 1)) (all 2 (u 3))
     ∷ unequal (35 ∷ 3 ∷ tyWords (v 4)) (all 1 (v 1)) (all 2 (u 3)) (all 2 (v 4))
-    ∷ equal (35 ∷ 3 ∷ tyWords (own 4)) (all 1 (arrow (own 1) (v 1))) (all 2 (arrow (u 3) (v 2)))
+    ∷ equal (35 ∷ 3 ∷ tyWords (identity 4)) (all 1 (arrow (identity 1) (v 1))) (all 2 (arrow (u 3) (v 2)))
     ∷ []
 
 pub other-letters : map (λ c. seen (asked c) (c .2)) letterCases ≡ map (λ c. c .2) letterCases
-unfolding letterCases lambda equal unequal v u all own asked seen reply-computes
+unfolding letterCases lambda equal unequal v u all identity asked seen reply-computes
 other-letters = refl
 
 -- Document 01's edges 999,999 and 1,000,000 (the third, a solution that leads back to itself, is in Endless); one word of room less; 1, 2, 3

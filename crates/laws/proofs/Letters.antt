@@ -10,11 +10,12 @@ use mathlib.Core.List.{[], _∷_, map}
 use mathlib.Core.Option.{Option, none, some}
 use lib.Dec.{T, eqb→eq, eqb-refl}
 use mir.Facts.{no-eqb}
-use Rattle.definition.specs.Syntax.{pick, TyVar, Ty, int, bool, var, etvar, arrow, forall}
-use Rattle.definition.specs.Types.{sameName, isMono}
-use Rattle.definition.specs.Rules.{tyCode, asVar, asETVar, asArrow, asForall, _orElse_, on, Letters, sameVar, sameTy}
+use Rattle.definition.specs.Syntax.{pick, TyVar, Ty, int, bool, var, etvar, arrow, forall, Ctx, parameterMismatch}
+use Rattle.definition.specs.Run.{done, fail, give, refuse}
+use Rattle.definition.specs.Types.{sameName, isMono, apply}
+use Rattle.definition.specs.Rules.{tyCode, asVar, asETVar, asArrow, asForall, _orElse_, on, Letters, sameVar, sameTy, parameter}
 use Rattle.laws.specs.Letters.{spelt, free, renamed, Relettered, relettered, unchanged, back, further, inArrow, inForall}
-use Rattle.laws.proofs.Steps.{is-true, is-false}
+use Rattle.laws.proofs.Steps.{is-true, is-false, bind-done}
 
 -- ## Tests
 
@@ -51,15 +52,15 @@ name-sym a b = by (sameName a b) (sameName b a) refl refl
 
 -- ## The test as a relation
 
-data Same : Letters → Ty → Ty → Type 0 where
-  ints : {ls : Letters} → Same ls int int
-  bools : {ls : Letters} → Same ls bool bool
-  vars : {ls : Letters} {a b : TyVar} → sameVar ls a b ≡ true → Same ls (var a) (var b)
-  etvars : {ls : Letters} {a : TyVar} → Same ls (etvar a) (etvar a)
-  arrows : {ls : Letters} {A A′ B B′ : Ty} → Same ls A B → Same ls A′ B′ → Same ls (arrow A A′) (arrow B B′)
-  foralls : {ls : Letters} {a b : TyVar} {A B : Ty} → Same ((a, b) ∷ ls) A B → Same ls (forall a A) (forall b B)
+data SameAs : Letters → Ty → Ty → Type 0 where
+  ints : {ls : Letters} → SameAs ls int int
+  bools : {ls : Letters} → SameAs ls bool bool
+  vars : {ls : Letters} {a b : TyVar} → sameVar ls a b ≡ true → SameAs ls (var a) (var b)
+  etvars : {ls : Letters} {a : TyVar} → SameAs ls (etvar a) (etvar a)
+  arrows : {ls : Letters} {A A′ B B′ : Ty} → SameAs ls A B → SameAs ls A′ B′ → SameAs ls (arrow A A′) (arrow B B′)
+  foralls : {ls : Letters} {a b : TyVar} {A B : Ty} → SameAs ((a, b) ∷ ls) A B → SameAs ls (forall a A) (forall b B)
 
-passed : {ls : Letters} {A B : Ty} → Same ls A B → sameTy ls A B ≡ true
+passed : {ls : Letters} {A B : Ty} → SameAs ls A B → sameTy ls A B ≡ true
 unfolding sameTy on _orElse_ tyCode asVar asETVar asArrow asForall
 passed ints = refl
 passed bools = refl
@@ -68,7 +69,7 @@ passed (etvars {a = a}) = own-name a
 passed (arrows s s′) = ap₂ _&&_ (passed s) (passed s′)
 passed (foralls s) = passed s
 
-related : (ls : Letters) (A B : Ty) → sameTy ls A B ≡ true → Same ls A B
+related : (ls : Letters) (A B : Ty) → sameTy ls A B ≡ true → SameAs ls A B
 unfolding sameTy on _orElse_ tyCode asVar asETVar asArrow asForall
 related ls int int t = ints
 related ls int bool t = no t
@@ -108,7 +109,7 @@ related ls (forall a A) (arrow B B′) t = no t
 related ls (forall a A) (forall b B) t = foralls (related ((a, b) ∷ ls) A B t)
 
 -- "Var is not ETVar": types of different codes are not the same
-same-code : {ls : Letters} {A B : Ty} → Same ls A B → tyCode A ≡ tyCode B
+same-code : {ls : Letters} {A B : Ty} → SameAs ls A B → tyCode A ≡ tyCode B
 unfolding tyCode
 same-code ints = refl
 same-code bools = refl
@@ -117,8 +118,8 @@ same-code etvars = refl
 same-code (arrows s s′) = refl
 same-code (foralls s) = refl
 
-pub apart : (ls : Letters) (A B : Ty) → tyCode A ≢ tyCode B → sameTy ls A B ≡ false
-apart ls A B h = by (sameTy ls A B) refl
+pub other-forms : (ls : Letters) (A B : Ty) → tyCode A ≢ tyCode B → sameTy ls A B ≡ false
+other-forms ls A B h = by (sameTy ls A B) refl
   where
     by : (p : Bool) → sameTy ls A B ≡ p → p ≡ false
     by true e = absurd (h (same-code (related ls A B e)))
@@ -150,7 +151,7 @@ chain-step false false true e f h = f
 chain-step false false false e f h = h e f
 
 -- where each name that stands in a type means itself
-own : (ls : Letters) (A : Ty) → ((c : TyVar) → spelt c A ≡ true → sameVar ls c c ≡ true) → Same ls A A
+own : (ls : Letters) (A : Ty) → ((c : TyVar) → spelt c A ≡ true → sameVar ls c c ≡ true) → SameAs ls A A
 unfolding spelt sameVar
 own ls int h = ints
 own ls bool h = bools
@@ -171,7 +172,7 @@ unfolding sameVar swapped
 swap-var [] a b e = name-sym b a ∙ e
 swap-var ((c, d) ∷ ls) a b e = swap-step (sameName c a) (sameName d b) e (swap-var ls a b)
 
-swap : {ls : Letters} {A B : Ty} → Same ls A B → Same (swapped ls) B A
+swap : {ls : Letters} {A B : Ty} → SameAs ls A B → SameAs (swapped ls) B A
 unfolding swapped
 swap ints = ints
 swap bools = bools
@@ -194,7 +195,7 @@ unfolding sameVar
 chain-var start a b c e f = rw (one-name a b e) f
 chain-var (link {a = x} {b = y} {c = z} k) a b c e f = chain-step (sameName x a) (sameName y b) (sameName z c) e f (chain-var k a b c)
 
-chain : {ls ms ns : Letters} {A B C : Ty} → Chain ls ms ns → Same ls A B → Same ms B C → Same ns A C
+chain : {ls ms ns : Letters} {A B C : Ty} → Chain ls ms ns → SameAs ls A B → SameAs ms B C → SameAs ns A C
 chain k ints ints = ints
 chain k bools bools = bools
 chain k (vars e) (vars f) = vars (chain-var k _ _ _ e f)
@@ -207,7 +208,7 @@ transitive A B C e f = passed (chain start (related [] A B e) (related [] B C f)
 
 -- ## Name for name on types without Forall
 
-without : {A B : Ty} → isMono A ≡ true → Same [] A B → A ≡ B
+without : {A B : Ty} → isMono A ≡ true → SameAs [] A B → A ≡ B
 unfolding isMono
 without m ints = refl
 without m bools = refl
@@ -223,13 +224,13 @@ name-for-name A B m = (λ e. without m (related [] A B e), λ e. rw e (reflexive
 
 -- where a and b mean the same, and each other name that stands in a type means itself
 rename : (a b : TyVar) (ls : Letters) (A : Ty) → sameVar ls a b ≡ true
-    → ((c : TyVar) → spelt c A ≡ true → sameName c a ≡ false → sameVar ls c c ≡ true) → spelt b A ≡ false → Same ls A (renamed a b A)
+    → ((c : TyVar) → spelt c A ≡ true → sameName c a ≡ false → sameVar ls c c ≡ true) → spelt b A ≡ false → SameAs ls A (renamed a b A)
 unfolding sameVar spelt renamed pick
 rename a b ls int k h s = ints
 rename a b ls bool k h s = bools
 rename a b ls (var c) k h s = by (sameName c a) refl
   where
-    by : (p : Bool) → sameName c a ≡ p → Same ls (var c) (pick p (var b) (var c))
+    by : (p : Bool) → sameName c a ≡ p → SameAs ls (var c) (pick p (var b) (var c))
     by true e = rw (one-name c a e) (vars k)
     by false e = vars (h c (own-name c) e)
 rename a b ls (etvar c) k h s = etvars
@@ -245,7 +246,7 @@ rename a b ls (forall c A) k h s =
     inside : (d : TyVar) → spelt d A ≡ true → sameName d a ≡ false → sameName c d ≡ false → sameVar ls d d ≡ true
     inside d e f g = h d (rw (g, e)) f
 
-    by : (q : Bool) → sameName c a ≡ q → (sameName c a ≡ false → Same ((c, c) ∷ ls) A (renamed a b A)) → Same ((c, c) ∷ ls) A (pick q A (renamed a b A))
+    by : (q : Bool) → sameName c a ≡ q → (sameName c a ≡ false → SameAs ((c, c) ∷ ls) A (renamed a b A)) → SameAs ((c, c) ∷ ls) A (pick q A (renamed a b A))
     by true e f = own ((c, c) ∷ ls) A (λ d i. own-step (sameName c d) (λ g. inside d i (name-sym d a ∙ ap (λ x. sameName x d) (sym (one-name c a e)) ∙ g) g))
     by false e f = f e
 
@@ -363,7 +364,7 @@ opened a b A B e =
     sym (under c (renamed a c A) (renamed b c B))
     ∙ transitive _ (forall a A) _ (symmetric (forall a A) _ p) (transitive (forall a A) (forall b B) _ e q)
 
-reletters : (n : ℕ) {A B : Ty} → depth A < n → Same [] A B → Relettered A B
+reletters : (n : ℕ) {A B : Ty} → depth A < n → SameAs [] A B → Relettered A B
 unfolding depth
 reletters zero h s = absurd (not-suc-le-zero h)
 reletters (suc n) h ints = unchanged int
@@ -379,6 +380,25 @@ reletters (suc n) h (foralls {a = a} {b = b} {A = A} {B = B} s) =
 
 pub only-bound-names : (A B : Ty) → (sameTy [] A B ≡ true) ↔ Relettered A B
 only-bound-names A B = (λ e. reletters (suc (depth A)) (le-refl (suc (depth A))) (related [] A B e), relettered-same)
+
+-- ## What strict ChkLam does
+
+-- with P′ from application: it goes on for nothing where the written A differs from P′ in no more, and else refuses
+pub strict-parameter : (Γ : Ctx) (A P : Ty) {P′ : Ty} (l n : ℕ) {l′ n′ : ℕ} → apply Γ P l n ≡ done P′ l′ n′
+    → (Relettered A P′ → parameter true Γ A P l n ≡ done tt l′ n′) × ((Relettered A P′ → ⊥) → parameter true Γ A P l n ≡ fail (parameterMismatch A P′) l′)
+unfolding parameter give refuse pick
+strict-parameter Γ A P {P′} l n {l′} {n′} e = (λ r. step ∙ rw (only-bound-names A P′ .1 r) refl, λ h. step ∙ by (sameTy [] A P′) refl h)
+  where
+    step : parameter true Γ A P l n ≡ pick (sameTy [] A P′) (give (tt {0})) (refuse (parameterMismatch A P′)) l′ n′
+    step = bind-done (apply Γ P) _ l n e
+
+    by : (p : Bool) → sameTy [] A P′ ≡ p → (Relettered A P′ → ⊥) → pick p (give (tt {0})) (refuse (parameterMismatch A P′)) l′ n′ ≡ fail (parameterMismatch A P′) l′
+    by true f h = absurd (h (only-bound-names A P′ .0 f))
+    by false f h = refl
+
+pub plain-parameter : (Γ : Ctx) (A P : Ty) (l n : ℕ) → parameter false Γ A P l n ≡ done tt l n
+unfolding parameter give
+plain-parameter Γ A P l n = refl
 
 -- ## "A bound name is not a free one of the same number"
 

@@ -1,8 +1,9 @@
--- The theorems beside those of Main: of the library's entry and the definition, of the count, of order 5, of a report's parts, of "alike". Nobody
+-- The theorems beside those of Main: of the library's entry and the definition, of the count, of orders 2 and 5, of a report's parts, of "alike". Nobody
 -- who believes Main needs them; docs/THEOREMS.md says of each what it does not say. Each restates the theorem behind its `=`. Their words stand
--- where Main's do, and besides in crates/laws/specs (Rings, Codes, OtherBudgets), crates/sections/specs and crates/judging/specs;
+-- where Main's do, and besides in crates/laws/specs (Letters, Rings, Codes, OtherBudgets), crates/sections/specs and crates/judging/specs;
 -- computed tables in crates/laws/proofs/Cases.antt and crates/alike/proofs/Examples.antt.
 use mathlib.Core.Path.{_≡_}
+use mathlib.Core.Bool.{true, false, _||_}
 use mathlib.Core.List.{List, [], _∷_}
 use mathlib.Core.Logic.{_↔_, _≢_}
 use mathlib.Core.Option.{Option, none, some}
@@ -13,11 +14,12 @@ use Rattle.definition.specs.Syntax as syntax
 use Rattle.definition.specs.Syntax.{pick, TyVar, Ty, Ctx, Judgement, treeWords}
 use Rattle.definition.specs.Question.{Question, got, fault, readQuestion}
 use Rattle.definition.specs.Run.{Out, done, stop, M}
-use Rattle.definition.specs.Types.{apply}
-use Rattle.definition.specs.Rules.{Result, Here, judge}
+use Rattle.definition.specs.Types.{sameName, isMono, apply}
+use Rattle.definition.specs.Rules.{tyCode, Letters, sameTy, Result, Here, judge}
 use Rattle.definition.specs.Reply.{Reply, refusal, most, resultWords, answer, outReply, reply}
 use Rattle.definition.specs.Memory.{Call, call}
 use Rattle.definition.specs.Host.{byteReply}
+use Rattle.laws.specs.Letters.{spelt, free, renamed}
 use Rattle.laws.specs.Codes.{Late, replyCodes, isOneOf, Listed, EndsListed}
 use Rattle.laws.specs.OtherBudgets.{Allowed, Settled, atBudget, replyWith, WithEnough}
 use Rattle.laws.specs.Count.{charged, Count, countTo, Passes, IsRun}
@@ -130,6 +132,32 @@ module _ (budget work room : ℕ) (allowed : Allowed budget work) where
 
   pub ring-made : reply budget work room (5 ∷ 0 ∷ 2 ∷ 34 ∷ 1 ∷ 0 ∷ 2 ∷ 4 ∷ 1 ∷ 5 ∷ 5 ∷ 4 ∷ 1 ∷ 4 ∷ 1 ∷ []) ≡ refusal 6 0 budget
   ring-made = laws-proofs.Endless.ring-made budget work room allowed
+
+-- # Order 2
+
+-- what strict parameters are compared by is an equality; on types without Forall, name for name
+pub reflexive : (A : Ty) → sameTy [] A A ≡ true
+reflexive = laws-proofs.Letters.reflexive
+
+pub symmetric : (A B : Ty) → sameTy [] A B ≡ true → sameTy [] B A ≡ true
+symmetric = laws-proofs.Letters.symmetric
+
+pub transitive : (A B C : Ty) → sameTy [] A B ≡ true → sameTy [] B C ≡ true → sameTy [] A C ≡ true
+transitive = laws-proofs.Letters.transitive
+
+pub name-for-name : (A B : Ty) → isMono A ≡ true → (sameTy [] A B ≡ true) ↔ (A ≡ B)
+name-for-name = laws-proofs.Letters.name-for-name
+
+-- a bound name may be renamed to one that stands nowhere under its Forall; which of two names is bound cannot be exchanged, where either is free
+-- under the Forall; types of two forms are not equal, Var and ETVar among them
+pub renaming : (a b : TyVar) (A : Ty) → spelt b A ≡ false → sameTy [] (syntax.forall a A) (syntax.forall b (renamed a b A)) ≡ true
+renaming = laws-proofs.Letters.renaming
+
+pub exchanging : (a b : TyVar) (A : Ty) → sameName a b ≡ false → (free a A || free b A) ≡ true → sameTy [] (syntax.forall a A) (syntax.forall b A) ≡ false
+exchanging = laws-proofs.Letters.exchanging
+
+pub other-forms : (ls : Letters) (A B : Ty) → tyCode A ≢ tyCode B → sameTy ls A B ≡ false
+other-forms = laws-proofs.Letters.other-forms
 
 -- # Order 5
 

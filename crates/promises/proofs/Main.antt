@@ -1,4 +1,4 @@
--- The three demands, and what order 5 asks to be shown, as theorems: what is read after the definition (crates/definition/specs). Each restates
+-- The three demands, and what orders 2 and 5 ask to be shown, as theorems: what is read after the definition (crates/definition/specs). Each restates
 -- the theorem behind its `=`. Further.antt has the other theorems of docs/THEOREMS.md, which says of each what it does not say. The words of the
 -- statements:
 --   Answered, Checked          what sporeflask_answer and sporeflask_check promise: crates/host/specs/Host.antt
@@ -12,26 +12,30 @@
 --   Allowed                    a budget from 1 to 8,192, and work that is long enough for it: crates/laws/specs/OtherBudgets.antt
 --   Settled                    a code that is none of 1, 2 and 6: the same file
 --   AlikeQuestions             well-formed questions that are alike by a pairing of their names: crates/alike/specs/Alike.antt
+--   Relettered                 two types that differ only in the names bound by Forall: crates/laws/specs/Letters.antt
 --   Pairing, itself            a pairing of variables' and of types' names; the one of every name with itself: the same file
 --   Change, pairing, change    new names and literals; how they pair the names; words with them: crates/alike/proofs/Changes.antt
 -- b is a question's bytes, q its words, Q what they are read as; w and s are the slices before a call, w′ and s′ after it, ns the four numbers,
 -- r what is returned; of two calls these are w₁, w₂ and so on, and v the second one's work. `getD ns 3 0` is the fourth of ns.
 use mathlib.Core.Path.{_≡_}
-use mathlib.Core.List.{List, map}
+use mathlib.Core.Bool.{true, false}
+use mathlib.Core.List.{List, [], map}
 use mathlib.Core.Logic.{_↔_, _≢_}
 use mathlib.Core.Option.{Option, some}
 use Prim.Native.Nat.{ℕ, _+_, _-_, _/_, _%_, _≤_, _<_, min}
 use lib.ListN.{length, getD}
-use Rattle.definition.specs.Syntax.{Ty, Ctx}
+use Rattle.definition.specs.Syntax.{Ty, Ctx, parameterMismatch}
 use Rattle.definition.specs.Question.{Question}
-use Rattle.definition.specs.Run.{done, M}
+use Rattle.definition.specs.Run.{done, fail, M}
 use Rattle.definition.specs.Types.{apply}
+use Rattle.definition.specs.Rules.{sameTy, parameter}
 use Rattle.definition.specs.Reply.{Reply, answer, reply}
 use Rattle.definition.specs.Memory.{reportAfter, workAfter, call}
 use Rattle.definition.specs.Host.{wordAt, wordsOf, byteReply, numbers, hostCall}
 use Rattle.laws.specs.OtherBudgets.{Allowed, Settled}
 use Rattle.laws.specs.Count.{Count, countTo, Passes, IsRun}
-use Rattle.laws.proofs.Cases.{seen, asked, cases}
+use Rattle.laws.specs.Letters.{Relettered}
+use Rattle.laws.proofs.Cases.{seen, asked, cases, letterCases}
 use Rattle.laws.proofs.LaterPasses.{calls}
 use Rattle.laws.proofs as laws-proofs
 use Rattle.alike.specs.Alike.{Pairing, itself, AlikeQuestions, WellFormed}
@@ -136,6 +140,26 @@ alike-itself = alike-proofs.WellFormed.alike-itself
 
 pub changed : (c : Change) {q : List ℕ} (h : WellFormed q) → AlikeQuestions (pairing c) q (change c (alike-itself h .labels) q)
 changed = alike-proofs.Changes.changed
+
+-- # Order 2: "Strict parameters are equal when they differ only in the names bound by Forall. A bound name is not a free one of the same number,
+-- and Var is not ETVar. Plain mode is untouched; demand 3 is proved again for strict."
+
+-- Demand 3's theorems above are of both modes. Exactly where bound names alone differ does `sameTy []` hold, which compares strict parameters
+-- (crates/definition/specs/Rules.antt); what ChkLam then comes to, where the context applied to the expected P is P′: it goes on with what
+-- application left of the budget, or refuses with both types. Plain mode does nothing there.
+pub only-bound-names : (A B : Ty) → (sameTy [] A B ≡ true) ↔ Relettered A B
+only-bound-names = laws-proofs.Letters.only-bound-names
+
+pub strict-parameter : (Γ : Ctx) (A P : Ty) {P′ : Ty} (l n : ℕ) {l′ n′ : ℕ} → apply Γ P l n ≡ done P′ l′ n′
+    → (Relettered A P′ → parameter true Γ A P l n ≡ done tt l′ n′) × ((Relettered A P′ → ⊥) → parameter true Γ A P l n ≡ fail (parameterMismatch A P′) l′)
+strict-parameter = laws-proofs.Letters.strict-parameter
+
+pub plain-parameter : (Γ : Ctx) (A P : Ty) (l n : ℕ) → parameter false Γ A P l n ≡ done tt l n
+plain-parameter = laws-proofs.Letters.plain-parameter
+
+-- the order's cases as one table: crates/laws/proofs/Cases.antt
+pub other-letters : map (λ c. seen (asked c) (c .2)) letterCases ≡ map (λ c. c .2) letterCases
+other-letters = laws-proofs.Cases.other-letters
 
 -- # Order 5: "The number that nobody gets. .. Show that no question in either mode draws 16"
 

@@ -81,7 +81,7 @@ went : {w w′ : List ℕ} {s s′ : State} {n : ℕ} → Passed w w′ s s′ n
 went p = record { keep = p .keep; up = p .up; low = p .low; fresh = p .fresh; paid = omega (arith, p .paid); built = p .built }
 
 -- what is known once the context is applied and both types are compared: the comparison wrote past the top alone
-record Told (q w w₂ : List ℕ) (s s₁ : State) (a r : ℕ) (b : Bool) (Γ : Ctx) (A P : Ty) : Type 0 where
+record OnceCompared (q w w₂ : List ℕ) (s s₁ : State) (a r : ℕ) (b : Bool) (Γ : Ctx) (A P : Ty) : Type 0 where
   applied : Ty
   is : apply Γ P (s .left) (s .fresh) ≡ done applied (s₁ .left) (s .fresh)
   passed : Passed w w₂ s s₁ 1
@@ -89,10 +89,10 @@ record Told (q w w₂ : List ℕ) (s s₁ : State) (a r : ℕ) (b : Bool) (Γ : 
   right : Den q w₂ (s₁ .top) r applied
   same : b ≡ sameTy [] A applied
 
-told : {q w w₁ w₂ : List ℕ} {s s₁ : State} {a r k : ℕ} {b : Bool} {A : Ty} (Γ : Ctx) (P : Ty) → Room q w s k → Den q w (s .top) a A
-    → sub.Reached q w w₁ s s₁ r (apply Γ P (s .left) (s .fresh)) → Same q w₁ w₂ (s₁ .top) 0 a r b → Told q w w₂ s s₁ a r b Γ A P
+once-compared : {q w w₁ w₂ : List ℕ} {s s₁ : State} {a r k : ℕ} {b : Bool} {A : Ty} (Γ : Ctx) (P : Ty) → Room q w s k → Den q w (s .top) a A
+    → sub.Reached q w w₁ s s₁ r (apply Γ P (s .left) (s .fresh)) → Same q w₁ w₂ (s₁ .top) 0 a r b → OnceCompared q w w₂ s s₁ a r b Γ A P
 unfolding lettersAt
-told {w₁ = w₁} {w₂ = w₂} {s₁ = s₁} Γ P m d o same =
+once-compared {w₁ = w₁} {w₂ = w₂} {s₁ = s₁} Γ P m d o same =
     let d₁ = sub.den-on (o .passed) d in
     let kept : Keep (s₁ .top) (s₁ .low) w₁ w₂ = keep-less (omega arith) (omega (arith, letters-room Γ P m o)) (same .keep (o .type) (o .den)) in
     record {
@@ -129,7 +129,7 @@ module _ {m : Here} {q w : List ℕ} {s : State} {g : Span} {a p : ℕ} where
       unfolding give
       parameter-same t = record {
         passes = λ Γ A P n d f.
-            let o = told Γ P room d (sub.reached (ap .makes Γ n P f) h) same in
+            let o = once-compared Γ P room d (sub.reached (ap .makes Γ n P f) h) same in
             let x : sameTy [] A (o .applied) ≡ true = sym (o .same) ∙ t in
             says (rw e (compares Γ A P _ _ (o .is) ∙ rw (pick-true (give (tt {0})) (refuse (parameterMismatch A (o .applied))) x) refl)) (goes (went (o .passed)) tt);
       }
@@ -138,7 +138,7 @@ module _ {m : Here} {q w : List ℕ} {s : State} {g : Span} {a p : ℕ} where
       unfolding errorCode errorAt refuse
       parameter-other t = record {
         passes = λ Γ A P n d f.
-            let o = told Γ P room d (sub.reached (ap .makes Γ n P f) h) same in
+            let o = once-compared Γ P room d (sub.reached (ap .makes Γ n P f) h) same in
             let rm = sub.room-on (o .passed) room in
             let x : sameTy [] A (o .applied) ≡ false = sym (o .same) ∙ t in
             let y : Failed q w₂ (record { st = s₁; code = 17; name = 0; shown = TwoTypes a r; charge = 0 }) (parameterMismatch A (o .applied)) (s₁ .left) =

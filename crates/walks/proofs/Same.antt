@@ -10,7 +10,7 @@ use Rattle.definition.specs.Syntax as syntax
 use Rattle.definition.specs.Syntax.{Ty, int, bool, var, etvar, arrow, forall}
 use Rattle.definition.specs.Types.{sameName}
 use Rattle.definition.specs.Rules.{tyCode, asVar, asETVar, asArrow, asForall, _orElse_, on, Letters, sameVar, sameTy}
-use Rattle.laws.proofs.Letters.{apart}
+use Rattle.laws.proofs.Letters.{other-forms}
 use Rattle.layout.specs.Names.{ty}
 use Rattle.layout.specs.Words.{Keep, Put2}
 use Rattle.layout.specs.Places.{size}
@@ -21,7 +21,7 @@ use Rattle.types.specs.Reading.{Held, HeldAs, Tagged, rank, LeftOf, RightOf, Bo
 use Rattle.types.proofs.Held.{held-as, held-named, left-below, right-below, body-below}
 use Rattle.types.proofs.Cases.{by-base, by-name, by-arrow, by-forall}
 use Rattle.walks.specs.Letters.{BothNamed, BothNames, lettersAt, Comparing, Same}
-use Rattle.walks.specs.declared.Pair.{Pair}
+use Rattle.walks.specs.declared.LetterPair.{LetterPair}
 use Rattle.walks.proofs.Letters.{below, letters-stay, laid}
 
 -- ## What a call asks for
@@ -101,7 +101,7 @@ told : {q w : List ℕ} {t n r s : ℕ} {z : Bool} → ((A B : Ty) → Den q w t
 told f = record { is = f; keep = λ B d. keep-refl _ _ _ }
 
 pub same-apart : {q w : List ℕ} {t n r s k m : ℕ} → Tagged q w t r k → Tagged q w t s m → (k ≡ m → ⊥) → Same q w w t n r s false
-same-apart {w = w} {t = t} {n = n} c c′ f = told (λ A B d e. sym (apart (lettersAt w t n) A B (λ g. f (c .is A d ∙ g ∙ sym (c′ .is B e)))))
+same-apart {w = w} {t = t} {n = n} c c′ f = told (λ A B d e. sym (other-forms (lettersAt w t n) A B (λ g. f (c .is A d ∙ g ∙ sym (c′ .is B e)))))
 
 module _ {v : ℕ} (i : OneCode v) where
   pub same-base : (i .k ≡ 3 → ⊥) → (i .k ≡ 4 → ⊥) → (i .k ≡ 5 → ⊥) → (i .k ≡ 6 → ⊥) → Tells i (i .w) true
@@ -114,7 +114,7 @@ module _ {v : ℕ} (i : OneCode v) where
       (λ d. by-base (λ B. true ≡ sameTy (lettersOf i) bool B) (i .two) l (λ e. absurd (omega (arith, i .one .is bool d, i .two .is int e))) (λ e. refl) B e)
       A d)
 
-  module _ {p : Pair} (x : BothNames (i .q) (i .w) (i .t) (i .r) (i .s) p) where
+  module _ {p : LetterPair} (x : BothNames (i .q) (i .w) (i .t) (i .r) (i .s) p) where
     pub same-vars : {z : Bool} → i .k ≡ 3 → z ≡ sameVar (lettersOf i) (ty (p .a)) (ty (p .b)) → Tells i (i .w) z
     unfolding tyCode sameTy on _orElse_ asVar
     same-vars {z} three f = told (λ A B d e. by-name (λ A. z ≡ sameTy (lettersOf i) A B) (i .one) (omega arith) (omega arith)
@@ -163,13 +163,13 @@ module _ {v : ℕ} (i : Arrows v) where
       )
 
 -- their left parts were compared
-pub record Lefts (v : ℕ) : Type 0 where
+pub record LeftsCompared (v : ℕ) : Type 0 where
   pub both : Arrows v
   pub w₁ : List ℕ
   pub same : Bool
   pub told : Same (both .on .q) (both .on .w) w₁ (both .on .t) (both .on .n) (both .from) (both .from′) same
 
-module _ {v : ℕ} (j : Lefts v) where
+module _ {v : ℕ} (j : LeftsCompared v) where
   lefts-keep : (B B′ : Ty) → Den (j .both .on .q) (j .both .on .w) (j .both .on .t) (j .both .on .s) (arrow B B′) → Keeps (j .both .on) (j .w₁) (arrow B B′)
   lefts-keep B B′ e = keep-less (le-refl _) (omega arith) (j .told .keep B (j .both .left′ .is B B′ e .den))
 
@@ -219,7 +219,7 @@ module _ {v : ℕ} (j : Lefts v) where
 pub record Foralls (v : ℕ) : Type 0 where
   pub on : OneCode v
   pub six : on .k ≡ 6
-  pub p : Pair
+  pub p : LetterPair
   pub letters : BothNames (on .q) (on .w) (on .t) (on .r) (on .s) p
   pub under : ℕ
   pub under′ : ℕ
@@ -237,12 +237,12 @@ module _ {v : ℕ} (i : Foralls v) where
   pair-room = by-second-forall (λ b B d room. omega arith)
 
 -- their letters were laid past the other pairs
-pub record Laid (v : ℕ) : Type 0 where
+pub record PairLaid (v : ℕ) : Type 0 where
   pub both : Foralls v
   pub w₁ : List ℕ
   pub put : Put2 (both .on .w) w₁ (both .on .t + 2 * both .on .n) (both .p .a .0) (both .p .b .0)
 
-module _ {v : ℕ} (j : Laid v) where
+module _ {v : ℕ} (j : PairLaid v) where
   pub bodies-below : (rank (j .both .under) < v) × Comparing (j .both .on .q) (j .w₁) (j .both .on .t) (j .both .on .n + 1) (j .both .under) (j .both .under′)
   bodies-below =
       let i = j .both in

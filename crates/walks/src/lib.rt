@@ -73,23 +73,23 @@ pub fn occurs_check(q: &[u32], work: &[u32], top: usize, a: TyVar, r: usize) -> 
 }
 
 // The letters of two Vars, two ETVars or two Foralls.
-struct Pair {
+struct LetterPair {
     a: TyVar,
     b: TyVar,
 }
 
-fn letters_of(q: &[u32], work: &[u32], top: usize, r: usize, s: usize) -> Pair
+fn letters_of(q: &[u32], work: &[u32], top: usize, r: usize, s: usize) -> LetterPair
     requires { ⌜ BothNamed (now q) (now work) top r s ⌝ }
     ensures { λ p. ⌜ BothNames (now (q .entry)) (now (work .entry)) top r s p ⌝ }
 {
     let a = name_of(q, work, top, r);
     let b = name_of(q, work, top, s);
-    Pair { a: a, b: b }
+    LetterPair { a: a, b: b }
 }
 
 // Whether two Vars mean the same under n pairs of letters in work, the innermost last: the innermost pair that has one of them has both; where
 // none has, both are free.
-fn same_var(work: &[u32], top: usize, n: usize, p: Pair) -> bool
+fn same_var(work: &[u32], top: usize, n: usize, p: LetterPair) -> bool
     requires { ⌜ top + 2 * n ≤ length (now work) ⌝ }
     ensures { λ z. ⌜ z ≡ sameVar (lettersAt (now (work .entry)) top n) (ty (p .a)) (ty (p .b)) ⌝ }
 {

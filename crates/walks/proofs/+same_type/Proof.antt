@@ -19,7 +19,7 @@ use Rattle.walks.proofs.letters_of.Reads as letters-of-reads
 use Rattle.walks.proofs.same_var.Reads as same-var-reads
 use native.Mathlib.Omega.{arith}
 use Rattle.types.proofs.Cases.{no-other}
-use Rattle.walks.proofs.Same.{OneCode, Arrows, Lefts, Foralls, Laid, vars-named, etvars-named, foralls-named, one-as, two-as, lefts-below, rights-below, bodies-below, pair-room, same-apart, same-base, same-vars, same-etvars, same-no, same-both, same-under}
+use Rattle.walks.proofs.Same.{OneCode, Arrows, LeftsCompared, Foralls, PairLaid, vars-named, etvars-named, foralls-named, one-as, two-as, lefts-below, rights-below, bodies-below, pair-room, same-apart, same-base, same-vars, same-etvars, same-no, same-both, same-under}
 
 abbrev μ-same-type : Measures 2 same-type-kinds.ps ℕ
 μ-same-type κs a = rank (a .1 .1 .1 .1 .0)
@@ -86,7 +86,7 @@ module _ (t : ℕ) where
         right′ = c .right-of2 .ensures;
       }
 
-  abbrev lefts : same-type-lts.After-same-type (same-type-claims t) (same-type-at t) same-type.Post → Lefts t
+  abbrev lefts : same-type-lts.After-same-type (same-type-claims t) (same-type-at t) same-type.Post → LeftsCompared t
   lefts c = record { both = arrows (c .before .before); w₁ = _; same = _; told = c .same-type .ensures }
 
   abbrev foralls : same-type-lts.After-body-of2 (same-type-claims t) (same-type-at t) same-type.Post → Foralls t
@@ -102,7 +102,7 @@ module _ (t : ℕ) where
         body′ = c .body-of2 .ensures;
       }
 
-  abbrev laid : same-type-lts.After-put2 (same-type-claims t) (same-type-at t) same-type.Post → Laid t
+  abbrev laid : same-type-lts.After-put2 (same-type-claims t) (same-type-at t) same-type.Post → PairLaid t
   laid c = record { both = foralls (c .before .before .before .before); w₁ = _; put = c .put2 .ensures }
 
 same-type-closed : {M : Type 1} (t : ℕ) → same-type-lts.Closed (same-type-claims t) (same-type-at t) same-type.Post M
