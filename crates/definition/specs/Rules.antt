@@ -288,8 +288,8 @@ asAbs (binOp p o e e′) = none
 
 -- Order 2: "A programmer in strict mode wrote a parameter of type forall A, A to A, where forall B, B to B was expected, and got 17. Document 01's
 -- comparison, name for name, was too narrow. Strict parameters are equal when they differ only in the names bound by Forall. A bound name is not
--- a free one of the same number, and Var is not ETVar. Plain mode is untouched; .." Two types are walked together, under the names of the Foralls
--- passed in each, innermost first.
+-- a free one of the same number, and Var is not ETVar. Plain mode is untouched; demand 3 is proved again for strict."
+-- Two types are walked together, under the letters of the Foralls passed in each, innermost first.
 abbrev pub Letters : Type 0
 Letters = List (TyVar × TyVar)
 
@@ -298,7 +298,7 @@ unfoldable pub sameVar : Letters → TyVar → TyVar → Bool
 sameVar [] a b = sameName a b
 sameVar ((c, d) ∷ ls) a b = pick (sameName c a || sameName d b) (sameName c a && sameName d b) (sameVar ls a b)
 
--- no Forall binds an ETVar
+-- no Forall binds an ETVar (reading 2.1)
 unfoldable pub sameTy : Letters → Ty → Ty → Bool
 sameTy ls int B = eqb (tyCode B) 1
 sameTy ls bool B = eqb (tyCode B) 2
@@ -309,7 +309,7 @@ sameTy ls (forall a A) B = on (asForall B) (λ (b, C). sameTy ((a, b) ∷ ls) A 
 
 -- "ChkLam first applies the context to the expected parameter and compares the written parameter with it, name for name; unequal is 17,
 -- written type left, applied type right." By order 2 it is up to bound names. The written one is compared as written (reading 7); applying is
--- paid for first (reading 8), comparing costs nothing.
+-- paid for first (reading 8), comparing costs nothing (reading 2.4).
 unfoldable pub parameter : Bool → Ctx → Ty → Ty → M (Unit {0})
 parameter false Γ A P = give tt
 parameter true Γ A P = do P′ ← apply Γ P; pick (sameTy [] A P′) (give tt) (refuse (parameterMismatch A P′))

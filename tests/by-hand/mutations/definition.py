@@ -1,11 +1,11 @@
 #!/usr/bin/env python3
 """Small edits to the definition, one at a time, and what notices each. Not part of the gate; docs/runs/MUTATIONS.md has the figures.
 
-usage: definition.py [--count N --seed S] [--file NAME] [--again LOG..] [--quick] [--scratch DIR] [--minutes M]
+usage: definition.py [--count N --seed S] [--file NAME] [--definition NAME..] [--again LOG..] [--quick] [--scratch DIR] [--minutes M]
        definition.py --list             counts all edits, by file and kind
 
 Edits crates/definition/specs in a copy (DIR, which is new or was made here; else a temporary one). Without --count all edits are tried, in the
-files' order; with it N of them, one of every definition and kind in turn, in an order that S fixes. --file takes those of one file.
+files' order; with it N of them, one of every definition and kind in turn, in an order that S fixes. --file takes those of one file, --definition those of some definitions.
 --again counts as there what the outputs LOG of earlier runs have as no type or answers, and does not try it again. --quick leaves out
 two thirds of the recorded answers, the costly ones. M ends the run. What notices an edit, in the order in which it is asked:
   no type   the definition no longer checks
@@ -36,7 +36,7 @@ from run import table
 ROOT = pathlib.Path(__file__).resolve().parents[3]
 sys.path[:0] = [str(ROOT / "tests"), str(ROOT / "tests/recorded")]
 from computed import HEAD, theorem  # noqa: E402
-from shared.recorded import ANSWERS, GUARDS, QUESTIONS, of  # noqa: E402
+from shared.recorded import ANSWERS, GUARDS, LETTERS, QUESTIONS, of  # noqa: E402
 from shared.script import number, ours, text  # noqa: E402
 
 SPECS = ROOT / "crates/definition/specs"
@@ -92,7 +92,7 @@ class Line:
 
 def recorded():
     guards = dict.fromkeys(of(GUARDS))
-    every = dict.fromkeys([*guards, *of(ANSWERS), *of(QUESTIONS)])
+    every = dict.fromkeys([*guards, *of(LETTERS), *of(ANSWERS), *of(QUESTIONS)])
     return [Line(number, line, line in guards) for number, line in enumerate(every, 1)]
 
 
@@ -280,6 +280,7 @@ def options():
     parser.add_argument("--count", type=number(1, 100_000))
     parser.add_argument("--seed", type=number(0, 2**63), default=1)
     parser.add_argument("--file", choices=sorted(file.stem for file in SPECS.glob("*.antt")))
+    parser.add_argument("--definition", nargs="+")
     parser.add_argument("--again", type=pathlib.Path, nargs="+", default=[])
     parser.add_argument("--quick", action="store_true")
     parser.add_argument("--scratch", type=pathlib.Path)
@@ -296,7 +297,9 @@ def main():
     given = options()
     texts, found = edits(SPECS)
     said = names(found, texts)
-    found = [edit for edit in found if given.file in (None, edit.path)]
+    found = [edit for edit in found if given.file in (None, edit.path) and (not given.definition or edit.definition in given.definition)]
+    if not found:
+        sys.exit("definition.py: no edit of these")
     if given.list:
         return table("file", list(texts), KINDS, collections.Counter((edit.path, edit.kind) for edit in found))
     before = [(edit, verdict) for edit, verdict in earlier(given.again, said) if edit in set(found)]

@@ -3,6 +3,7 @@
 use crate::ast::{Expr, Type};
 use crate::errors::{TypeError, TypeResult};
 use crate::meter::{Judged, Judgement};
+use crate::nameless::same_but_for_letters;
 use crate::typecheck::{BiDirectional, Context, InferenceTree, TyVar};
 
 type Typed = TypeResult<(Type, Context, InferenceTree)>;
@@ -90,7 +91,8 @@ impl BiDirectional {
         (output, tree)
     }
 
-    /// Strict mode's ChkLam: the written parameter is the expected one, applied.
+    /// Strict mode's ChkLam: the written parameter is the expected one, applied, but for the
+    /// letters that Foralls bind. Both are translated, which is charged nothing.
     pub fn strict_parameter(
         &self,
         ctx: &Context,
@@ -101,7 +103,7 @@ impl BiDirectional {
             return Ok(());
         }
         let applied = self.apply_ctx_type(ctx, expected);
-        if *written == applied {
+        if same_but_for_letters(written, &applied) {
             return Ok(());
         }
         Err(TypeError::ParameterMismatch { written: written.clone(), applied })

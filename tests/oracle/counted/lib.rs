@@ -12,4 +12,5 @@ pub mod ast;
 pub mod errors;
 pub mod judgements;
 pub mod meter;
+pub mod nameless;
 pub mod typecheck;

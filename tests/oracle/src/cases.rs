@@ -1,5 +1,5 @@
-// Document 01's fifteen cases and edges, and the questions of READINGS.md,
-// with what those papers say of the reply.
+// Document 01's fifteen cases and edges, the questions of READINGS.md and those of
+// order 2, with what those papers say of the reply.
 use crate::asked::Asked;
 use crate::make_sizes::in_full;
 use crate::reply::{needed_work, reply};
@@ -73,6 +73,36 @@ pub const CASES: &[Case] = &[
         &[3, 6, 1, 2]),
 ];
 
+/// Order 2's example and sentences, and its points as they were decided. They stand apart since
+/// CASES is recorded.
+#[rustfmt::skip]
+pub const LETTERS: &[Case] = &[
+    case("order 2", &[2, 1, 0, 12, 18, 5, 6, 1, 5, 3, 1, 3, 1, 22, 1, 0, 0,
+            9, 5, 6, 2, 5, 3, 2, 3, 2, 1], [0, 0, 8],
+        &[0, 0, 44, 19, 1, 4, 0, 0, 9, 5, 6, 2, 5, 3, 2, 3, 2, 1, 0, 0,
+            17, 0, 13, 9, 32, 5, 6, 2, 5, 3, 2, 3, 2]),
+    case("order 2, a bound and a free name",
+        &[2, 1, 0, 9, 18, 5, 6, 1, 3, 2, 22, 1, 0, 0, 6, 5, 6, 2, 3, 2, 1], [17, 0, 3],
+        &[4, 6, 1, 3, 2, 4, 6, 2, 3, 2]),
+    case("order 2, Var and ETVar",
+        &[2, 1, 0, 9, 18, 5, 6, 1, 3, 1, 22, 1, 0, 0, 6, 5, 6, 2, 4, 2, 1], [17, 0, 3],
+        &[4, 6, 1, 3, 1, 4, 6, 2, 4, 2]),
+    case("order 2, plain", &[2, 0, 0, 9, 18, 5, 6, 1, 4, 1, 22, 1, 0, 0, 6, 5, 6, 2, 4, 2, 1],
+        [0, 0, 4], &[0, 0, 35, 19]),
+    case("2.1", &[2, 1, 0, 9, 18, 5, 6, 1, 4, 1, 22, 1, 0, 0, 6, 5, 6, 2, 4, 2, 1], [17, 0, 3],
+        &[4, 6, 1, 4, 1, 4, 6, 2, 4, 2]),
+    case("2.1, one unknown",
+        &[2, 1, 0, 9, 18, 5, 6, 1, 4, 1, 22, 1, 0, 0, 6, 5, 6, 2, 4, 1, 1], [0, 0, 6],
+        &[0, 0, 35, 19, 1, 4, 0, 0, 6, 5, 6, 2, 4, 1, 1, 0, 0, 17, 0, 10, 6, 32, 5, 6, 2, 4, 1]),
+    case("2.2", &[2, 1, 0, 11, 18, 5, 6, 1, 6, 1, 3, 1, 22, 1, 0, 0, 8, 5, 6, 1, 6, 2, 3, 1, 1],
+        [17, 0, 4], &[6, 6, 1, 6, 1, 3, 1, 6, 6, 1, 6, 2, 3, 1]),
+    case("2.3", &[2, 1, 4, 35, 3, 3, 2, 9, 18, 5, 6, 1, 3, 1, 22, 1, 0, 0, 6, 5, 6, 2, 4, 3, 1],
+        [0, 0, 10], &[0, 0, 47, 19, 1, 8, 4, 35, 3, 3, 2, 0, 6, 5, 6, 2, 4, 3, 1, 0, 0,
+            17, 0, 14, 10, 35, 3, 3, 2, 32, 5, 6, 2, 4, 3]),
+    case("2.5", &[2, 1, 0, 9, 18, 5, 6, 1, 3, 1, 22, 1, 0, 0, 6, 5, 6, 2, 3, 2, 1], [0, 0, 6],
+        &[0, 0, 35, 19, 1, 4, 0, 0, 6, 5, 6, 2, 3, 2, 1, 0, 0, 17, 0, 10, 6, 32, 5, 6, 2, 3, 2]),
+];
+
 /// Sizes that the papers name, or that lie at an edge of them.
 pub fn sized() -> Vec<Asked> {
     let mut all: Vec<Asked> = CASES.iter().map(|case| in_full(case.words)).collect();
@@ -117,7 +147,7 @@ fn orders_of_refusal() -> Vec<Asked> {
 
 /// Holds every case to what its paper says.
 pub fn hold_all() -> Result<(), String> {
-    for case in CASES {
+    for case in CASES.iter().chain(LETTERS) {
         let got = reply(&in_full(case.words));
         let units_differ = case.units != 0 && got.units != case.units;
         let same = got.code == case.code && got.at == case.at && !units_differ;

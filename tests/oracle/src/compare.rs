@@ -3,10 +3,12 @@
 use crate::asked::Reply;
 use crate::cases;
 use crate::decode::report;
+use crate::letters::{all_compared, first_unequal, holds_forall, mismatch, root_mismatch, shown};
 use crate::make_large::all_large;
 use crate::make_sizes::{expected, in_full};
 use crate::make_types::Maker;
 use crate::places::hold_places;
+use crate::question::Ty;
 use crate::reading::read;
 use crate::recount::hold_units;
 use crate::reply::{reply, MOST_WORDS};
@@ -27,6 +29,7 @@ impl Maker {
                 words
             }
             241..=300 => self.raw(),
+            301..=600 => self.letters(),
             _ => self.question().words(),
         }
     }
@@ -53,8 +56,9 @@ fn hold_to_original(words: &[u32], full: &Reply, tally: &mut Tally) -> Result<()
     hold(words, &question, full)
 }
 
-/// Holds a strict question's reply to that of its plain twin, where no rule of
-/// the twin's tree is one in which strict mode differs (InfIf and ChkLam).
+/// Holds a strict question's reply to that of its plain twin, where the twin's tree
+/// has no InfIf: the same, or what its ChkLams make of it. These are charged for
+/// applications, so that 6 may come instead.
 fn hold_to_plain_twin(words: &[u32], full: &Reply, tally: &mut Tally) -> Result<(), String> {
     if words.get(1) != Some(&1) || words.len() > MOST_WORDS {
         return Ok(());
@@ -62,15 +66,53 @@ fn hold_to_plain_twin(words: &[u32], full: &Reply, tally: &mut Tally) -> Result<
     let mut twin = words.to_vec();
     twin[1] = 0;
     let plain = reply(&in_full(&twin));
-    if plain.code != 0 || rules_of(&plain).iter().any(|rule| matches!(rule, 7 | 19)) {
+    let rules = rules_of(&plain);
+    if plain.code != 0 || rules.contains(&7) {
         return Ok(());
     }
-    tally.twins += 1;
-    if plain != *full {
-        return Err(format!("  strict {full}\n  plain  {plain}"));
+    let wanted = if !rules.contains(&19) {
+        tally.twins += 1;
+        plain.clone()
+    } else if full.code != 6 {
+        tally.letters.twins += 1;
+        after_comparing(&twin, &plain, full.units)?
+    } else {
+        return Ok(());
+    };
+    if wanted != *full {
+        return Err(format!("  strict {full}\n  plain  {plain}\n  wanted {wanted}"));
     }
     let mut unseen = Tally::default();
     hold_to_original(&twin, &plain, &mut unseen)
+}
+
+/// The strict reply that an accepted plain one leaves: its own, with other units, or 17 for
+/// the first parameters that differ.
+fn after_comparing(words: &[u32], plain: &Reply, units: u32) -> Result<Reply, String> {
+    let told = report(&plain.report).map_err(|fault| format!("report unreadable: {fault:?}"))?;
+    Ok(match first_unequal(words, &told.tree) {
+        Some((written, applied)) => mismatch(&written, &applied, units),
+        None => Reply { units, ..plain.clone() },
+    })
+}
+
+/// Holds what strict mode compares: the types of a 17 differ, and it is the reply where the
+/// question's own lambda has not the parameter expected.
+fn hold_parameters(words: &[u32], full: &Reply, tally: &mut Tally) -> Result<(), String> {
+    if (3..=6).contains(&full.code) {
+        return Ok(());
+    }
+    let question = read(words).map_err(|fault| format!("  judged unread: {fault:?}"))?;
+    if full.code == 17 {
+        let (written, applied) = shown(&question, full)?;
+        tally.letters.refused += u64::from(holds_forall(&written) && holds_forall(&applied));
+    }
+    match root_mismatch(&question) {
+        Some(wanted) if wanted != *full => {
+            Err(format!("  the parameter differs\n  got    {full}\n  wanted {wanted}"))
+        }
+        _ => Ok(()),
+    }
 }
 
 /// Holds the units and places of a success to its own tree.
@@ -79,6 +121,11 @@ fn hold_to_own_tree(words: &[u32], full: &Reply, tally: &mut Tally) -> Result<()
     let told = report(&full.report).map_err(|fault| format!("report unreadable: {fault:?}"))?;
     tally.recounted += 1;
     hold_units(words, &question, full, &told)?;
+    if question.strict {
+        let other_letters = |(written, applied): &(Ty, Ty)| written != applied;
+        let accepted = all_compared(words, &told.tree).into_iter().filter(other_letters).count();
+        tally.letters.accepted += accepted as u64;
+    }
     hold_places(words, &question, &told.tree)
 }
 
@@ -88,6 +135,7 @@ pub fn full_reply(words: &[u32], tally: &mut Tally) -> Result<Reply, String> {
     let full = reply(&asked);
     hold_to_original(words, &full, tally)
         .and_then(|()| hold_to_own_tree(words, &full, tally))
+        .and_then(|()| hold_parameters(words, &full, tally))
         .and_then(|()| hold_to_plain_twin(words, &full, tally))
         .map_err(|reason| format!("{asked}\n{reason}"))?;
     Ok(full)
@@ -122,8 +170,8 @@ pub fn compare(count: u64, seed: u64) -> Result<(), String> {
         let words = maker.any_words();
         compare_one(&mut maker, words, &mut tally)?;
     }
-    print!("{tally}");
-    let missing = tally.missing();
+    print!("{tally}{}", tally.letters);
+    let missing = [tally.missing(), tally.letters.missing()].concat();
     if count >= ENOUGH && !missing.is_empty() {
         return Err(format!("not reached: {}", missing.join(", ")));
     }

@@ -2,7 +2,7 @@
 use std::io::{stdout, BufWriter, Write};
 
 use crate::asked::{Asked, Reply};
-use crate::cases::CASES;
+use crate::cases::{CASES, LETTERS};
 use crate::compare::full_reply;
 use crate::make_large::{all_large, broken_at_every_length};
 use crate::make_sizes::in_full;
@@ -152,7 +152,8 @@ impl<W: Write> Frames<W> {
 
     /// What was written, in three lines.
     fn told(&self, seed: u64) -> String {
-        let Tally { questions, held, twins, .. } = self.tally;
+        let Tally { questions, held, .. } = self.tally;
+        let twins = self.tally.twins + self.tally.letters.twins;
         let missing = match self.tally.missing().join(", ") {
             none if none.is_empty() => "none".to_string(),
             some => some,
@@ -166,9 +167,9 @@ impl<W: Write> Frames<W> {
     }
 }
 
-/// Document 01's cases and one of each large question.
+/// The papers' cases and one of each large question.
 fn first_questions() -> impl Iterator<Item = Vec<u32>> {
-    CASES.iter().map(|case| case.words.to_vec()).chain(all_large())
+    CASES.iter().chain(LETTERS).map(|case| case.words.to_vec()).chain(all_large())
 }
 
 /// The first questions, then generated ones.

@@ -5,9 +5,12 @@ mod compare;
 mod convert;
 mod decode;
 mod frames;
+mod large_letters;
+mod letters;
 mod make_contexts;
 mod make_damage;
 mod make_large;
+mod make_letters;
 mod make_questions;
 mod make_sizes;
 mod make_terms;
@@ -17,6 +20,7 @@ mod places;
 mod question;
 mod reading;
 mod record;
+mod record_letters;
 mod recount;
 mod rename;
 mod replay;
@@ -34,7 +38,7 @@ use std::process::ExitCode;
 const STACK: usize = 2 << 30;
 
 const USAGE: &str = "usage: oracle compare --count N --seed S
-       oracle record --count N --seed S --date D
+       oracle record --count N --seed S --date D [--family letters]
        oracle generate --count N --seed S
        oracle answer < LINES
        oracle frames --count N --seed S
@@ -63,10 +67,13 @@ fn counted(arguments: &[String]) -> Result<u64, String> {
 fn command(arguments: &[String]) -> Result<(), String> {
     let count = || counted(arguments);
     let seed = || number(arguments, "--seed");
+    let date = || flag(arguments, "--date");
+    let letters = || flag(arguments, "--family") == Ok("letters");
     let files = || arguments[1..].iter().all(|file| Path::new(file).is_file());
     match (arguments.first().map_or("", String::as_str), arguments.len()) {
         ("compare", 5) => compare::compare(count()?, seed()?),
-        ("record", 7) => record::record(count()? as usize, seed()?, flag(arguments, "--date")?),
+        ("record", 7) => record::record(count()? as usize, seed()?, date()?, false),
+        ("record", 9) if letters() => record::record(count()? as usize, seed()?, date()?, true),
         ("generate", 5) => replay::generate(count()?, seed()?),
         ("answer", 1) => replay::answer(),
         ("frames", 5) => frames::frames(count()?, seed()?),

@@ -1,4 +1,5 @@
 // Large questions: the longest, the deepest, and those with vast reports.
+use crate::large_letters::large_letters;
 use crate::make_questions::Draft;
 use crate::make_types::Maker;
 use crate::question::Ty;
@@ -84,6 +85,7 @@ pub fn all_large() -> Vec<Vec<u32>> {
         all.extend((0..4).map(|which| deepest_types(which, mode)));
         all.extend([2047, 2048, 2049].map(|length| of_length(length, mode)));
     }
+    all.extend(large_letters());
     all
 }
 
@@ -102,12 +104,16 @@ pub fn broken_at_every_length() -> impl Iterator<Item = Vec<u32>> {
 impl Maker {
     pub fn large(&mut self) -> Vec<u32> {
         let (which, mode) = (self.rng.below(8), self.rng.below(2));
-        match self.rng.below(6) {
+        match self.rng.below(7) {
             0 => deepest(which, mode),
             1 => deepest_types(which, mode),
             2 => of_length(self.rng.pick(&[2047, 2048, 2049]), mode),
             3 => vast(45, 40, 700),
-            4 => vast(4 + self.rng.index(20), self.rng.below(20), 10 + self.rng.index(300)),
+            4 => {
+                let mut all = large_letters();
+                all.swap_remove(self.rng.index(all.len()))
+            }
+            5 => vast(4 + self.rng.index(20), self.rng.below(20), 10 + self.rng.index(300)),
             _ => {
                 let size = 100 + self.rng.below(300);
                 let mut draft = Draft::new(7, mode);

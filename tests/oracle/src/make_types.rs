@@ -95,7 +95,8 @@ impl Maker {
     }
 }
 
-fn replaced(ty: &Ty, name: u32, by: &Ty) -> Ty {
+/// The type with another one for each free Var of a name.
+pub fn replaced(ty: &Ty, name: u32, by: &Ty) -> Ty {
     match ty {
         Ty::Var(a) if *a == name => by.clone(),
         Ty::Arrow(from, to) => Ty::arrow(replaced(from, name, by), replaced(to, name, by)),

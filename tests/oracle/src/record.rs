@@ -8,6 +8,7 @@ use crate::make_large::{of_length, vast};
 use crate::make_sizes::in_full;
 use crate::make_types::Maker;
 use crate::reading::{read, Fault};
+use crate::record_letters::choose_letters;
 use crate::reply::{needed_work, reply, MOST_BUDGET};
 use crate::tally::{rules_of, Tally};
 
@@ -21,8 +22,8 @@ const MOST_REPORT: usize = 900;
 const MOST_UNITS: u32 = 700;
 
 #[derive(Default)]
-struct Chosen {
-    lines: Vec<(Asked, Reply)>,
+pub struct Chosen {
+    pub lines: Vec<(Asked, Reply)>,
     seen: HashMap<String, u32>,
 }
 
@@ -46,7 +47,7 @@ fn fault_features(words: &[u32], fault: &Fault) -> Vec<String> {
     vec![format!("{cause} kind {}", words[0]), format!("{cause} after {before}")]
 }
 
-fn run_features(asked: &Asked, answer: &Reply, full: &Reply) -> Vec<String> {
+pub fn run_features(asked: &Asked, answer: &Reply, full: &Reply) -> Vec<String> {
     let (code, kind, mode) = (answer.code, asked.words[0], asked.words[1]);
     let mut all = vec![format!("code {code} kind {kind} mode {mode}")];
     for rule in rules_of(answer) {
@@ -60,19 +61,23 @@ fn run_features(asked: &Asked, answer: &Reply, full: &Reply) -> Vec<String> {
 }
 
 impl Chosen {
-    fn take(&mut self, asked: Asked, answer: Reply, features: Vec<String>) {
+    pub fn take(&mut self, asked: Asked, answer: Reply, features: Vec<String>) {
         for feature in features {
             *self.seen.entry(feature).or_default() += 1;
         }
         self.lines.push((asked, answer));
     }
 
-    fn shows_more(&self, features: &[String]) -> bool {
+    pub fn shows_more(&self, features: &[String]) -> bool {
         features.iter().any(|feature| self.seen.get(feature).copied().unwrap_or(0) < WANTED)
+    }
+
+    pub fn has(&self, asked: &Asked) -> bool {
+        self.lines.iter().any(|(known, _)| known == asked)
     }
 }
 
-fn moderate(asked: &Asked, answer: &Reply) -> bool {
+pub fn moderate(asked: &Asked, answer: &Reply) -> bool {
     asked.words.len() <= MOST_QUESTION
         && answer.report.len() <= MOST_REPORT
         && answer.units <= MOST_UNITS
@@ -90,7 +95,7 @@ fn first_lines(chosen: &mut Chosen) {
         let full = reply(&in_full(&asked.words));
         let answer = reply(&asked);
         let features = features(&asked, &answer, &full);
-        if !chosen.lines.iter().any(|(known, _)| *known == asked) {
+        if !chosen.has(&asked) {
             chosen.take(asked, answer, features);
         }
     }
@@ -138,8 +143,10 @@ fn choose(count: usize, seed: u64) -> Chosen {
     chosen
 }
 
-pub fn record(count: usize, seed: u64, date: &str) -> Result<(), String> {
-    let chosen = choose(count, seed);
+/// Prints the recorded answers of all questions, or of the letters family.
+pub fn record(count: usize, seed: u64, date: &str, letters: bool) -> Result<(), String> {
+    let chosen = if letters { choose_letters(count, seed) } else { choose(count, seed) };
+    let family = if letters { " --family letters" } else { "" };
     let mut tally = Tally::default();
     for (asked, answer) in &chosen.lines {
         tally.count_question(&asked.words);
@@ -147,15 +154,18 @@ pub fn record(count: usize, seed: u64, date: &str) -> Result<(), String> {
         full_reply(&asked.words, &mut tally)?;
     }
     println!("# Recorded answers of the Rust comparison program, tests/oracle, made on {date}");
-    println!("# by: target/oracle/oracle record --count {count} --seed {seed} --date {date}");
+    println!(
+        "# by: target/oracle/oracle record --count {count} --seed {seed} --date {date}{family}"
+    );
     println!("# line: budget work room | question | code at length units | report");
     println!("# answers {}", chosen.lines.len());
-    for line in tally.to_string().lines() {
-        println!("# {line}");
-    }
-    for missing in tally.missing() {
-        println!("# not reached: {missing}");
-    }
+    let (told, missing) = if letters {
+        (format!("{tally}{}", tally.letters), tally.letters.missing())
+    } else {
+        (tally.to_string(), tally.missing())
+    };
+    told.lines().for_each(|line| println!("# {line}"));
+    missing.iter().for_each(|missing| println!("# not reached: {missing}"));
     for (asked, answer) in &chosen.lines {
         println!("{asked} | {answer}");
     }

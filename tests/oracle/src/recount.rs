@@ -2,11 +2,12 @@
 // and looks at the two places where strict mode differs.
 use crate::asked::Reply;
 use crate::decode::{Node, Report};
+use crate::letters::equal;
 use crate::question::{Bind, Question, Shape, Ty};
 use crate::reading::Cursor;
 
 /// A type with the context applied to it, and the calls that this takes.
-fn applied(context: &[Bind], ty: &Ty) -> (Ty, u64) {
+pub fn applied(context: &[Bind], ty: &Ty) -> (Ty, u64) {
     match ty {
         Ty::ETVar(a) => {
             let solution = context.iter().find_map(|bind| match bind {
@@ -49,7 +50,7 @@ fn application_calls(context: &[Bind], ty: &Option<Ty>) -> u64 {
     applied(context, ty.as_ref().expect("a type to apply the context to")).1
 }
 
-fn halves(ty: &Option<Ty>) -> (&Ty, &Ty) {
+pub fn halves(ty: &Option<Ty>) -> (&Ty, &Ty) {
     match ty {
         Some(Ty::Arrow(from, to)) => (from, to),
         _ => panic!("this rule takes an Arrow apart"),
@@ -93,7 +94,7 @@ fn strict_rules_hold(words: &[u32], node: &Node) -> bool {
             let expected = halves(&node.right).0;
             let term = Cursor::from_place(words, node.place).term();
             let Ok(Shape::Abs(x, written, _)) = term.map(|term| term.shape) else { return false };
-            written == applied(&node.input, expected).0
+            equal(&written, &applied(&node.input, expected).0)
                 && node.children[0].input.last() == Some(&Bind::Var(x, expected.clone()))
         }
         _ => true,

@@ -13,6 +13,37 @@ pub const CODES: [u32; 14] = [0, 1, 2, 3, 4, 5, 6, 7, 11, 12, 13, 14, 15, 17];
 /// Counts in plain and in strict mode.
 type Pair = [u64; 2];
 
+/// What strict mode's comparison of parameters was asked (order 2).
+#[derive(Default)]
+pub struct Letters {
+    /// Parameters of accepted questions that are the expected ones in other letters.
+    pub accepted: u64,
+    /// 17s of two types that both hold a Forall.
+    pub refused: u64,
+    /// Questions with a ChkLam that were held to the plain twin's tree.
+    pub twins: u64,
+}
+
+impl Letters {
+    pub fn missing(&self) -> Vec<String> {
+        let counts = [(self.accepted, "other letters accepted"), (self.refused, "17 of Foralls")];
+        let none = counts.into_iter().filter(|(count, _)| *count == 0);
+        none.map(|(_, name)| name.to_string()).collect()
+    }
+}
+
+impl fmt::Display for Letters {
+    fn fmt(&self, f: &mut fmt::Formatter) -> fmt::Result {
+        writeln!(f, "strict parameters accepted in other letters: {}", self.accepted)?;
+        writeln!(f, "17s of two types that both hold a Forall: {}", self.refused)?;
+        writeln!(
+            f,
+            "strict with ChkLam, held to the plain twin and so to the original: {}",
+            self.twins
+        )
+    }
+}
+
 #[derive(Default)]
 pub struct Tally {
     pub questions: u64,
@@ -21,6 +52,7 @@ pub struct Tally {
     pub too_large: u64,
     pub twins: u64,
     pub recounted: u64,
+    pub letters: Letters,
     kinds: BTreeMap<u32, Pair>,
     codes: BTreeMap<u32, Pair>,
     rules: BTreeMap<u32, Pair>,

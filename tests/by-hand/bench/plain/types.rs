@@ -92,14 +92,35 @@ impl Run<'_> {
         }
     }
 
-    /// Whether two types are the same, name for name.
+    /// Whether two types differ at most in the letters that Foralls bind.
     pub fn same(&self, r: TypeRef, s: TypeRef) -> bool {
+        self.same_under(r, s, &mut Vec::new())
+    }
+
+    /// The same below Foralls, whose letters are paired, innermost last.
+    fn same_under(&self, r: TypeRef, s: TypeRef, letters: &mut Vec<(u32, u32)>) -> bool {
         match (self.ty(r), self.ty(s)) {
             (Type::Int, Type::Int) | (Type::Bool, Type::Bool) => true,
-            (Type::Var(a), Type::Var(b)) | (Type::ETVar(a), Type::ETVar(b)) => a == b,
-            (Type::Arrow(r1, r2), Type::Arrow(s1, s2)) => self.same(r1, s1) && self.same(r2, s2),
-            (Type::Forall(a, r), Type::Forall(b, s)) => a == b && self.same(r, s),
+            (Type::Var(a), Type::Var(b)) => paired(letters, a, b),
+            (Type::ETVar(a), Type::ETVar(b)) => a == b,
+            (Type::Arrow(r1, r2), Type::Arrow(s1, s2)) => {
+                self.same_under(r1, s1, letters) && self.same_under(r2, s2, letters)
+            }
+            (Type::Forall(a, r), Type::Forall(b, s)) => {
+                letters.push((a, b));
+                let same = self.same_under(r, s, letters);
+                letters.pop();
+                same
+            }
             _ => false,
         }
+    }
+}
+
+/// Whether two names have one Forall, the innermost of either, or are free and the same.
+fn paired(letters: &[(u32, u32)], a: u32, b: u32) -> bool {
+    match letters.iter().rfind(|(c, d)| *c == a || *d == b) {
+        Some(pair) => *pair == (a, b),
+        None => a == b,
     }
 }
