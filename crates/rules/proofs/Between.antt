@@ -13,7 +13,7 @@ use Rattle.definition.specs.Reply.{errorCode, errorAt}
 use Rattle.laws.proofs.Steps.{pick-true, pick-false, bind-done, bind-stop}
 use Rattle.layout.specs.Words.{Keep}
 use Rattle.layout.specs.Places.{size}
-use Rattle.layout.specs.Denotes.{Den, Run}
+use Rattle.layout.specs.Denotes.{Den}
 use Rattle.layout.specs.Room.{Room}
 use Rattle.layout.specs.declared.Span.{Span}
 use Rattle.layout.specs.declared.State.{State}

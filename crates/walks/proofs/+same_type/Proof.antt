@@ -18,7 +18,6 @@ use Rattle.types.proofs.tag.Reads as tag-reads
 use Rattle.walks.proofs.letters_of.Reads as letters-of-reads
 use Rattle.walks.proofs.same_var.Reads as same-var-reads
 use native.Mathlib.Omega.{arith}
-use Rattle.types.proofs.Cases.{no-other}
 use Rattle.walks.proofs.Same.{OneCode, Arrows, LeftsCompared, Foralls, PairLaid, vars-named, etvars-named, foralls-named, one-as, two-as, lefts-below, rights-below, bodies-below, pair-room, same-apart, same-base, same-vars, same-etvars, same-no, same-both, same-under}
 
 abbrev μ-same-type : Measures 2 same-type-kinds.ps ℕ
