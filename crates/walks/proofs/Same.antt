@@ -58,11 +58,18 @@ pub record OneCode (v : ℕ) : Type 0 where
 abbrev lettersOf : {v : ℕ} → OneCode v → Letters
 lettersOf i = lettersAt (i .w) (i .t) (i .n)
 
+-- what the references denote
+abbrev IsOne : {v : ℕ} → OneCode v → Ty → Type 0
+IsOne i A = Den (i .q) (i .w) (i .t) (i .r) A
+
+abbrev IsTwo : {v : ℕ} → OneCode v → Ty → Type 0
+IsTwo i B = Den (i .q) (i .w) (i .t) (i .s) B
+
 -- what the call tells, with the words that work has then
 abbrev Tells : {v : ℕ} → OneCode v → List ℕ → Bool → Type 0
 Tells i w₁ z = Same (i .q) (i .w) w₁ (i .t) (i .n) (i .r) (i .s) z
 
--- no words but those past the pairs are other ones, as many as the second type has
+-- words stay, but for those past the pairs, as many as the second type has
 abbrev Keeps : {v : ℕ} → OneCode v → List ℕ → Ty → Type 0
 Keeps i w₁ B = Keep (i .t + 2 * i .n) (i .t + 2 * i .n + size B) (i .w) w₁
 
@@ -149,7 +156,7 @@ pub record Arrows (v : ℕ) : Type 0 where
   pub right′ : RightOf (on .q) (on .w) (on .t) (on .s) to′
 
 module _ {v : ℕ} (i : Arrows v) where
-  by-second-arrow : {X : Type 0} → ((B B′ : Ty) → Den (i .on .q) (i .on .w) (i .on .t) (i .on .s) (arrow B B′)
+  by-second-arrow : {X : Type 0} → ((B B′ : Ty) → IsTwo (i .on) (arrow B B′)
       → i .on .t + 2 * i .on .n + size (arrow B B′) ≤ length (i .on .w) → X) → X
   by-second-arrow {X} f =
       by-arrow (λ B. i .on .t + 2 * i .on .n + size B ≤ length (i .on .w) → X) (i .on .two) (i .five) f _ (i .on .comparing .two .den) (i .on .comparing .room)
@@ -170,7 +177,7 @@ pub record LeftsCompared (v : ℕ) : Type 0 where
   pub told : Same (both .on .q) (both .on .w) w₁ (both .on .t) (both .on .n) (both .from) (both .from′) same
 
 module _ {v : ℕ} (j : LeftsCompared v) where
-  lefts-keep : (B B′ : Ty) → Den (j .both .on .q) (j .both .on .w) (j .both .on .t) (j .both .on .s) (arrow B B′) → Keeps (j .both .on) (j .w₁) (arrow B B′)
+  lefts-keep : (B B′ : Ty) → IsTwo (j .both .on) (arrow B B′) → Keeps (j .both .on) (j .w₁) (arrow B B′)
   lefts-keep B B′ e = keep-less (le-refl _) (omega arith) (j .told .keep B (j .both .left′ .is B B′ e .den))
 
   pub rights-below : (rank (j .both .to) < v) × Comparing (j .both .on .q) (j .w₁) (j .both .on .t) (j .both .on .n) (j .both .to) (j .both .to′)
@@ -183,10 +190,10 @@ module _ {v : ℕ} (j : LeftsCompared v) where
       )
 
   by-arrows : {w₂ : List ℕ} (z : Bool)
-      → ((A A′ B B′ : Ty) → Den (j .both .on .q) (j .both .on .w) (j .both .on .t) (j .both .on .r) (arrow A A′)
-      → Den (j .both .on .q) (j .both .on .w) (j .both .on .t) (j .both .on .s) (arrow B B′)
+      → ((A A′ B B′ : Ty) → IsOne (j .both .on) (arrow A A′)
+      → IsTwo (j .both .on) (arrow B B′)
       → j .same ≡ sameTy (lettersOf (j .both .on)) A B → z ≡ (sameTy (lettersOf (j .both .on)) A B && sameTy (lettersOf (j .both .on)) A′ B′))
-      → ((B B′ : Ty) → Den (j .both .on .q) (j .both .on .w) (j .both .on .t) (j .both .on .s) (arrow B B′) → Keeps (j .both .on) w₂ (arrow B B′))
+      → ((B B′ : Ty) → IsTwo (j .both .on) (arrow B B′) → Keeps (j .both .on) w₂ (arrow B B′))
       → Tells (j .both .on) w₂ z
   unfolding sameTy on _orElse_ asArrow
   by-arrows {w₂} z f g = let i = j .both in record {
@@ -227,7 +234,7 @@ pub record Foralls (v : ℕ) : Type 0 where
   pub body′ : BodyOf (on .q) (on .w) (on .t) (on .s) under′
 
 module _ {v : ℕ} (i : Foralls v) where
-  by-second-forall : {X : Type 0} → ((b : syntax.TyVar) (B : Ty) → Den (i .on .q) (i .on .w) (i .on .t) (i .on .s) (forall b B)
+  by-second-forall : {X : Type 0} → ((b : syntax.TyVar) (B : Ty) → IsTwo (i .on) (forall b B)
       → i .on .t + 2 * i .on .n + size (forall b B) ≤ length (i .on .w) → X) → X
   by-second-forall {X} f =
       by-forall (λ B. i .on .t + 2 * i .on .n + size B ≤ length (i .on .w) → X) (i .on .two) (i .six) f _ (i .on .comparing .two .den) (i .on .comparing .room)
