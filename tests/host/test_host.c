@@ -15,7 +15,7 @@ enum { WHOLE_ROOM = 8192, MOST_WORK = 266240 };
 /* A question, and its reply where budget and room are enough. */
 struct asked {
     const char *label;
-    uint32_t words[24];
+    uint32_t words[28];
     size_t count;
     uint32_t reply[4];   /* code, at, length, units */
     uint32_t report[14]; /* its first words */
@@ -38,6 +38,10 @@ static const struct asked ASKED[] = {
     {"m", WORDS(7, 1, 0, 13, 25, 23, 1, 18, 5, 1, 16, 5, 18, 5, 1, 23, 1, 0, 0), {15, 0, 4, 79}, WORDS(1, 1, 1, 2)},
     {"n", WORDS(4, 0, 0, 0, 7, 6, 1, 5, 3, 1, 3, 1, 3, 5, 1, 2), {0, 0, 143, 33}, WORDS(0, 3, 35, 1, 2)},
     {"o", WORDS(5, 0, 0, 0, 2, 4, 1, 2, 3, 1), {14, 1, 4, 1}, WORDS(2, 3, 1, 0)},
+    {"order 2", WORDS(2, 1, 0, 12, 18, 5, 6, 1, 5, 3, 1, 3, 1, 22, 1, 0, 0, 9, 5, 6, 2, 5, 3, 2, 3, 2, 1), {0, 0, 47, 8},
+     WORDS(0, 0, 44, 19, 1, 4)},
+    {"bound for free", WORDS(2, 1, 0, 9, 18, 5, 6, 1, 3, 1, 22, 1, 0, 0, 6, 5, 6, 2, 3, 1, 1), {17, 0, 10, 3},
+     WORDS(4, 6, 1, 3, 1, 4, 6, 2, 3, 1)},
     {"a ring", WORDS(2, 0, 4, 35, 1, 4, 1, 3, 22, 1, 0, 0, 2, 4, 1), {6, 0, 0, 8192}, NONE},
     {"name 999,999", WORDS(7, 0, 0, 2, 16, 999999, 0, 0), {11, 999999, 2, 1}, WORDS(0, 0)},
     {"name 1,000,000", WORDS(7, 0, 0, 2, 16, 1000000, 0, 0), {5, 5, 0, 0}, NONE},
