@@ -21,9 +21,9 @@ extern "C" {
 
 /* The version of this header, of the formats that it names and of the replies; it stands nowhere else. A change of
    the first number: some well-formed question gets another reply, or a name, a size or the layout of a slice is
-   another or gone, so look at your host; of the second: something is added (a code, a mode, a kind, a function), and
-   every question that was well-formed gets the reply that it got; of the third: replies, names and layout are as they
-   were. */
+   another or gone, so look at your host (docs/ORDERS.md says what each landing changed); of the second: something is
+   added (a code, a mode, a kind, a function), and every question that was well-formed gets the reply that it got; of
+   the third: replies, names and layout are as they were. */
 #define SPOREFLASK_VERSION_MAJOR 3
 #define SPOREFLASK_VERSION_MINOR 0
 #define SPOREFLASK_VERSION_PATCH 0
@@ -182,8 +182,8 @@ enum sporeflask_code {
     SPOREFLASK_OCCURS_CHECK = 14,           /* at: the name; the type that has it; none */
     SPOREFLASK_SUBTYPING_ERROR = 15,        /* the left type, which is there; the right one, which is wanted */
                                             /* 16: no question draws it (never-16, docs/THEOREMS.md) */
-    SPOREFLASK_PARAMETER_MISMATCH = 17      /* strict mode: the parameter's type as written; the one wanted. They differ in
-                                               more than the names bound by Forall */
+    SPOREFLASK_PARAMETER_MISMATCH = 17      /* strict mode: the parameter's type as written; the one wanted. Only
+                                               the names that Forall binds may differ */
 };
 
 /* The first word of a node of the tree; behind each rule the number of its children. */

@@ -298,7 +298,7 @@ unfoldable pub sameVar : Letters → TyVar → TyVar → Bool
 sameVar [] a b = sameName a b
 sameVar ((c, d) ∷ ls) a b = pick (sameName c a || sameName d b) (sameName c a && sameName d b) (sameVar ls a b)
 
--- no Forall binds an ETVar (reading 2.1)
+-- in this comparison no Forall binds an ETVar (reading 2.1), though in `occurs` and `subst` it does
 unfoldable pub sameTy : Letters → Ty → Ty → Bool
 sameTy ls int B = eqb (tyCode B) 1
 sameTy ls bool B = eqb (tyCode B) 2

@@ -142,6 +142,8 @@ letterCases =
     equal (35 ∷ 3 ∷ tyWords (v 2)) (all 1 (v 1)) (all 2 (u 3))
     ∷ unequal (35 ∷ 3 ∷ tyWords (v 4)) (all 1 (v 1)) (all 2 (u 3)) (all 2 (v 4))
     ∷ equal (35 ∷ 3 ∷ tyWords (identity 4)) (all 1 (arrow (identity 1) (v 1))) (all 2 (arrow (u 3) (v 2)))
+    ∷  -- against all A. A to Int: ChkAll has opened that Forall, and A is free
+    (384, 2 ∷ 1 ∷ 0 ∷ 7 ∷ 18 ∷ 5 ∷ 3 ∷ 2 ∷ 22 ∷ 1 ∷ 0 ∷ 0 ∷ 6 ∷ 6 ∷ 1 ∷ 5 ∷ 3 ∷ 1 ∷ 1 ∷ [], begins 17 0 (2 ∷ 3 ∷ 2 ∷ 2 ∷ 3 ∷ 1 ∷ []))
     ∷ []
 
 pub other-letters : map (λ c. seen (asked c) (c .2)) letterCases ≡ map (λ c. c .2) letterCases

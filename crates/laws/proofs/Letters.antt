@@ -1,5 +1,6 @@
 -- Order 2's equality of strict parameters, `sameTy []`: it is an equality; name for name on types without Forall; it holds exactly where
--- renaming bound names leads from one type to the other; and which of two names is bound cannot be exchanged.
+-- renaming bound names leads from one type to the other; and which of two names is bound cannot be exchanged, where either is free under the
+-- Forall.
 use mathlib.Core.Path.{_≡_, refl, sym, subst, ap, ap₂, _∙_}
 use mathlib.Core.Logic.{_↔_, _≢_}
 use Prim.Native.Nat.{ℕ, zero, suc, _+_, _≤_, _<_}
@@ -14,8 +15,8 @@ use Rattle.definition.specs.Syntax.{pick, TyVar, Ty, int, bool, var, etvar, arr
 use Rattle.definition.specs.Run.{done, fail, give, refuse}
 use Rattle.definition.specs.Types.{sameName, isMono, apply}
 use Rattle.definition.specs.Rules.{tyCode, asVar, asETVar, asArrow, asForall, _orElse_, on, Letters, sameVar, sameTy, parameter}
-use Rattle.laws.specs.Letters.{spelt, free, renamed, Relettered, relettered, unchanged, back, further, inArrow, inForall}
-use Rattle.laws.proofs.Steps.{is-true, is-false, bind-done}
+use Rattle.laws.specs.Letters.{stands, free, renamed, Relettered, relettered, unchanged, back, further, inArrow, inForall}
+use Rattle.laws.proofs.Steps.{is-true, is-false, neither, bind-done}
 
 -- ## Tests
 
@@ -25,10 +26,6 @@ no e = absurd (subst (λ (b : Bool). T b) (sym e) tt)
 both : (p q : Bool) → (p && q) ≡ true → (p ≡ true) × (q ≡ true)
 both true q e = (refl, e)
 both false q e = no e
-
-neither : (p q : Bool) → (p || q) ≡ false → (p ≡ false) × (q ≡ false)
-neither true q e = no (sym e)
-neither false q e = (refl, e)
 
 second : (p : Bool) {q : Bool} → q ≡ true → (p || q) ≡ true
 second true e = refl
@@ -151,13 +148,13 @@ chain-step false false true e f h = f
 chain-step false false false e f h = h e f
 
 -- where each name that stands in a type means itself
-own : (ls : Letters) (A : Ty) → ((c : TyVar) → spelt c A ≡ true → sameVar ls c c ≡ true) → SameAs ls A A
-unfolding spelt sameVar
+own : (ls : Letters) (A : Ty) → ((c : TyVar) → stands c A ≡ true → sameVar ls c c ≡ true) → SameAs ls A A
+unfolding stands sameVar
 own ls int h = ints
 own ls bool h = bools
 own ls (var a) h = vars (h a (own-name a))
 own ls (etvar a) h = etvars
-own ls (arrow A B) h = arrows (own ls A (λ c e. h c (rw e))) (own ls B (λ c e. h c (second (spelt c A) e)))
+own ls (arrow A B) h = arrows (own ls A (λ c e. h c (rw e))) (own ls B (λ c e. h c (second (stands c A) e)))
 own ls (forall a A) h = foralls (own ((a, a) ∷ ls) A (λ c e. own-step (sameName a c) (λ f. h c (rw (f, e)))))
 
 pub reflexive : (A : Ty) → sameTy [] A A ≡ true
@@ -224,8 +221,8 @@ name-for-name A B m = (λ e. without m (related [] A B e), λ e. rw e (reflexive
 
 -- where a and b mean the same, and each other name that stands in a type means itself
 rename : (a b : TyVar) (ls : Letters) (A : Ty) → sameVar ls a b ≡ true
-    → ((c : TyVar) → spelt c A ≡ true → sameName c a ≡ false → sameVar ls c c ≡ true) → spelt b A ≡ false → SameAs ls A (renamed a b A)
-unfolding sameVar spelt renamed pick
+    → ((c : TyVar) → stands c A ≡ true → sameName c a ≡ false → sameVar ls c c ≡ true) → stands b A ≡ false → SameAs ls A (renamed a b A)
+unfolding sameVar stands renamed pick
 rename a b ls int k h s = ints
 rename a b ls bool k h s = bools
 rename a b ls (var c) k h s = by (sameName c a) refl
@@ -235,30 +232,30 @@ rename a b ls (var c) k h s = by (sameName c a) refl
     by false e = vars (h c (own-name c) e)
 rename a b ls (etvar c) k h s = etvars
 rename a b ls (arrow A B) k h s =
-    let p = neither (spelt b A) _ s in
-    arrows (rename a b ls A k (λ c e. h c (rw e)) (p .0)) (rename a b ls B k (λ c e. h c (second (spelt c A) e)) (p .1))
+    let p = neither (stands b A) _ s in
+    arrows (rename a b ls A k (λ c e. h c (rw e)) (p .0)) (rename a b ls B k (λ c e. h c (second (stands c A) e)) (p .1))
 rename a b ls (forall c A) k h s =
     foralls (by (sameName c a) refl (λ e. rename a b ((c, c) ∷ ls) A (rw (e, p .0) k) (λ d f g. own-step (sameName c d) (λ i. inside d f g i)) (p .1)))
   where
-    p : (sameName c b ≡ false) × (spelt b A ≡ false)
+    p : (sameName c b ≡ false) × (stands b A ≡ false)
     p = neither (sameName c b) _ s
 
-    inside : (d : TyVar) → spelt d A ≡ true → sameName d a ≡ false → sameName c d ≡ false → sameVar ls d d ≡ true
+    inside : (d : TyVar) → stands d A ≡ true → sameName d a ≡ false → sameName c d ≡ false → sameVar ls d d ≡ true
     inside d e f g = h d (rw (g, e)) f
 
     by : (q : Bool) → sameName c a ≡ q → (sameName c a ≡ false → SameAs ((c, c) ∷ ls) A (renamed a b A)) → SameAs ((c, c) ∷ ls) A (pick q A (renamed a b A))
     by true e f = own ((c, c) ∷ ls) A (λ d i. own-step (sameName c d) (λ g. inside d i (name-sym d a ∙ ap (λ x. sameName x d) (sym (one-name c a e)) ∙ g) g))
     by false e f = f e
 
-pub renaming : (a b : TyVar) (A : Ty) → spelt b A ≡ false → sameTy [] (forall a A) (forall b (renamed a b A)) ≡ true
+pub renaming : (a b : TyVar) (A : Ty) → stands b A ≡ false → sameTy [] (forall a A) (forall b (renamed a b A)) ≡ true
 unfolding sameVar pick
 renaming a b A s = passed (foralls (rename a b ((a, b) ∷ []) A (rw (own-name a, own-name b)) others s))
   where
-    others : (c : TyVar) → spelt c A ≡ true → sameName c a ≡ false → sameVar ((a, b) ∷ []) c c ≡ true
+    others : (c : TyVar) → stands c A ≡ true → sameName c a ≡ false → sameVar ((a, b) ∷ []) c c ≡ true
     others c e f = by (sameName b c) refl
       where
         by : (p : Bool) → sameName b c ≡ p → sameVar ((a, b) ∷ []) c c ≡ true
-        by true g = no (sym s ∙ ap (λ x. spelt x A) (one-name b c g) ∙ e)
+        by true g = no (sym s ∙ ap (λ x. stands x A) (one-name b c g) ∙ e)
         by false g = rw (name-sym a c, f, g) (own-name c)
 
 -- ## Exactly so do they differ only in the names bound by Forall
@@ -316,14 +313,14 @@ larger : (c b : TyVar) → c .number < b .number → sameName c b ≡ false
 unfolding sameName
 larger c b h = let z : c .number ≢ b .number = λ e. omega arith in is-false _ (no-eqb z)
 
-unspelt : (b : TyVar) (A : Ty) → above A ≤ b .number → spelt b A ≡ false
-unfolding above spelt
-unspelt b int h = refl
-unspelt b bool h = refl
-unspelt b (var c) h = larger c b (omega arith)
-unspelt b (etvar c) h = refl
-unspelt b (arrow A B) h = ap₂ _||_ (unspelt b A (omega arith)) (unspelt b B (omega arith))
-unspelt b (forall c A) h = ap₂ _||_ (larger c b (omega arith)) (unspelt b A (omega arith))
+stands-not : (b : TyVar) (A : Ty) → above A ≤ b .number → stands b A ≡ false
+unfolding above stands
+stands-not b int h = refl
+stands-not b bool h = refl
+stands-not b (var c) h = larger c b (omega arith)
+stands-not b (etvar c) h = refl
+stands-not b (arrow A B) h = ap₂ _||_ (stands-not b A (omega arith)) (stands-not b B (omega arith))
+stands-not b (forall c A) h = ap₂ _||_ (larger c b (omega arith)) (stands-not b A (omega arith))
 
 -- what falls from a type to its parts, renamed or not
 unfoldable depth : Ty → ℕ
@@ -359,8 +356,8 @@ opened : (a b : TyVar) (A B : Ty) → sameTy [] (forall a A) (forall b B) ≡ tr
     → sameTy [] (renamed a (new A B) A) (renamed b (new A B) B) ≡ true
 opened a b A B e =
     let c = new A B in
-    let p = renaming a c A (unspelt c A (omega arith)) in
-    let q = renaming b c B (unspelt c B (omega arith)) in
+    let p = renaming a c A (stands-not c A (omega arith)) in
+    let q = renaming b c B (stands-not c B (omega arith)) in
     sym (under c (renamed a c A) (renamed b c B))
     ∙ transitive _ (forall a A) _ (symmetric (forall a A) _ p) (transitive (forall a A) (forall b B) _ e q)
 
@@ -375,8 +372,8 @@ reletters (suc n) h (arrows s s′) = inArrow (reletters n (omega arith) s) (rel
 reletters (suc n) h (foralls {a = a} {b = b} {A = A} {B = B} s) =
     let c = new A B in
     let r = related [] (renamed a c A) (renamed b c B) (opened a b A B (passed (foralls s))) in
-    further (relettered a c A (unspelt c A (omega arith)))
-    (further (inForall c (reletters n (omega (arith, renamed-depth a c A)) r)) (back (relettered b c B (unspelt c B (omega arith)))))
+    further (relettered a c A (stands-not c A (omega arith)))
+    (further (inForall c (reletters n (omega (arith, renamed-depth a c A)) r)) (back (relettered b c B (stands-not c B (omega arith)))))
 
 pub only-bound-names : (A B : Ty) → (sameTy [] A B ≡ true) ↔ Relettered A B
 only-bound-names A B = (λ e. reletters (suc (depth A)) (le-refl (suc (depth A))) (related [] A B e), relettered-same)

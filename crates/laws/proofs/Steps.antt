@@ -1,7 +1,7 @@
 -- Stepping through a run: what a charge and a bind come to.
-use mathlib.Core.Path.{_≡_, refl}
+use mathlib.Core.Path.{_≡_, refl, subst}
 use Prim.Native.Nat.{ℕ, _-_, _≤_, _<_}
-use mathlib.Core.Bool.{Bool, true, false, not}
+use mathlib.Core.Bool.{Bool, true, false, not, _||_}
 use native.Mathlib.Nat.{lt-of-not-le}
 use native.Mathlib.Decide.{decLe}
 use lib.Dec.{T, leb, le→leb}
@@ -18,6 +18,10 @@ is-true false t = absurd t
 pub is-false : (b : Bool) → T (not b) → b ≡ false
 is-false true t = absurd t
 is-false false t = refl
+
+pub neither : (b c : Bool) → (b || c) ≡ false → (b ≡ false) × (c ≡ false)
+neither true c e = absurd (subst (λ (b : Bool). T b) e tt)
+neither false c e = (refl, e)
 
 pub pick-true : {A : Type 0} {b : Bool} (x y : A) → b ≡ true → pick b x y ≡ x
 unfolding pick

@@ -15,7 +15,7 @@ use Rattle.definition.specs.Question.{Read, got, fault, Question, readQuestion,
 use Rattle.definition.specs.Reply.{Reply, refusal, readReply, workWords, reply}
 use Rattle.laws.specs.OtherBudgets.{Allowed, replyWith}
 use Rattle.laws.specs.Count.{IsRun}
-use Rattle.laws.proofs.Steps.{is-false}
+use Rattle.laws.proofs.Steps.{is-false, neither}
 
 -- ## The test for a number outside of 1 to high
 
@@ -23,10 +23,6 @@ pub within : {high x : ℕ} → 1 ≤ x → x ≤ high → (eqb x 0 || ltb high 
 within {high} {x} h k =
     let p : x ≢ 0 = λ e. not-suc-le-zero (rw e at h) in
     ap (_|| ltb high x) (is-false (eqb x 0) (no-eqb p)) ∙ is-false (ltb high x) (no-ltb k)
-
-neither : (a b : Bool) → (a || b) ≡ false → (a ≡ false) × (b ≡ false)
-neither true b e = let z : _≡_ {A = ℕ} 0 1 = cc in absurd (omega arith)
-neither false b e = (refl, e)
 
 positive : (n : ℕ) → n ≢ 0 → 1 ≤ n
 positive zero h = absurd (h refl)

@@ -1,17 +1,18 @@
--- Order 2: what is said of bound and free names, and what it is to differ "only in the names bound by Forall". No Forall binds an ETVar.
+-- Order 2: what is said of bound and free names, and what it is to differ "only in the names bound by Forall". Names are here those of Vars: in
+-- this comparison no Forall binds an ETVar.
 use mathlib.Core.Path.{_≡_}
 use mathlib.Core.Bool.{Bool, false, not, _&&_, _||_}
 use Rattle.definition.specs.Syntax.{pick, TyVar, Ty, int, bool, var, etvar, arrow, forall}
 use Rattle.definition.specs.Types.{sameName}
 
 -- whether a name stands in a type, at a Forall or as a Var
-unfoldable pub spelt : TyVar → Ty → Bool
-spelt x int = false
-spelt x bool = false
-spelt x (var c) = sameName c x
-spelt x (etvar c) = false
-spelt x (arrow A B) = spelt x A || spelt x B
-spelt x (forall c A) = sameName c x || spelt x A
+unfoldable pub stands : TyVar → Ty → Bool
+stands x int = false
+stands x bool = false
+stands x (var c) = sameName c x
+stands x (etvar c) = false
+stands x (arrow A B) = stands x A || stands x B
+stands x (forall c A) = sameName c x || stands x A
 
 -- whether it stands there as a Var that no Forall binds
 unfoldable pub free : TyVar → Ty → Bool
@@ -31,10 +32,10 @@ renamed a b (etvar c) = etvar c
 renamed a b (arrow A B) = arrow (renamed a b A) (renamed a b B)
 renamed a b (forall c A) = forall c (pick (sameName c a) A (renamed a b A))
 
--- The second came of the first by renaming bound names, one Forall at a time and anywhere in the type, each to a name that stands nowhere
--- under that Forall; or the first of the second.
+-- One is reached from the other by steps. Each renames the letter of one Forall, anywhere in the type, to a name that stands nowhere under that
+-- Forall, or takes such a renaming back.
 pub data Relettered : Ty → Ty → Type 0 where
-  relettered : (a b : TyVar) (A : Ty) → spelt b A ≡ false → Relettered (forall a A) (forall b (renamed a b A))
+  relettered : (a b : TyVar) (A : Ty) → stands b A ≡ false → Relettered (forall a A) (forall b (renamed a b A))
   unchanged : (A : Ty) → Relettered A A
   back : {A B : Ty} → Relettered A B → Relettered B A
   further : {A B C : Ty} → Relettered A B → Relettered B C → Relettered A C

@@ -19,7 +19,7 @@ use Rattle.definition.specs.Rules.{tyCode, Letters, sameTy, Result, Here, judge
 use Rattle.definition.specs.Reply.{Reply, refusal, most, resultWords, answer, outReply, reply}
 use Rattle.definition.specs.Memory.{Call, call}
 use Rattle.definition.specs.Host.{byteReply}
-use Rattle.laws.specs.Letters.{spelt, free, renamed}
+use Rattle.laws.specs.Letters.{stands, free, renamed}
 use Rattle.laws.specs.Codes.{Late, replyCodes, isOneOf, Listed, EndsListed}
 use Rattle.laws.specs.OtherBudgets.{Allowed, Settled, atBudget, replyWith, WithEnough}
 use Rattle.laws.specs.Count.{charged, Count, countTo, Passes, IsRun}
@@ -150,7 +150,7 @@ name-for-name = laws-proofs.Letters.name-for-name
 
 -- a bound name may be renamed to one that stands nowhere under its Forall; which of two names is bound cannot be exchanged, where either is free
 -- under the Forall; types of two forms are not equal, Var and ETVar among them
-pub renaming : (a b : TyVar) (A : Ty) → spelt b A ≡ false → sameTy [] (syntax.forall a A) (syntax.forall b (renamed a b A)) ≡ true
+pub renaming : (a b : TyVar) (A : Ty) → stands b A ≡ false → sameTy [] (syntax.forall a A) (syntax.forall b (renamed a b A)) ≡ true
 renaming = laws-proofs.Letters.renaming
 
 pub exchanging : (a b : TyVar) (A : Ty) → sameName a b ≡ false → (free a A || free b A) ≡ true → sameTy [] (syntax.forall a A) (syntax.forall b A) ≡ false

@@ -11,8 +11,8 @@
 --   Passes                     a count is none, or larger than a budget: the same file
 --   Allowed                    a budget from 1 to 8,192, and work that is long enough for it: crates/laws/specs/OtherBudgets.antt
 --   Settled                    a code that is none of 1, 2 and 6: the same file
---   AlikeQuestions             well-formed questions that are alike by a pairing of their names: crates/alike/specs/Alike.antt
 --   Relettered                 two types that differ only in the names bound by Forall: crates/laws/specs/Letters.antt
+--   AlikeQuestions             well-formed questions that are alike by a pairing of their names: crates/alike/specs/Alike.antt
 --   Pairing, itself            a pairing of variables' and of types' names; the one of every name with itself: the same file
 --   Change, pairing, change    new names and literals; how they pair the names; words with them: crates/alike/proofs/Changes.antt
 -- b is a question's bytes, q its words, Q what they are read as; w and s are the slices before a call, w′ and s′ after it, ns the four numbers,

@@ -21,7 +21,7 @@ use Rattle.types.specs.Reading.{Held, HeldAs, Tagged, rank, LeftOf, RightOf, Bo
 use Rattle.types.proofs.Held.{held-as, held-named, left-below, right-below, body-below}
 use Rattle.types.proofs.Cases.{by-base, by-name, by-arrow, by-forall}
 use Rattle.walks.specs.Letters.{BothNamed, BothNames, lettersAt, Comparing, Same}
-use Rattle.walks.specs.declared.LetterPair.{LetterPair}
+use Rattle.walks.specs.declared.NamePair.{NamePair}
 use Rattle.walks.proofs.Letters.{below, letters-stay, laid}
 
 -- ## What a call asks for
@@ -121,7 +121,7 @@ module _ {v : ℕ} (i : OneCode v) where
       (λ d. by-base (λ B. true ≡ sameTy (lettersOf i) bool B) (i .two) l (λ e. absurd (omega (arith, i .one .is bool d, i .two .is int e))) (λ e. refl) B e)
       A d)
 
-  module _ {p : LetterPair} (x : BothNames (i .q) (i .w) (i .t) (i .r) (i .s) p) where
+  module _ {p : NamePair} (x : BothNames (i .q) (i .w) (i .t) (i .r) (i .s) p) where
     pub same-vars : {z : Bool} → i .k ≡ 3 → z ≡ sameVar (lettersOf i) (ty (p .a)) (ty (p .b)) → Tells i (i .w) z
     unfolding tyCode sameTy on _orElse_ asVar
     same-vars {z} three f = told (λ A B d e. by-name (λ A. z ≡ sameTy (lettersOf i) A B) (i .one) (omega arith) (omega arith)
@@ -226,7 +226,7 @@ module _ {v : ℕ} (j : LeftsCompared v) where
 pub record Foralls (v : ℕ) : Type 0 where
   pub on : OneCode v
   pub six : on .k ≡ 6
-  pub p : LetterPair
+  pub p : NamePair
   pub letters : BothNames (on .q) (on .w) (on .t) (on .r) (on .s) p
   pub under : ℕ
   pub under′ : ℕ

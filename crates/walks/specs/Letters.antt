@@ -10,14 +10,15 @@ use Rattle.layout.specs.Words.{Keep}
 use Rattle.layout.specs.Places.{size}
 use Rattle.layout.specs.Denotes.{Den}
 use Rattle.types.specs.Reading.{Held, HeldNamed, Named}
-use Rattle.walks.specs.declared.LetterPair.{LetterPair}
+use Rattle.walks.specs.declared.NamePair.{NamePair}
 
--- both denote a type that begins with a name, and p has the names
+-- both denote a type that begins with a name
 pub record BothNamed (q w : List ℕ) (t r s : ℕ) : Type 0 where
   pub one : HeldNamed q w t r
   pub two : HeldNamed q w t s
 
-pub record BothNames (q w : List ℕ) (t r s : ℕ) (p : LetterPair) : Type 0 where
+-- and p has the two names
+pub record BothNames (q w : List ℕ) (t r s : ℕ) (p : NamePair) : Type 0 where
   pub one : Named q w t r (p .a)
   pub two : Named q w t s (p .b)
 

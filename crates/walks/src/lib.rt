@@ -72,24 +72,24 @@ pub fn occurs_check(q: &[u32], work: &[u32], top: usize, a: TyVar, r: usize) -> 
     }
 }
 
-// The letters of two Vars, two ETVars or two Foralls.
-struct LetterPair {
+// The names of two Vars, two ETVars or two Foralls.
+struct NamePair {
     a: TyVar,
     b: TyVar,
 }
 
-fn letters_of(q: &[u32], work: &[u32], top: usize, r: usize, s: usize) -> LetterPair
+fn names_of(q: &[u32], work: &[u32], top: usize, r: usize, s: usize) -> NamePair
     requires { ⌜ BothNamed (now q) (now work) top r s ⌝ }
     ensures { λ p. ⌜ BothNames (now (q .entry)) (now (work .entry)) top r s p ⌝ }
 {
     let a = name_of(q, work, top, r);
     let b = name_of(q, work, top, s);
-    LetterPair { a: a, b: b }
+    NamePair { a: a, b: b }
 }
 
 // Whether two Vars mean the same under n pairs of letters in work, the innermost last: the innermost pair that has one of them has both; where
 // none has, both are free.
-fn same_var(work: &[u32], top: usize, n: usize, p: LetterPair) -> bool
+fn same_var(work: &[u32], top: usize, n: usize, p: NamePair) -> bool
     requires { ⌜ top + 2 * n ≤ length (now work) ⌝ }
     ensures { λ z. ⌜ z ≡ sameVar (lettersAt (now (work .entry)) top n) (ty (p .a)) (ty (p .b)) ⌝ }
 {
@@ -112,7 +112,7 @@ fn same_var(work: &[u32], top: usize, n: usize, p: LetterPair) -> bool
 }
 
 // Whether two types differ at most in the names bound by Forall, under n pairs of letters that lie in work from top on. For each two Foralls
-// passed their pair is laid past the others; no Forall binds an ETVar.
+// passed their pair is laid past the others. An ETVar is compared under none of them.
 pub fn same_type(q: &[u32], work: &mut [u32], top: usize, n: usize, r: usize, s: usize) -> bool
     requires { ⌜ Comparing (now q) (now work) top n r s ⌝ }
     ensures { λ b. ⌜ Same (now (q .entry)) (now (work .entry)) (now (work .exit)) top n r s b ⌝ }
@@ -123,8 +123,8 @@ pub fn same_type(q: &[u32], work: &mut [u32], top: usize, n: usize, r: usize, s:
         return false;
     }
     match k {
-        3 => same_var(work, top, n, letters_of(q, work, top, r, s)),
-        4 => same_var(work, top, 0, letters_of(q, work, top, r, s)),
+        3 => same_var(work, top, n, names_of(q, work, top, r, s)),
+        4 => same_var(work, top, 0, names_of(q, work, top, r, s)),
         5 => {
             let left = left_of(q, work, top, r);
             let other_left = left_of(q, work, top, s);
@@ -137,7 +137,7 @@ pub fn same_type(q: &[u32], work: &mut [u32], top: usize, n: usize, r: usize, s:
             false
         }
         6 => {
-            let p = letters_of(q, work, top, r, s);
+            let p = names_of(q, work, top, r, s);
             let body = body_of(q, work, top, r);
             let other_body = body_of(q, work, top, s);
             put2(work, top + 2 * n, p.a.0 as usize, p.b.0 as usize);

@@ -107,12 +107,12 @@ fn hold_parameters(words: &[u32], full: &Reply, tally: &mut Tally) -> Result<(),
         let (written, applied) = shown(&question, full)?;
         tally.letters.refused += u64::from(holds_forall(&written) && holds_forall(&applied));
     }
-    match root_mismatch(&question) {
-        Some(wanted) if wanted != *full => {
-            Err(format!("  the parameter differs\n  got    {full}\n  wanted {wanted}"))
-        }
-        _ => Ok(()),
+    let Some(wanted) = root_mismatch(&question) else { return Ok(()) };
+    tally.letters.worked_out += 1;
+    if wanted != *full {
+        return Err(format!("  the parameter differs\n  got    {full}\n  wanted {wanted}"));
     }
+    Ok(())
 }
 
 /// Holds the units and places of a success to its own tree.
@@ -171,7 +171,7 @@ pub fn compare(count: u64, seed: u64) -> Result<(), String> {
         compare_one(&mut maker, words, &mut tally)?;
     }
     print!("{tally}{}", tally.letters);
-    let missing = [tally.missing(), tally.letters.missing()].concat();
+    let missing = [tally.missing(), tally.letters.missing(tally.held)].concat();
     if count >= ENOUGH && !missing.is_empty() {
         return Err(format!("not reached: {}", missing.join(", ")));
     }

@@ -160,7 +160,7 @@ pub fn record(count: usize, seed: u64, date: &str, letters: bool) -> Result<(), 
     println!("# line: budget work room | question | code at length units | report");
     println!("# answers {}", chosen.lines.len());
     let (told, missing) = if letters {
-        (format!("{tally}{}", tally.letters), tally.letters.missing())
+        (format!("{tally}{}", tally.letters), tally.letters.missing(tally.held))
     } else {
         (tally.to_string(), tally.missing())
     };

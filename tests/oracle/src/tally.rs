@@ -22,13 +22,21 @@ pub struct Letters {
     pub refused: u64,
     /// Questions with a ChkLam that were held to the plain twin's tree.
     pub twins: u64,
+    /// 17s at the root, worked out from the question.
+    pub worked_out: u64,
 }
 
 impl Letters {
-    pub fn missing(&self) -> Vec<String> {
-        let counts = [(self.accepted, "other letters accepted"), (self.refused, "17 of Foralls")];
-        let none = counts.into_iter().filter(|(count, _)| *count == 0);
-        none.map(|(_, name)| name.to_string()).collect()
+    /// What was reached less often than is usual, of so many questions held to the original.
+    pub fn missing(&self, held: u64) -> Vec<String> {
+        let usual = [
+            (self.accepted, 10, "other letters accepted"),
+            (self.refused, 15, "17 of Foralls"),
+            (self.twins, 6, "strict with ChkLam by a plain twin"),
+            (self.worked_out, 25, "17 at the root worked out"),
+        ];
+        let seldom = usual.into_iter().filter(|(count, of, _)| count * of < held);
+        seldom.map(|(_, _, name)| name.to_string()).collect()
     }
 }
 
@@ -36,6 +44,7 @@ impl fmt::Display for Letters {
     fn fmt(&self, f: &mut fmt::Formatter) -> fmt::Result {
         writeln!(f, "strict parameters accepted in other letters: {}", self.accepted)?;
         writeln!(f, "17s of two types that both hold a Forall: {}", self.refused)?;
+        writeln!(f, "17s at the root, worked out from the question: {}", self.worked_out)?;
         writeln!(
             f,
             "strict with ChkLam, held to the plain twin and so to the original: {}",

@@ -15,7 +15,7 @@ use Rattle.types.proofs.body_of.Reads as body-of-reads
 use Rattle.types.proofs.left_of.Reads as left-of-reads
 use Rattle.types.proofs.right_of.Reads as right-of-reads
 use Rattle.types.proofs.tag.Reads as tag-reads
-use Rattle.walks.proofs.letters_of.Reads as letters-of-reads
+use Rattle.walks.proofs.names_of.Reads as names-of-reads
 use Rattle.walks.proofs.same_var.Reads as same-var-reads
 use native.Mathlib.Omega.{arith}
 use Rattle.walks.proofs.Same.{OneCode, Arrows, LeftsCompared, Foralls, PairLaid, vars-named, etvars-named, foralls-named, one-as, two-as, lefts-below, rights-below, bodies-below, pair-room, same-apart, same-base, same-vars, same-etvars, same-no, same-both, same-under}
@@ -34,8 +34,8 @@ abbrev same-type-claims : ℕ → same-type-lts.Claims
 same-type-claims t = (
   tag-reads.Asked,
   tag-reads.Learnt,
-  letters-of-reads.Asked,
-  letters-of-reads.Learnt,
+  names-of-reads.Asked,
+  names-of-reads.Learnt,
   same-var-reads.Asked,
   same-var-reads.Learnt,
   left-of-reads.Asked,
@@ -90,11 +90,11 @@ module _ (t : ℕ) where
 
   abbrev foralls : same-type-lts.After-body-of2 (same-type-claims t) (same-type-at t) same-type.Post → Foralls t
   foralls c =
-      let at-body-of = c .before .before in let at-letters-of = at-body-of .before .before in let at-match = at-letters-of .before .before in record {
+      let at-body-of = c .before .before in let at-names-of = at-body-of .before .before in let at-match = at-names-of .before .before in record {
         on = one-code (at-match .before);
         six = at-match .match .keys4;
         p = _;
-        letters = at-letters-of .letters-of3 .ensures;
+        letters = at-names-of .names-of3 .ensures;
         under = _;
         under′ = _;
         body = at-body-of .body-of .ensures;
@@ -115,8 +115,8 @@ same-type-closed t =
     (λ c κs. one-as (one-code t (search)) 6 (search)) (λ c κs. two-as (one-code t (search)) 6 (search)) (λ c. omega arith) (λ c. omega arith)
     (λ c. search needs) (λ c. search needs) (λ c κs. (pair-room (foralls t (search)), search needs, search needs))
     (λ c. let i = foralls t (search) in omega (arith, pair-room i, i .on .comparing .one .cap)) (λ c κs. bodies-below (laid t (search)))
-    (λ c. search needs) (λ c. same-vars (one-code t (search)) (c .before .letters-of .ensures) (search) (search)) (λ c. search needs)
-    (λ c. same-etvars (one-code t (search)) (c .before .letters-of2 .ensures) (search) (search)) (λ c. search needs)
+    (λ c. search needs) (λ c. same-vars (one-code t (search)) (c .before .names-of .ensures) (search) (search)) (λ c. search needs)
+    (λ c. same-etvars (one-code t (search)) (c .before .names-of2 .ensures) (search) (search)) (λ c. search needs)
     (λ c. same-no (lefts t (search)) (search)) (λ c. search needs) (λ c. same-under (laid t (search)) (search)) (λ c. search needs)
     (λ c. same-base (one-code t (search)) (search) (search) (search) (search))
 
