@@ -380,15 +380,18 @@ only-bound-names A B = (λ e. reletters (suc (depth A)) (le-refl (suc (depth A))
 
 -- ## What strict ChkLam does
 
+-- once application has made P′ of the expected parameter
+pub compares : (Γ : Ctx) (A P : Ty) {P′ : Ty} (l n : ℕ) {l′ n′ : ℕ} → apply Γ P l n ≡ done P′ l′ n′
+    → parameter true Γ A P l n ≡ pick (sameTy [] A P′) (give tt) (refuse (parameterMismatch A P′)) l′ n′
+unfolding parameter
+compares Γ A P l n e = bind-done (apply Γ P) _ l n e
+
 -- with P′ from application: it goes on for nothing where the written A differs from P′ in no more, and else refuses
 pub strict-parameter : (Γ : Ctx) (A P : Ty) {P′ : Ty} (l n : ℕ) {l′ n′ : ℕ} → apply Γ P l n ≡ done P′ l′ n′
     → (Relettered A P′ → parameter true Γ A P l n ≡ done tt l′ n′) × ((Relettered A P′ → ⊥) → parameter true Γ A P l n ≡ fail (parameterMismatch A P′) l′)
-unfolding parameter give refuse pick
-strict-parameter Γ A P {P′} l n {l′} {n′} e = (λ r. step ∙ rw (only-bound-names A P′ .1 r) refl, λ h. step ∙ by (sameTy [] A P′) refl h)
+unfolding give refuse pick
+strict-parameter Γ A P {P′} l n {l′} {n′} e = (λ r. compares Γ A P l n e ∙ rw (only-bound-names A P′ .1 r) refl, λ h. compares Γ A P l n e ∙ by (sameTy [] A P′) refl h)
   where
-    step : parameter true Γ A P l n ≡ pick (sameTy [] A P′) (give (tt {0})) (refuse (parameterMismatch A P′)) l′ n′
-    step = bind-done (apply Γ P) _ l n e
-
     by : (p : Bool) → sameTy [] A P′ ≡ p → (Relettered A P′ → ⊥) → pick p (give (tt {0})) (refuse (parameterMismatch A P′)) l′ n′ ≡ fail (parameterMismatch A P′) l′
     by true f h = absurd (h (only-bound-names A P′ .0 f))
     by false f h = refl

@@ -10,6 +10,7 @@ use Rattle.definition.specs.Run.{Out, done, M, andThen, give, refuse, _>>=_}
 use Rattle.definition.specs.Types.{apply, subst}
 use Rattle.definition.specs.Rules.{tyCode, on, asForall, sameTy, parameter, branch, instantiate, _orElse_}
 use Rattle.definition.specs.Reply.{errorCode, errorAt}
+use Rattle.laws.proofs.Letters.{compares}
 use Rattle.laws.proofs.Steps.{pick-true, pick-false, bind-done, bind-stop}
 use Rattle.layout.specs.Words.{Keep}
 use Rattle.layout.specs.Places.{size}
@@ -103,12 +104,6 @@ once-compared {w₁ = w₁} {w₂ = w₂} {s₁ = s₁} Γ P m d o same =
       right = den-frame kept (le-refl _) (o .den);
       same = same .is _ (o .type) d₁ (o .den);
     }
-
--- the definition's parameter, once the context is applied
-compares : (Γ : Ctx) (A P : Ty) {T : Ty} (l n : ℕ) {l′ n′ : ℕ} → apply Γ P l n ≡ done T l′ n′
-    → parameter true Γ A P l n ≡ pick (sameTy [] A T) (give tt) (refuse (parameterMismatch A T)) l′ n′
-unfolding parameter
-compares Γ A P l n e = bind-done (apply Γ P) _ l n e
 
 module _ {m : Here} {q w : List ℕ} {s : State} {g : Span} {a p : ℕ} where
   pub not-compared : m .manner .«compares_parameter» ≡ false → Compared m q w w s g a p (On s 0 0)
