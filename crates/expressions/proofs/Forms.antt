@@ -6,6 +6,7 @@ use native.Mathlib.Omega.{arith}
 use lib.ListN.{length, getD}
 use Rattle.definition.specs.Syntax.{Ty, Expr, evar, abs, tapp, tabs, ann, litInt, litBool, letIn, binOp}
 use Rattle.layout.specs.Sizes.{ENDS}
+use Rattle.layout.specs.Monotypes.{past}
 use Rattle.layout.specs.Places.{exprSize, size, CodeAt, TyAt, ExprAt, evar-at, app-at, abs-at, tapp-at, tabs-at, ann-at, litInt-at, litBool-at, letIn-at, ifThenElse-at, binOp-at}
 use Rattle.layout.specs.Denotes.{Base}
 use Rattle.layout.proofs.Places.{expr-code, ty-code}
@@ -26,10 +27,6 @@ pub record IsLitBool (p : ℕ) (e : Expr) : Type 0 where
 -- ## The inversion
 
 module _ (q w : List ℕ) (p : ℕ) where
-  -- the place past the item at i, by the table
-  abbrev past : ℕ → ℕ
-  past i = getD w (ENDS + i) 0
-
   -- the name, or the operator, behind the code
   abbrev name : ℕ
   name = getD q (p + 1) 0
@@ -38,16 +35,16 @@ module _ (q w : List ℕ) (p : ℕ) where
   abbrev Form : Expr → ℕ → Type 0
   Form e k =
       nth ((e ≡ evar p (record { number = name }))
-      ∷ IsApp q p (record { func = p + 1; arg = past (p + 1) }) e
-      ∷ IsAbs q p (record { x = record { 0 = name }; ty = p + 2; body = past (p + 2) }) e
-      ∷ IsTyped tapp q p (record { e = p + 1; ty = past (p + 1) }) e
+      ∷ IsApp q p (record { func = p + 1; arg = past w (p + 1) }) e
+      ∷ IsAbs q p (record { x = record { 0 = name }; ty = p + 2; body = past w (p + 2) }) e
+      ∷ IsTyped tapp q p (record { e = p + 1; ty = past w (p + 1) }) e
       ∷ IsTAbs q p (record { a = record { 0 = name }; body = p + 2 }) e
-      ∷ IsTyped ann q p (record { e = p + 1; ty = past (p + 1) }) e
+      ∷ IsTyped ann q p (record { e = p + 1; ty = past w (p + 1) }) e
       ∷ IsLitInt p e
       ∷ IsLitBool p e
-      ∷ IsLet q p (record { x = record { 0 = name }; first = p + 2; body = past (p + 2) }) e
-      ∷ IsIf q p (record { cond = p + 1; yes = past (p + 1); no = past (past (p + 1)) }) e
-      ∷ IsBinOp q p (record { op = name; left = p + 2; right = past (p + 2) }) e
+      ∷ IsLet q p (record { x = record { 0 = name }; first = p + 2; body = past w (p + 2) }) e
+      ∷ IsIf q p (record { cond = p + 1; yes = past w (p + 1); no = past w (past w (p + 1)) }) e
+      ∷ IsBinOp q p (record { op = name; left = p + 2; right = past w (p + 2) }) e
       ∷ []) (k - 16)
 
   by : {c k : ℕ} (e : Expr) → CodeAt q p c → getD q p 0 ≡ k → Form e c → Form e k
@@ -55,10 +52,10 @@ module _ (q w : List ℕ) (p : ℕ) where
 
 module _ {q w : List ℕ} (b : Base q w (length w)) where
   -- the part behind an expression, or behind a type
-  after : {i m : ℕ} {f : Expr} → ExprAt q i f → i + exprSize f ≡ m → getD w (ENDS + i) 0 ≡ m
+  after : {i m : ℕ} {f : Expr} → ExprAt q i f → i + exprSize f ≡ m → past w i ≡ m
   after x m = b .past-expr _ _ x ∙ m
 
-  after-type : {i m : ℕ} {A : Ty} → TyAt q i A → i + size A ≡ m → getD w (ENDS + i) 0 ≡ m
+  after-type : {i m : ℕ} {A : Ty} → TyAt q i A → i + size A ≡ m → past w i ≡ m
   after-type x m = b .past-ty _ _ x ∙ m
 
   form : {p : ℕ} {e : Expr} (k : ℕ) → getD q p 0 ≡ k → ExprAt q p e → Form q w p e k
@@ -113,26 +110,26 @@ module _ {q w : List ℕ} {p : ℕ} where
   pub app-table : Shaped q w p 17 → ENDS + (p + 1) < length w
   app-table s = in-table s (told s (s .at) .func)
 
-  pub app-of : {m : ℕ} → Shaped q w p 17 → m ≡ getD w (ENDS + (p + 1)) 0 → AppOf q p (record { func = p + 1; arg = m })
+  pub app-of : {m : ℕ} → Shaped q w p 17 → m ≡ past w (p + 1) → AppOf q p (record { func = p + 1; arg = m })
   app-of s h = record { is = λ x. rw h (told s x) }
 
   pub abs-table : Shaped q w p 18 → ENDS + (p + 2) < length w
   abs-table s = omega (arith, ty-code (told s (s .at) .type) .inside, s .base .floor)
 
-  pub abs-of : {m : ℕ} → Shaped q w p 18 → m ≡ getD w (ENDS + (p + 2)) 0
+  pub abs-of : {m : ℕ} → Shaped q w p 18 → m ≡ past w (p + 2)
       → AbsOf q p (record { x = record { 0 = getD q (p + 1) 0 }; ty = p + 2; body = m })
   abs-of s h = record { is = λ x. rw h (told s x) }
 
   pub ann-table : Shaped q w p 21 → ENDS + (p + 1) < length w
   ann-table s = in-table s (told s (s .at) .part)
 
-  pub ann-of : {m : ℕ} → Shaped q w p 21 → m ≡ getD w (ENDS + (p + 1)) 0 → TypedOf ann q p (record { e = p + 1; ty = m })
+  pub ann-of : {m : ℕ} → Shaped q w p 21 → m ≡ past w (p + 1) → TypedOf ann q p (record { e = p + 1; ty = m })
   ann-of s h = record { is = λ x. rw h (told s x) }
 
   pub tapp-table : Shaped q w p 19 → ENDS + (p + 1) < length w
   tapp-table s = in-table s (told s (s .at) .part)
 
-  pub tapp-of : {m : ℕ} → Shaped q w p 19 → m ≡ getD w (ENDS + (p + 1)) 0 → TypedOf tapp q p (record { e = p + 1; ty = m })
+  pub tapp-of : {m : ℕ} → Shaped q w p 19 → m ≡ past w (p + 1) → TypedOf tapp q p (record { e = p + 1; ty = m })
   tapp-of s h = record { is = λ x. rw h (told s x) }
 
   pub tabs-of : Shaped q w p 20 → TAbsOf q p (record { a = record { 0 = getD q (p + 1) 0 }; body = p + 2 })
@@ -141,23 +138,23 @@ module _ {q w : List ℕ} {p : ℕ} where
   pub let-table : Shaped q w p 24 → ENDS + (p + 2) < length w
   let-table s = in-table s (told s (s .at) .first)
 
-  pub let-of : {m : ℕ} → Shaped q w p 24 → m ≡ getD w (ENDS + (p + 2)) 0
+  pub let-of : {m : ℕ} → Shaped q w p 24 → m ≡ past w (p + 2)
       → LetOf q p (record { x = record { 0 = getD q (p + 1) 0 }; first = p + 2; body = m })
   let-of s h = record { is = λ x. rw h (told s x) }
 
   pub if-table : Shaped q w p 25 → ENDS + (p + 1) < length w
   if-table s = in-table s (told s (s .at) .cond)
 
-  module _ {m : ℕ} (s : Shaped q w p 25) (h : m ≡ getD w (ENDS + (p + 1)) 0) where
+  module _ {m : ℕ} (s : Shaped q w p 25) (h : m ≡ past w (p + 1)) where
     pub if-table₂ : ENDS + m < length w
     if-table₂ = rw h (in-table s (told s (s .at) .yes))
 
-    pub if-of : {n : ℕ} → n ≡ getD w (ENDS + m) 0 → IfOf q p (record { cond = p + 1; yes = m; no = n })
+    pub if-of : {n : ℕ} → n ≡ past w m → IfOf q p (record { cond = p + 1; yes = m; no = n })
     if-of i = record { is = λ x. rw (i, h) (told s x) }
 
   pub binop-table : Shaped q w p 26 → ENDS + (p + 2) < length w
   binop-table s = in-table s (told s (s .at) .left)
 
-  pub binop-of : {o m : ℕ} → Shaped q w p 26 → o ≡ getD q (p + 1) 0 → m ≡ getD w (ENDS + (p + 2)) 0
+  pub binop-of : {o m : ℕ} → Shaped q w p 26 → o ≡ getD q (p + 1) 0 → m ≡ past w (p + 2)
       → BinOpOf q p (record { op = o; left = p + 2; right = m })
   binop-of s i h = record { is = λ x. rw (i, h) (told s x) }

@@ -1,7 +1,7 @@
 // An expression's parts by its form: names and places in the question. A part that stands behind another begins where that one ends.
-use layout::ENDS;
 use layout::TmVar;
 use layout::TyVar;
+use layout::past;
 use layout::word;
 ghost use mathlib.Core.Path.{_≡_};
 ghost use Prim.Native.Nat.{_+_, _<_};
@@ -50,14 +50,6 @@ pub struct BinOp {
     pub right: usize,
 }
 
-// The place past the item at p, by the table of ends.
-fn end_of(work: &[u32], p: usize) -> usize
-    requires { ⌜ 16 + p < length (now work) ⌝ }
-    ensures { λ e. ⌜ e ≡ getD (now (work .entry)) (16 + p) 0 ⌝ }
-{
-    word(work, ENDS + p)
-}
-
 // The name of a Var.
 pub fn var_of(q: &[u32], work: &[u32], ex: usize) -> TmVar
     requires { ⌜ Shaped (now q) (now work) ex 16 ⌝ }
@@ -74,7 +66,7 @@ pub fn app_of(q: &[u32], work: &[u32], ex: usize) -> App
     ensures { λ o. ⌜ AppOf (now (q .entry)) ex o ⌝ }
 {
     let func = ex + 1;
-    let arg = end_of(work, func);
+    let arg = past(work, func);
     App {
         func: func,
         arg: arg,
@@ -89,7 +81,7 @@ pub fn abs_of(q: &[u32], work: &[u32], ex: usize) -> Abs
     let at = ex + 1;
     let ty = ex + 2;
     let name = q[at];
-    let body = end_of(work, ty);
+    let body = past(work, ty);
     Abs {
         x: TmVar(name),
         ty: ty,
@@ -103,7 +95,7 @@ pub fn ann_of(q: &[u32], work: &[u32], ex: usize) -> Typed
     ensures { λ o. ⌜ TypedOf ann (now (q .entry)) ex o ⌝ }
 {
     let e = ex + 1;
-    let ty = end_of(work, e);
+    let ty = past(work, e);
     Typed { e: e, ty: ty }
 }
 
@@ -113,7 +105,7 @@ pub fn tapp_of(q: &[u32], work: &[u32], ex: usize) -> Typed
     ensures { λ o. ⌜ TypedOf tapp (now (q .entry)) ex o ⌝ }
 {
     let e = ex + 1;
-    let ty = end_of(work, e);
+    let ty = past(work, e);
     Typed { e: e, ty: ty }
 }
 
@@ -139,7 +131,7 @@ pub fn let_of(q: &[u32], work: &[u32], ex: usize) -> Let
     let at = ex + 1;
     let first = ex + 2;
     let name = q[at];
-    let body = end_of(work, first);
+    let body = past(work, first);
     Let {
         x: TmVar(name),
         first: first,
@@ -153,8 +145,8 @@ pub fn if_of(q: &[u32], work: &[u32], ex: usize) -> If
     ensures { λ o. ⌜ IfOf (now (q .entry)) ex o ⌝ }
 {
     let cond = ex + 1;
-    let yes = end_of(work, cond);
-    let no = end_of(work, yes);
+    let yes = past(work, cond);
+    let no = past(work, yes);
     If {
         cond: cond,
         yes: yes,
@@ -170,7 +162,7 @@ pub fn binop_of(q: &[u32], work: &[u32], ex: usize) -> BinOp
     let at = ex + 1;
     let left = ex + 2;
     let op = word(q, at);
-    let right = end_of(work, left);
+    let right = past(work, left);
     BinOp {
         op: op,
         left: left,

@@ -13,13 +13,22 @@ use Rattle.layout.specs.States.{freshName}
 use Rattle.rules.specs.Sides.{openedTy, openedCtx, binder}
 use Rattle.instantiation.proofs.Sides.{instAll}
 
+-- a type without parts is a monotype
+pub leaf-mono : (T : Ty) → tyCode T < 5 → isMono T ≡ true
+unfolding tyCode isMono
+leaf-mono int l = refl
+leaf-mono bool l = refl
+leaf-mono (var a) l = refl
+leaf-mono (etvar a) l = refl
+leaf-mono (arrow A B) l = absurd (omega arith)
+leaf-mono (forall a A) l = absurd (omega arith)
+
 module _ (μ : Here) (judge : Judge) (Γ : Ctx) (a : TyVar) (l n : ℕ) where
   module _ (s : Side) where
     -- a type without parts, unless it is an unknown that can be reached
     solve-is : (T : Ty) → tyCode T < 5 → ((b : TyVar) → T ≡ etvar b → before Γ a b ≡ false)
-        → rule μ judge (inst s Γ a T) l n
-        ≡ (pick (occurs a T) (refuse (occursCheck a T)) (closes (instSolve s) (replace a (setvarBnd a T from μ ∷ []) Γ))) l n
-    unfolding rule instRule solve isMono pick tyCode
+        → rule μ judge (inst s Γ a T) l n ≡ solve μ s Γ a T l n
+    unfolding rule instRule pick tyCode
     solve-is int h f = refl
     solve-is bool h f = refl
     solve-is (var b) h f = refl
@@ -27,15 +36,15 @@ module _ (μ : Here) (judge : Judge) (Γ : Ctx) (a : TyVar) (l n : ℕ) where
     solve-is (arrow A B) h f = absurd (omega arith)
     solve-is (forall b T) h f = absurd (omega arith)
 
-    module _ (T : Ty) (h : tyCode T < 5) (f : (b : TyVar) → T ≡ etvar b → before Γ a b ≡ false) where
+    module _ (T : Ty) (h : tyCode T < 5) (f : (b : TyVar) → T ≡ etvar b → before Γ a b ≡ false) (m : isMono T ≡ true) where
       pub occurs-is : occurs a T ≡ true → rule μ judge (inst s Γ a T) l n ≡ fail (occursCheck a T) l
-      unfolding pick refuse
-      occurs-is e = rw (solve-is T h f, e)
+      unfolding solve pick refuse
+      occurs-is e = rw (solve-is T h f, m, e)
 
       pub solved-is : occurs a T ≡ false
           → rule μ judge (inst s Γ a T) l n ≡ done (instSolve s, int, replace a (setvarBnd a T from μ ∷ []) Γ, leaf) l n
-      unfolding pick closes give
-      solved-is e = rw (solve-is T h f, e)
+      unfolding solve pick closes give
+      solved-is e = rw (solve-is T h f, m, e)
 
     pub reach-is : (b : TyVar) → before Γ a b ≡ true
         → rule μ judge (inst s Γ a (etvar b)) l n ≡ done (instReach s, int, replace b (setvarBnd b (etvar a) from μ ∷ []) Γ, leaf) l n

@@ -1,6 +1,6 @@
 -- The rules without premises.
 use mathlib.Core.Path.{_≡_, refl, sym, _∙_, ap}
-use mathlib.Core.Bool.{Bool, true, false}
+use mathlib.Core.Bool.{Bool, true, false, true≢false}
 use mathlib.Core.List.{List, _∷_, []}
 use Prim.Native.Nat.{ℕ, _+_, _*_, _≤_, _<_, _^_}
 use native.Mathlib.Nat.{le-refl}
@@ -10,7 +10,7 @@ use Rattle.definition.specs.Syntax as syntax
 use Rattle.definition.specs.Syntax.{Ty, int, etvar, setvarBnd, Ctx, Side, Judgement, inst, Rule, ruleNumber, leaf, children, occursCheck}
 use Rattle.definition.specs.Run.{Out, done}
 use Rattle.definition.specs.Contexts.{before, replace}
-use Rattle.definition.specs.Types.{occurs}
+use Rattle.definition.specs.Types.{isMono, occurs}
 use Rattle.definition.specs.Rules.{Fired, _from_, instSolve, instReach, rule, judge}
 use Rattle.definition.specs.Reply.{errorCode, errorAt}
 use Rattle.layout.specs.Names.{ty}
@@ -21,7 +21,7 @@ use Rattle.layout.specs.declared.Span.{Span}
 use Rattle.layout.specs.declared.State.{State}
 use Rattle.layout.specs.declared.TyVar.{TyVar}
 use Rattle.layout.proofs.Words.{keep-less}
-use Rattle.types.specs.Reading.{Held, HeldNamed, Named}
+use Rattle.types.specs.Reading.{Held, HeldNamed, Mono, Named}
 use Rattle.judging.specs.Ending.{Fires}
 use Rattle.rules.proofs.TypeForms.{is-etvar}
 use Rattle.walks.specs.Walks.{Occurs}
@@ -38,7 +38,7 @@ use Rattle.judging.proofs.Asking.{InstAsked, inst-asked}
 use Rattle.judging.proofs.Entries.{as-solved}
 use Rattle.judging.proofs.Chain.{begin, built, refuses, room-on, room-within}
 use Rattle.instantiation.specs.Sides.{FormPre, Meets, SolvePre, ReachPre, SolvedBy}
-use Rattle.instantiation.proofs.Equations.{occurs-is, solved-is, reach-is}
+use Rattle.instantiation.proofs.Equations.{leaf-mono, occurs-is, solved-is, reach-is}
 use Rattle.rules.proofs.Standing.{unknown-named, room-space, ref-small}
 use Rattle.rules.proofs.Premises.{ends}
 
@@ -88,8 +88,18 @@ module _ {q w : List ℕ} {s : State} {g : Span} (sd : Side) (a t : ℕ) (pre : 
 
 -- ## The unknown a against a type without parts
 
-module _ {q w : List ℕ} {s : State} {g : Span} {sd : Side} {a t : ℕ} (pre : SolvePre sd q w s g a t) {x : TyVar} {b : Bool} (nm : Named q w (s .top) a x)
-    (oc : Occurs q w (s .top) x t b) where
+module _ {q w : List ℕ} {s : State} {g : Span} {sd : Side} {a t : ℕ} (pre : SolvePre sd q w s g a t) where
+  -- the stored mark never says no
+  pub never-poly : {m : Bool} → Mono q w (s .top) t m → m ≡ false → ⊥
+  never-poly h e =
+      let v = asked sd a t (pre .pre) in
+      true≢false (sym (leaf-mono (v .T) (pre .plain (v .T) (v .den))) ∙ sym (h .is (v .T) (v .den)) ∙ e)
+
+module _ {q w : List ℕ} {s : State} {g : Span} {sd : Side} {a t : ℕ} (pre : SolvePre sd q w s g a t) {x : TyVar} {m b : Bool} (nm : Named q w (s .top) a x)
+    (mo : Mono q w (s .top) t m) (yes : m ≡ true) (oc : Occurs q w (s .top) x t b) where
+  mono-so : (T : Ty) → Den q w (s .top) t T → isMono T ≡ true
+  mono-so T e = sym (mo .is T e) ∙ yes
+
   occurs-so : (v : syntax.TyVar) (T : Ty) → Den q w (s .top) a (etvar v) → Den q w (s .top) t T → occurs v T ≡ b
   occurs-so v T d e = ap (λ (y : syntax.TyVar). occurs y T) (sym (nm .of-etvar v d)) ∙ sym (oc .is T e)
 
@@ -97,9 +107,10 @@ module _ {q w : List ℕ} {s : State} {g : Span} {sd : Side} {a t : ℕ} (pre : 
       → (y : syntax.TyVar) → T ≡ etvar y → before Γ v y ≡ false
   late Γ v T r d e y eq = pre .late .is Γ v y r d (rw eq at e)
 
-  pub solve-occurs : {m : Here} → b ≡ true → Fires m q w w s g (instAsk sd a t) (Fail (record { st = s; code = 14; name = x .0; shown = OneType t; charge = 0 }))
+  pub solve-occurs : {m : Here} {z : Step} → b ≡ true → z ≡ Fail (record { st = s; code = 14; name = x .0; shown = OneType t; charge = 0 })
+      → Fires m q w w s g (instAsk sd a t) z
   unfolding errorCode errorAt
-  solve-occurs {m} h = record {
+  solve-occurs {m} h i = rw i (record {
     run = λ j k.
         let v = inst-asked sd a t k in
         let f : Failed q w (record { st = s; code = 14; name = x .0; shown = OneType t; charge = 0 }) (occursCheck (v .x) (v .T)) (s .left) =
@@ -107,8 +118,8 @@ module _ {q w : List ℕ} {s : State} {g : Span} {sd : Side} {a t : ℕ} (pre : 
         refuses begin f _
         (ap (λ (i : Judgement). rule (here m) (judge (here m)) i (s .left) (s .fresh)) (v .is)
         ∙ occurs-is (here m) (judge (here m)) (v .Γ) (v .x) (s .left) (s .fresh) sd (v .T) (pre .plain (v .T) (v .den))
-        (late (v .Γ) (v .x) (v .T) (v .run) (v .unknown) (v .den)) (occurs-so (v .x) (v .T) (v .unknown) (v .den) ∙ h));
-  }
+        (late (v .Γ) (v .x) (v .T) (v .run) (v .unknown) (v .den)) (mono-so (v .T) (v .den)) (occurs-so (v .x) (v .T) (v .unknown) (v .den) ∙ h));
+  })
 
   pub solve-done : {m : Here} {w₁ : List ℕ} {n : ℕ} {z : Step} → b ≡ false → n ≡ ruleNumber (instSolve sd) → SolvedBy m w w₁ s g x t n z
       → Fires m q w w₁ s g (instAsk sd a t) z
@@ -118,7 +129,7 @@ module _ {q w : List ℕ} {s : State} {g : Span} {sd : Side} {a t : ℕ} (pre : 
         closed (instSolve sd) e (nm .of-etvar (v .x) (v .unknown)) (pre .pre .room) (v .run) (v .den) c _
         (ap (λ (i : Judgement). rule (here m) (judge (here m)) i (s .left) (s .fresh)) (v .is)
         ∙ solved-is (here m) (judge (here m)) (v .Γ) (v .x) (s .left) (s .fresh) sd (v .T) (pre .plain (v .T) (v .den))
-        (late (v .Γ) (v .x) (v .T) (v .run) (v .unknown) (v .den)) (occurs-so (v .x) (v .T) (v .unknown) (v .den) ∙ h));
+        (late (v .Γ) (v .x) (v .T) (v .run) (v .unknown) (v .den)) (mono-so (v .T) (v .den)) (occurs-so (v .x) (v .T) (v .unknown) (v .den) ∙ h));
   }
 
 -- ## The unknown a against the unknown t

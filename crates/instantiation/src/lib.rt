@@ -20,6 +20,8 @@ ghost use Rattle.definition.specs.Syntax.{onL, onR};
 ghost use Rattle.contexts.specs.Build.{Space};
 ghost use Rattle.judging.specs.Asking.{instAsk, JudgePre, RulePre};
 ghost use Rattle.judging.specs.Ending.{Judged, Fires};
+ghost use Rattle.judging.specs.declared.Shown.the-variants.{OneType};
+ghost use Rattle.judging.specs.declared.Step.the-variants.{Fail};
 ghost use Rattle.rules.specs.Sides.{side};
 ghost use Rattle.instantiation.specs.Sides.{firstRule, otherOf, FormPre, SolvedBy, SolvePre, ReachPre};
 
@@ -82,7 +84,22 @@ fn solved(work: &mut [u32], h: Here, st: State, g: Span, a: TyVar, r: usize, rul
     })
 }
 
-// InstLSolve (30), InstRSolve (34). Arrow and Forall have rules of their own, so that only monotypes come here: 16 is never given.
+// Refused with the unknown's name and the type.
+fn refuse(st: State, code: usize, x: TyVar, ty: usize) -> Step
+    ensures { λ z. ⌜ z ≡ Fail (record { st = st; code = code; name = x .0; shown = OneType ty; charge = 0 }) ⌝ }
+{
+    let name = x.0;
+    Step::Fail(Bad {
+        st: st,
+        code: code,
+        name: name,
+        shown: Shown::OneType(ty),
+        charge: 0,
+    })
+}
+
+// InstLSolve (30), InstRSolve (34). Arrow and Forall have rules of their own, so that only monotypes come here: the mark never says no, and
+// 000's last arm, 16, is not reached.
 fn solve(
     q: &[u32],
     work: &mut [u32],
@@ -98,19 +115,16 @@ fn solve(
 {
     let top = st.top;
     let x = types::name_of(q, work, top, a);
-    let occurs = walks::occurs_check(q, work, top, x, ty);
-    if occurs {
-        let name = x.0;
-        return Step::Fail(Bad {
-            st: st,
-            code: 14,
-            name: name,
-            shown: Shown::OneType(ty),
-            charge: 0,
-        });
+    let mono = types::is_mono(q, work, top, ty);
+    if mono {
+        let occurs = walks::occurs_check(q, work, top, x, ty);
+        if occurs {
+            return refuse(st, 14, x, ty);
+        }
+        let rule = first(s);
+        return solved(work, h, st, g, x, ty, rule);
     }
-    let rule = first(s);
-    solved(work, h, st, g, x, ty, rule)
+    refuse(st, 16, x, ty)
 }
 
 // InstLReach (31), InstRReach (35): the unknown ty is solved by a.

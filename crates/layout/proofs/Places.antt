@@ -1,11 +1,12 @@
 -- Laws of what stands at a place of the question.
 use mathlib.Core.Path.{_≡_, refl}
 use mathlib.Core.List.{List}
-use Prim.Native.Nat.{ℕ, _+_, _≤_}
+use Prim.Native.Nat.{ℕ, _+_, _≤_, _<_}
 use native.Mathlib.Omega.{arith}
 use lib.ListN.{length, length-append}
 use Rattle.definition.specs.Syntax.{Ty, int, bool, var, etvar, arrow, forall, tyWords, Expr, placeOf}
 use Rattle.definition.specs.Rules.{tyCode, exprCode}
+use Rattle.layout.specs.Sizes.{MONO}
 use Rattle.layout.specs.Places.{size, CodeAt, TyAt, int-at, bool-at, var-at, etvar-at, arrow-at, forall-at, ExprAt, evar-at, app-at, abs-at, tapp-at, tabs-at, ann-at, litInt-at, litBool-at, letIn-at, ifThenElse-at, binOp-at}
 
 -- ## Sizes
@@ -28,6 +29,15 @@ size-some (arrow A B) = omega arith
 size-some (forall a A) = omega arith
 
 -- ## The word at a place
+
+pub code-small : (T : Ty) → tyCode T < MONO
+unfolding tyCode
+code-small int = omega arith
+code-small bool = omega arith
+code-small (var a) = omega arith
+code-small (etvar a) = omega arith
+code-small (arrow A B) = omega arith
+code-small (forall a A) = omega arith
 
 pub ty-code : {q : List ℕ} {p : ℕ} {T : Ty} → TyAt q p T → CodeAt q p (tyCode T)
 unfolding tyCode

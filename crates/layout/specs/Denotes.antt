@@ -1,13 +1,17 @@
 -- What a type reference and a run of entries denote.
 use mathlib.Core.Path.{_≡_}
+use mathlib.Core.Bool.{true}
 use mathlib.Core.List.{List, [], _∷_}
 use Prim.Native.Nat.{ℕ, _+_, _*_, _≤_, _<_, _^_, min}
 use lib.ListN.{length, getD}
 use Rattle.definition.specs.Syntax.{TyVar, Ty, int, bool, etvar, arrow, forall, Expr, Entry, Ctx}
 use Rattle.definition.specs.Contexts.{keyOf, kindOf, nameOf, held}
+use Rattle.definition.specs.Types.{isMono}
+use Rattle.definition.specs.Rules.{tyCode}
 use Rattle.definition.specs.Reply.{most}
 use Rattle.layout.specs.Sizes.{BASE, ENDS, FLOOR}
 use Rattle.layout.specs.Words.{Put4}
+use Rattle.layout.specs.Monotypes.{withMono, numberAt, monoAt, past}
 use Rattle.layout.specs.Places.{size, exprSize, TyAt, ExprAt}
 use Rattle.layout.specs.Names.{key}
 use Rattle.layout.specs.declared.Entry as program
@@ -16,21 +20,22 @@ use Rattle.layout.specs.declared.Entry as program
 abbrev pub capped : ℕ → ℕ
 capped n = min n most
 
--- r refers to the record of n words at place i of work, below t, whose first word is the code k
-pub record MadeAt (w : List ℕ) (t r i n k : ℕ) : Type 0 where
+-- r refers to T's record, n words at place i of work, below t; its first word keeps T's code, and whether T is a monotype
+pub record MadeAt (w : List ℕ) (t r i n : ℕ) (T : Ty) : Type 0 where
   pub ref : r ≡ BASE + i
   pub below : i + n ≤ t
-  pub is : getD w i 0 ≡ k
+  pub code : numberAt w i ≡ tyCode T
+  pub mono : monoAt w i ≡ isMono T
 
 -- the reference r denotes T, by the question and by words of work below t; what a record refers to was made before it
 pub data Den (q w : List ℕ) (t : ℕ) : ℕ → Ty → Type 0 where
   written : {r : ℕ} {T : Ty} → TyAt q r T → Den q w t r T
-  int-made : {r i : ℕ} → MadeAt w t r i 1 1 → Den q w t r int
-  bool-made : {r i : ℕ} → MadeAt w t r i 1 2 → Den q w t r bool
-  etvar-made : {r i : ℕ} {a : TyVar} → MadeAt w t r i 2 4 → getD w (i + 1) 0 ≡ a .number → Den q w t r (etvar a)
-  arrow-made : {r i l m : ℕ} {A B : Ty} → MadeAt w t r i 4 5 → l < r → m < r → getD w (i + 1) 0 ≡ l → getD w (i + 2) 0 ≡ m
+  int-made : {r i : ℕ} → MadeAt w t r i 1 int → Den q w t r int
+  bool-made : {r i : ℕ} → MadeAt w t r i 1 bool → Den q w t r bool
+  etvar-made : {r i : ℕ} {a : TyVar} → MadeAt w t r i 2 (etvar a) → getD w (i + 1) 0 ≡ a .number → Den q w t r (etvar a)
+  arrow-made : {r i l m : ℕ} {A B : Ty} → MadeAt w t r i 4 (arrow A B) → l < r → m < r → getD w (i + 1) 0 ≡ l → getD w (i + 2) 0 ≡ m
       → getD w (i + 3) 0 ≡ capped (size (arrow A B)) → Den q w t l A → Den q w t m B → Den q w t r (arrow A B)
-  forall-made : {r i m : ℕ} {a : TyVar} {A : Ty} → MadeAt w t r i 4 6 → m < r → getD w (i + 1) 0 ≡ a .number → getD w (i + 2) 0 ≡ m
+  forall-made : {r i m : ℕ} {a : TyVar} {A : Ty} → MadeAt w t r i 4 (forall a A) → m < r → getD w (i + 1) 0 ≡ a .number → getD w (i + 2) 0 ≡ m
       → getD w (i + 3) 0 ≡ capped (size (forall a A)) → Den q w t m A → Den q w t r (forall a A)
 
 -- the program's entry p is e
@@ -65,10 +70,11 @@ pub record Run (q w : List ℕ) (t at n : ℕ) (Γ : Ctx) : Type 0 where
   pub count : n ≡ length Γ
   pub below : at + 4 * n ≤ t
 
--- the bottom of work: the records of Int and Bool, and the place past each item of the question
+-- the bottom of work: the records of Int and Bool, the place past each item of the question, and whether each type there is a monotype
 pub record Base (q w : List ℕ) (t : ℕ) : Type 0 where
   pub floor : FLOOR ≤ t
-  pub int-is : getD w 0 0 ≡ 1
-  pub bool-is : getD w 1 0 ≡ 2
-  pub past-ty : (p : ℕ) (A : Ty) → TyAt q p A → getD w (ENDS + p) 0 ≡ p + size A
-  pub past-expr : (p : ℕ) (e : Expr) → ExprAt q p e → getD w (ENDS + p) 0 ≡ p + exprSize e
+  pub int-is : getD w 0 0 ≡ withMono 1 true
+  pub bool-is : getD w 1 0 ≡ withMono 2 true
+  pub past-ty : (p : ℕ) (A : Ty) → TyAt q p A → past w p ≡ p + size A
+  pub mono-ty : (p : ℕ) (A : Ty) → TyAt q p A → monoAt w (ENDS + p) ≡ isMono A
+  pub past-expr : (p : ℕ) (e : Expr) → ExprAt q p e → past w p ≡ p + exprSize e

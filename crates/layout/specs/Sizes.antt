@@ -19,6 +19,10 @@ ENDS = 16
 abbrev pub FLOOR : ℕ
 FLOOR = 2064
 
+-- what a word has more where it says that a type is a monotype
+abbrev pub MONO : ℕ
+MONO = 4096
+
 -- no more words of work are used, and no more fresh names drawn: places and names stay words
 abbrev pub CAP : ℕ
 CAP = 1000000

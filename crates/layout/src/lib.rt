@@ -3,7 +3,8 @@ ghost use mathlib.Core.Path.{_≡_};
 ghost use Prim.Native.Nat.{_+_, _-_, _≤_, _<_, _^_};
 ghost use lib.ListN.{length, getD, set};
 ghost use Rattle.definition.specs.Contexts.{kindOf, nameOf};
-ghost use Rattle.layout.specs.Sizes.{CAP};
+ghost use Rattle.layout.specs.Sizes.{ENDS, MONO, CAP};
+ghost use Rattle.layout.specs.Monotypes.{withMono, numberAt, monoAt, past};
 ghost use Rattle.layout.specs.Names.{key};
 ghost use Rattle.layout.specs.Words.{Put2, Put4, Copied};
 ghost use Rattle.layout.specs.Denotes.{SmallEntry, PutEntry};
@@ -22,6 +23,9 @@ pub const ENDS: usize = 16;
 
 // Types and runs of entries grow up from here.
 pub const FLOOR: usize = ENDS + BASE;
+
+// A word has this more where it says that a type is a monotype: more than any code, and than any place past an item of the question.
+pub const MONO: usize = 4_096;
 
 // A length in words stops at this.
 pub const MOST: usize = 4_294_967_295;
@@ -202,6 +206,41 @@ pub fn put(w: &mut [u32], i: usize, v: usize)
     ensures { λ _. ⌜ now (w .exit) ≡ set (now (w .entry)) i v ⌝ }
 {
     w[i] = v as u32;
+}
+
+// The number n, below MONO, and a yes or no in one word.
+pub fn with_mono(n: usize, yes: bool) -> usize
+    requires { ⌜ n < MONO ⌝ }
+    ensures { λ r. ⌜ (r ≡ withMono n yes) × (r < 2 ^ 32) ⌝ }
+{
+    if yes {
+        return n + MONO;
+    }
+    n
+}
+
+// The number that the word at i keeps.
+pub fn number(w: &[u32], i: usize) -> usize
+    requires { ⌜ i < length (now w) ⌝ }
+    ensures { λ r. ⌜ (r ≡ numberAt (now (w .entry)) i) × (r < MONO) ⌝ }
+{
+    word(w, i) % MONO
+}
+
+// The yes or no that the word at i keeps.
+pub fn mono(w: &[u32], i: usize) -> bool
+    requires { ⌜ i < length (now w) ⌝ }
+    ensures { λ b. ⌜ b ≡ monoAt (now (w .entry)) i ⌝ }
+{
+    MONO <= word(w, i)
+}
+
+// The place past the item that stands at p of the question, by the table of ends.
+pub fn past(work: &[u32], p: usize) -> usize
+    requires { ⌜ ENDS + p < length (now work) ⌝ }
+    ensures { λ e. ⌜ (e ≡ past (now (work .entry)) p) × (e < MONO) ⌝ }
+{
+    number(work, ENDS + p)
 }
 
 // Puts two words.

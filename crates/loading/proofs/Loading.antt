@@ -10,6 +10,7 @@ use Rattle.definition.specs.Syntax.{Ty, int, Binding, Entry, Ctx}
 use Rattle.definition.specs.Contexts.{bindingKey, kindOf, bindingType, held}
 use Rattle.layout.specs.Sizes.{ENDS}
 use Rattle.layout.specs.States.{raised}
+use Rattle.layout.specs.Monotypes.{past}
 use Rattle.layout.specs.Words.{Keep, Put4}
 use Rattle.layout.specs.Denotes.{Den, written, EntryAt, Base, CtxAt, nil, cons}
 use Rattle.layout.specs.declared.State.{State}
@@ -49,7 +50,7 @@ pub rested : {q w : List ℕ} {t p m : ℕ} {x : Entry} {r : Rest} → Base q w 
 unfolding kindOf bindingKey bindingType held
 rested {q} {w} {t} {p} {m} {x} {r} b e h = let z = go (e .binds .rest) (e .binds .kind .is) in record { den = z .0; next = z .1 }
   where
-    held-at : {A : Ty} {m : ℕ} → (r .ty ≡ p + 2) × (r .next ≡ getD w (ENDS + (p + 2)) 0) → TyTo q (p + 2) A m
+    held-at : {A : Ty} {m : ℕ} → (r .ty ≡ p + 2) × (r .next ≡ past w (p + 2)) → TyTo q (p + 2) A m
         → Den q w t (r .ty) A × (r .next ≡ m)
     held-at {A} u d = (rw (u .0) (written (d .at)), u .1 ∙ b .past-ty (p + 2) A (d .at) ∙ d .to)
 

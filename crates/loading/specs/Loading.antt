@@ -3,10 +3,11 @@ use mathlib.Core.Path.{_≡_}
 use mathlib.Core.List.{List}
 use mathlib.Core.Logic.{_⊎_}
 use Prim.Native.Nat.{ℕ, _+_, _*_, _≤_, _<_, _^_}
-use lib.ListN.{length, getD}
+use lib.ListN.{length}
 use Rattle.definition.specs.Syntax.{Ctx}
 use Rattle.layout.specs.Sizes.{BASE, INT, ENDS, CAP}
 use Rattle.layout.specs.Words.{Keep}
+use Rattle.layout.specs.Monotypes.{past}
 use Rattle.layout.specs.Denotes.{Base, CtxAt, Run}
 use Rattle.layout.specs.declared.State.{State}
 use Rattle.contexts.specs.Build.{Past}
@@ -24,7 +25,7 @@ pub record Readable (w : List ℕ) (kind p : ℕ) : Type 0 where
 
 -- the type stands after the name, and ends where the table says
 pub record EntryRest (w : List ℕ) (kind p : ℕ) (r : Rest) : Type 0 where
-  pub held : TypedKind kind → (r .ty ≡ p + 2) × (r .next ≡ getD w (ENDS + (p + 2)) 0)
+  pub held : TypedKind kind → (r .ty ≡ p + 2) × (r .next ≡ past w (p + 2))
   pub bare : (TypedKind kind → ⊥) → (r .ty ≡ INT) × (r .next ≡ p + 2)
   pub small : r .ty < 2 ^ 32
 

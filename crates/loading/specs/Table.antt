@@ -1,10 +1,13 @@
--- The table of ends: for each place of the question, where the item that stands there ends.
-use Prim.Native.Nat.{ℕ, _+_, _≤_, _<_, _^_}
+-- The table of ends: for each place of the question, where the item that stands there ends, and whether a type there is a monotype.
+use Prim.Native.Nat.{ℕ, _+_, _%_, _≤_, _<_, _^_}
 use mathlib.Core.Path.{_≡_}
 use mathlib.Core.List.{List}
+use lib.Dec.{leb}
 use lib.ListN.{length, getD}
 use Rattle.definition.specs.Syntax.{Ty, Expr}
-use Rattle.layout.specs.Sizes.{ENDS, FLOOR}
+use Rattle.definition.specs.Types.{isMono}
+use Rattle.layout.specs.Sizes.{ENDS, FLOOR, MONO}
+use Rattle.layout.specs.Monotypes.{monoAt, past}
 use Rattle.layout.specs.Places.{size, exprSize, TyAt, ExprAt}
 use Rattle.layout.specs.Words.{Keep}
 use Rattle.layout.specs.Denotes.{Base}
@@ -19,24 +22,34 @@ pub record Sized (q w : List ℕ) : Type 0 where
   pub small : length q ≤ 2048
   pub room : FLOOR ≤ length w
 
--- from p on, work holds the place past each item
+-- from p on, work holds the place past each item, and each type's monotype mark
 pub record Table (q w : List ℕ) (p : ℕ) : Type 0 where
-  pub ends : (i m : ℕ) → p ≤ i → Spans q i m → getD w (ENDS + i) 0 ≡ m
+  pub ends : (i m : ℕ) → p ≤ i → Spans q i m → past w i ≡ m
+  pub monos : (i : ℕ) (A : Ty) → p ≤ i → TyAt q i A → monoAt w (ENDS + i) ≡ isMono A
 
 pub record ReadyAt (q w : List ℕ) (p : ℕ) : Type 0 where
   pub sized : Sized q w
   pub within : p < length q
   pub table : Table q w (p + 1)
 
--- what the table says of a place
-pub record PastIs (q w : List ℕ) (i r : ℕ) : Type 0 where
-  pub is : i < length q → r ≡ getD w (ENDS + i) 0
-  pub fits : r < 2 ^ 32
+-- no type without parts stands at p
+pub record NoLeaf (q : List ℕ) (p : ℕ) : Type 0 where
+  pub past : 1 ≤ getD q p 0 → 5 ≤ getD q p 0
 
--- the item at p, where one stands, ends at e
-pub record EndIs (q : List ℕ) (p e : ℕ) : Type 0 where
-  pub is : (m : ℕ) → Spans q p m → e ≡ m
-  pub fits : e < 2 ^ 32
+-- what the table has for a place: its word, and the place past the item there
+pub record RowAt (q w : List ℕ) (i v : ℕ) : Type 0 where
+  pub is : i < length q → v ≡ getD w (ENDS + i) 0
+  pub fits : v < 2 ^ 32
+
+pub record PastIs (q w : List ℕ) (i r : ℕ) : Type 0 where
+  pub is : i < length q → r ≡ past w i
+  pub fits : r < MONO
+
+-- the table's word for p: what it keeps of the item there, where one stands
+pub record RowIs (q : List ℕ) (p v : ℕ) : Type 0 where
+  pub end : (m : ℕ) → Spans q p m → v % MONO ≡ m
+  pub mono : (A : Ty) → TyAt q p A → leb MONO v ≡ isMono A
+  pub fits : v < 2 ^ 32
 
 -- the bottom of work is laid, and nothing above it changed
 pub record Laid (q w w′ : List ℕ) : Type 0 where

@@ -1,9 +1,9 @@
 // What is laid into work once a question is read: the table of ends (`ends`), and its context as a run of entries.
 use contexts::Opened;
-use layout::ENDS;
 use layout::INT;
 use layout::Span;
 use layout::State;
+use layout::past;
 use layout::put4;
 use layout::word;
 ghost use Rattle.loading.specs.Loading.{Loads, LoadedFrom, Loading, Loaded, Readable, EntryRest};
@@ -24,7 +24,7 @@ fn rest_of(work: &[u32], kind: usize, p: usize) -> Rest
     let first = p + 2;
     match kind {
         32 | 35 => {
-            let next = word(work, ENDS + first);
+            let next = past(work, first);
             Rest {
                 ty: first,
                 next: next,

@@ -1,19 +1,23 @@
 -- The readers' laws: what they ask of the words, and what the words they read tell.
-use mathlib.Core.Path.{_≡_, _∙_, ap}
+use mathlib.Core.Path.{_≡_, _∙_, ap, ap₂}
+use mathlib.Core.Bool.{Bool, _&&_}
 use mathlib.Core.List.{List}
 use Prim.Native.Nat.{ℕ, _+_, _-_, _≤_, _<_, _^_}
 use native.Mathlib.Omega.{arith}
 use lib.ListN.{length, getD, take, drop}
 use Rattle.definition.specs.Syntax as syntax
 use Rattle.definition.specs.Syntax.{Ty, var, etvar, arrow, forall}
+use Rattle.definition.specs.Types.{isMono}
 use Rattle.definition.specs.Rules.{tyCode}
 use Rattle.layout.specs.Sizes.{BASE, ENDS}
+use Rattle.layout.specs.Monotypes.{numberAt, monoAt, monoOf, past}
 use Rattle.layout.specs.Places.{size, TyAt, var-at, etvar-at, arrow-at, forall-at}
 use Rattle.layout.specs.Denotes.{capped, Base, Den, written}
 use Rattle.layout.specs.declared.TyVar.{TyVar}
 use Rattle.layout.proofs.Places.{ty-code, ty-within}
-use Rattle.layout.proofs.Denotes.{den-written}
-use Rattle.types.specs.Reading.{Held, HeldAs, Tagged, Named, PartBelow, LeftOf, RightOf, BodyOf, LengthOf, recordSize, RecordLength, WordsOf}
+use Rattle.layout.proofs.Monotypes.{mono-in-question, mono-in-work}
+use Rattle.layout.proofs.Denotes.{den-written, mono-is-walk}
+use Rattle.types.specs.Reading.{Held, HeldAs, Tagged, Mono, Named, PartBelow, LeftOf, RightOf, BodyOf, LengthOf, recordSize, RecordLength, WordsOf}
 use Rattle.types.proofs.Codes.{arrow-case, forall-case, Naming, var-names, etvar-names, forall-names, sizes, two-words, leaf-size}
 use Rattle.types.proofs.Records.{made-record, made-length, made-name, made-left, made-right, made-body}
 
@@ -51,11 +55,11 @@ written-body (forall-at c n d) = record { den = written d; less = omega (arith, 
 left-inside : {q : List ℕ} {r : ℕ} {A B : Ty} → TyAt q r (arrow A B) → r + 1 < BASE
 left-inside (arrow-at c d e f) = ty-code d .inside
 
-left-past : {q w : List ℕ} {t r : ℕ} {A B : Ty} → Base q w t → TyAt q r (arrow A B) → getD w (ENDS + (r + 1)) 0 ≡ r + 1 + size A
+left-past : {q w : List ℕ} {t r : ℕ} {A B : Ty} → Base q w t → TyAt q r (arrow A B) → past w (r + 1) ≡ r + 1 + size A
 left-past b (arrow-at c d e f) = b .past-ty _ _ d
 
-past : {q w : List ℕ} {t r : ℕ} {T : Ty} → Held q w t r → r < BASE → Den q w t r T → getD w (ENDS + r) 0 ≡ r + size T
-past h l d = h .base .past-ty _ _ (den-written l d)
+past-is : {q w : List ℕ} {t r : ℕ} {T : Ty} → Held q w t r → r < BASE → Den q w t r T → past w r ≡ r + size T
+past-is h l d = h .base .past-ty _ _ (den-written l d)
 
 -- ## Places that a reader may look at
 
@@ -84,7 +88,7 @@ module _ {q w : List ℕ} {t r k : ℕ} where
   pub tagged-written : r < BASE → k ≡ getD q r 0 → Tagged q w t r k
   tagged-written l e = record { is = λ T d. e ∙ ty-code (den-written l d) .is }
 
-  pub tagged-made : BASE ≤ r → k ≡ getD w (r - BASE) 0 → Tagged q w t r k
+  pub tagged-made : BASE ≤ r → k ≡ numberAt w (r - BASE) → Tagged q w t r k
   tagged-made l e = record { is = λ T d. e ∙ made-record l d .code }
 
   pub left-made : BASE ≤ r → k ≡ getD w (r - BASE + 1) 0 → LeftOf q w t r k
@@ -96,8 +100,23 @@ module _ {q w : List ℕ} {t r k : ℕ} where
   pub body-made : BASE ≤ r → k ≡ getD w (r - BASE + 2) 0 → BodyOf q w t r k
   body-made l e = record { is = λ a A d. rw e (made-body l d) }
 
-  pub right-written : Base q w t → r < BASE → k ≡ getD w (ENDS + (r + 1)) 0 → RightOf q w t r k
+  pub right-written : Base q w t → r < BASE → k ≡ past w (r + 1) → RightOf q w t r k
   right-written b l e = record { is = λ A B d. rw (e ∙ left-past b (den-written l d)) (written-right (den-written l d)) }
+
+module _ {q w : List ℕ} {t r : ℕ} {b : Bool} (h : Held q w t r) where
+  mono-is : b ≡ monoOf w r → Mono q w t r b
+  mono-is e = record { is = λ T d. e ∙ mono-is-walk (h .base) d }
+
+  pub mono-written : r < BASE → b ≡ monoAt w (ENDS + r) → Mono q w t r b
+  mono-written l e = mono-is (e ∙ mono-in-question w r l)
+
+  pub mono-made : BASE ≤ r → b ≡ monoAt w (r - BASE) → Mono q w t r b
+  mono-made l e = mono-is (e ∙ mono-in-work w r l)
+
+pub arrow-mono : {q w : List ℕ} {t l m : ℕ} {a b : Bool} {A B : Ty} → Mono q w t l a → Mono q w t m b → Den q w t l A → Den q w t m B
+    → (a && b) ≡ isMono (arrow A B)
+unfolding isMono
+arrow-mono x y d e = ap₂ _&&_ (x .is _ d) (y .is _ e)
 
 pub left-written : {q w : List ℕ} {t r : ℕ} → r < BASE → LeftOf q w t r (r + 1)
 left-written l = record { is = λ A B d. written-left (den-written l d) }
@@ -134,8 +153,8 @@ module _ {q w : List ℕ} {t r : ℕ} (h : Held q w t r) where
   length-of : {n : ℕ} → ((T : Ty) → Den q w t r T → n ≡ capped (size T)) → LengthOf q w t r n
   length-of f = record { is = f; word = omega (arith, f (h .type) (h .den)) }
 
-  pub length-written : {e : ℕ} → r < BASE → e ≡ getD w (ENDS + r) 0 → e < 2 ^ 32 → LengthOf q w t r (e - r)
-  length-written l f b = length-of (λ T d. omega (arith, past h l d))
+  pub length-written : {e : ℕ} → r < BASE → e ≡ past w r → LengthOf q w t r (e - r)
+  length-written l f = length-of (λ T d. omega (arith, past-is h l d))
 
   pub length-leaf : {k n : ℕ} → Tagged q w t r k → k < 5 → RecordLength k n → LengthOf q w t r n
   length-leaf c l n = length-of (λ T d. n .is T (c .is T d) ∙ leaf-size T (omega (arith, c .is T d)))
@@ -143,12 +162,12 @@ module _ {q w : List ℕ} {t r : ℕ} (h : Held q w t r) where
   pub length-made : {k n : ℕ} → BASE ≤ r → Tagged q w t r k → 5 ≤ k → n ≡ getD w (r - BASE + 3) 0 → LengthOf q w t r n
   length-made l c g e = length-of (λ T d. e ∙ made-length l (omega (arith, c .is T d)) d)
 
-  pub end-in-question : {e : ℕ} → r < BASE → e ≡ getD w (ENDS + r) 0 → (r ≤ e) × (e ≤ length q)
-  end-in-question l f = (omega (arith, past h l (h .den)), omega (arith, past h l (h .den), ty-within (den-written l (h .den))))
+  pub end-in-question : {e : ℕ} → r < BASE → e ≡ past w r → (r ≤ e) × (e ≤ length q)
+  end-in-question l f = (omega (arith, past-is h l (h .den)), omega (arith, past-is h l (h .den), ty-within (den-written l (h .den))))
 
-  pub words-written : {e : ℕ} → r < BASE → e ≡ getD w (ENDS + r) 0 → WordsOf q w t r (take (e - r) (drop r q))
+  pub words-written : {e : ℕ} → r < BASE → e ≡ past w r → WordsOf q w t r (take (e - r) (drop r q))
   words-written {e} l f = record {
-    in-question = λ m T d. let z : e - r ≡ size T = omega (arith, past h l d) in ap (λ (n : ℕ). take n (drop r q)) z;
+    in-question = λ m T d. let z : e - r ≡ size T = omega (arith, past-is h l d) in ap (λ (n : ℕ). take n (drop r q)) z;
     in-work = λ m T d. absurd (omega arith);
   }
 

@@ -7,29 +7,30 @@ use lib.ListN.{getD}
 use Rattle.definition.specs.Syntax.{TyVar, Ty, arrow, forall}
 use Rattle.definition.specs.Rules.{tyCode}
 use Rattle.layout.specs.Sizes.{BASE}
+use Rattle.layout.specs.Monotypes.{numberAt}
 use Rattle.layout.specs.Places.{size, TyAt}
 use Rattle.layout.specs.Denotes.{capped, MadeAt, Den, written, int-made, bool-made, etvar-made, arrow-made, forall-made}
 use Rattle.layout.proofs.Places.{ty-code}
 use Rattle.types.specs.Reading.{recordSize, PartBelow}
 use Rattle.types.proofs.Codes.{Naming, etvar-names, forall-names}
 
--- a record of n words that begins with the code k stands at place i
+-- a record of n words whose first keeps the code k stands at place i
 pub record RecordAt (w : List ℕ) (t i n k : ℕ) : Type 0 where
   pub end : i + n ≤ t
-  pub code : getD w i 0 ≡ k
+  pub code : numberAt w i ≡ k
 
-place-is : {w : List ℕ} {t r i n k : ℕ} → MadeAt w t r i n k → r - BASE ≡ i
+place-is : {w : List ℕ} {t r i n : ℕ} {T : Ty} → MadeAt w t r i n T → r - BASE ≡ i
 place-is m = omega (arith, m .ref)
 
-record-at : {w : List ℕ} {t r i n k : ℕ} → MadeAt w t r i n k → RecordAt w t (r - BASE) n k
-record-at m = rw (place-is m) (record { end = m .below; code = m .is })
+record-at : {w : List ℕ} {t r i n : ℕ} {T : Ty} → MadeAt w t r i n T → RecordAt w t (r - BASE) n (tyCode T)
+record-at m = rw (place-is m) (record { end = m .below; code = m .code })
 
 not-written : {q : List ℕ} {r : ℕ} {T : Ty} → BASE ≤ r → TyAt q r T → ⊥
 not-written h d = let c = ty-code d in omega (arith, c .inside)
 
 module _ {q w : List ℕ} {t r : ℕ} (h : BASE ≤ r) where
   pub made-record : {T : Ty} → Den q w t r T → RecordAt w t (r - BASE) (recordSize T) (tyCode T)
-  unfolding tyCode recordSize
+  unfolding recordSize
   made-record (written d) = absurd (not-written h d)
   made-record (int-made m) = record-at m
   made-record (bool-made m) = record-at m

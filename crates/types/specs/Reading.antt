@@ -1,10 +1,12 @@
 -- Reading a type by reference: what a reader may rely on, and what it gives for every type that the reference denotes.
 use mathlib.Core.Path.{_≡_}
+use mathlib.Core.Bool.{Bool}
 use mathlib.Core.List.{List}
 use Prim.Native.Nat.{ℕ, _+_, _-_, _*_, _≤_, _<_, _^_}
 use lib.ListN.{length, take, drop}
 use Rattle.definition.specs.Syntax as syntax
 use Rattle.definition.specs.Syntax.{Ty, int, bool, var, etvar, arrow, forall}
+use Rattle.definition.specs.Types.{isMono}
 use Rattle.definition.specs.Rules.{tyCode}
 use Rattle.layout.specs.Sizes.{BASE, CAP}
 use Rattle.layout.specs.Names.{ty}
@@ -33,10 +35,13 @@ pub record HeldNamed (q w : List ℕ) (t r : ℕ) : Type 0 where
   pub low : 3 ≤ tyCode (held .type)
   pub other : tyCode (held .type) ≡ 5 → ⊥
 
--- ## Code and name
+-- ## Code, monotype mark and name
 
 pub record Tagged (q w : List ℕ) (t r k : ℕ) : Type 0 where
   pub is : (T : Ty) → Den q w t r T → k ≡ tyCode T
+
+pub record Mono (q w : List ℕ) (t r : ℕ) (b : Bool) : Type 0 where
+  pub is : (T : Ty) → Den q w t r T → b ≡ isMono T
 
 pub record Named (q w : List ℕ) (t r : ℕ) (a : TyVar) : Type 0 where
   pub of-var : (b : syntax.TyVar) → Den q w t r (var b) → ty a ≡ b

@@ -3,14 +3,18 @@ use layout::BASE;
 use layout::ENDS;
 use layout::MOST;
 use layout::TyVar;
+use layout::mono;
+use layout::number;
+use layout::past;
 use layout::put2;
 use layout::put4;
+use layout::with_mono;
 use layout::word;
 ghost use mathlib.Core.Path.{_≡_};
 ghost use Prim.Native.Nat.{_+_, _≤_};
 ghost use lib.ListN.{length};
 ghost use Rattle.layout.specs.Denotes.{capped};
-ghost use Rattle.types.specs.Reading.{Held, HeldAs, HeldNamed, Tagged, Named, LeftOf, RightOf, BodyOf, LengthOf, RecordLength, WordsOf};
+ghost use Rattle.types.specs.Reading.{Held, HeldAs, HeldNamed, Tagged, Mono, Named, LeftOf, RightOf, BodyOf, LengthOf, RecordLength, WordsOf};
 ghost use Rattle.types.specs.Making.{ArrowRoom, ForallRoom, PutETVar, PutArrow, PutForall};
 
 // The type's code: 1 Int, 2 Bool, 3 Var, 4 ETVar, 5 Arrow, 6 Forall.
@@ -22,7 +26,20 @@ pub fn tag(q: &[u32], work: &[u32], top: usize, r: usize) -> usize
         word(q, r)
     } else {
         let i = r - BASE;
-        word(work, i)
+        number(work, i)
+    }
+}
+
+// Whether no Forall is in the type, by its stored mark.
+pub fn is_mono(q: &[u32], work: &[u32], top: usize, r: usize) -> bool
+    requires { ⌜ Held (now q) (now work) top r ⌝ }
+    ensures { λ b. ⌜ Mono (now (q .entry)) (now (work .entry)) top r b ⌝ }
+{
+    if r < BASE {
+        mono(work, ENDS + r)
+    } else {
+        let i = r - BASE;
+        mono(work, i)
     }
 }
 
@@ -62,7 +79,7 @@ pub fn right_of(q: &[u32], work: &[u32], top: usize, r: usize) -> usize
 {
     if r < BASE {
         let left = r + 1;
-        word(work, ENDS + left)
+        past(work, left)
     } else {
         let right = r - BASE + 2;
         word(work, right)
@@ -99,7 +116,7 @@ pub fn type_length(q: &[u32], work: &[u32], top: usize, r: usize) -> usize
     ensures { λ n. ⌜ LengthOf (now (q .entry)) (now (work .entry)) top r n ⌝ }
 {
     if r < BASE {
-        let end = word(work, ENDS + r);
+        let end = past(work, r);
         return end - r;
     }
     let k = tag(q, work, top, r);
@@ -116,7 +133,7 @@ pub fn type_words<'a>(q: &'a [u32], work: &'a [u32], top: usize, r: usize) -> &'
     ensures { λ p. ⌜ WordsOf (now (q .entry)) (now (work .entry)) top r (now p) ⌝ }
 {
     if r < BASE {
-        let end = word(work, ENDS + r);
+        let end = past(work, r);
         return &q[r..end];
     }
     let k = tag(q, work, top, r);
@@ -146,12 +163,13 @@ pub fn put_etvar(work: &mut [u32], top: usize, a: TyVar) -> usize
     ensures { λ k. ⌜ PutETVar (now (work .entry)) (now (work .exit)) top a k ⌝ }
 {
     let made = BASE + top;
+    let code = with_mono(4, true);
     let name = a.0 as usize;
-    put2(work, top, 4, name);
+    put2(work, top, code, name);
     made
 }
 
-// Makes an Arrow's record, four words, with its length.
+// Makes an Arrow's record, four words, with its length; a monotype where both parts are.
 pub fn put_arrow(q: &[u32], work: &mut [u32], top: usize, left: usize, right: usize) -> usize
     requires { ⌜ ArrowRoom (now q) (now work) top left right ⌝ }
     ensures { λ k. ⌜ PutArrow (now (q .entry)) (now (work .entry)) (now (work .exit)) top left right k ⌝ }
@@ -161,11 +179,14 @@ pub fn put_arrow(q: &[u32], work: &mut [u32], top: usize, left: usize, right: us
     let r = type_length(q, work, top, right);
     let parts = sat_add(l, r);
     let length = sat_add(1, parts);
-    put4(work, top, 5, left, right, length);
+    let first = is_mono(q, work, top, left);
+    let second = is_mono(q, work, top, right);
+    let code = with_mono(5, first & second);
+    put4(work, top, code, left, right, length);
     made
 }
 
-// Makes a Forall's record, four words, with its length.
+// Makes a Forall's record, four words, with its length; no monotype.
 pub fn put_forall(q: &[u32], work: &mut [u32], top: usize, a: TyVar, body: usize) -> usize
     requires { ⌜ ForallRoom (now q) (now work) top body ⌝ }
     ensures { λ k. ⌜ PutForall (now (q .entry)) (now (work .entry)) (now (work .exit)) top a body k ⌝ }
@@ -174,6 +195,7 @@ pub fn put_forall(q: &[u32], work: &mut [u32], top: usize, a: TyVar, body: usize
     let name = a.0 as usize;
     let b = type_length(q, work, top, body);
     let length = sat_add(2, b);
-    put4(work, top, 6, name, body, length);
+    let code = with_mono(6, false);
+    put4(work, top, code, name, body, length);
     made
 }

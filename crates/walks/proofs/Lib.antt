@@ -1,6 +1,5 @@
 -- Laws of the uncharged walks, arm by arm.
 pub mod Names
-pub mod Mono
 pub mod Occurs
 pub mod Letters
 pub mod Same

@@ -4,13 +4,10 @@ use mathlib.Core.List.{List}
 use mathlib.Core.Bool.{Bool}
 use Prim.Native.Nat.{ℕ}
 use Rattle.definition.specs.Syntax.{Ty}
-use Rattle.definition.specs.Types.{isMono, occurs}
+use Rattle.definition.specs.Types.{occurs}
 use Rattle.layout.specs.Names.{ty}
 use Rattle.layout.specs.Denotes.{Den}
 use Rattle.layout.specs.declared.TyVar.{TyVar}
-
-pub record Mono (q w : List ℕ) (t r : ℕ) (b : Bool) : Type 0 where
-  pub is : (T : Ty) → Den q w t r T → b ≡ isMono T
 
 pub record Occurs (q w : List ℕ) (t : ℕ) (a : TyVar) (r : ℕ) (b : Bool) : Type 0 where
   pub is : (T : Ty) → Den q w t r T → b ≡ occurs (ty a) T

@@ -13,29 +13,8 @@ ghost use lib.ListN.{length};
 ghost use Rattle.definition.specs.Rules.{sameVar};
 ghost use Rattle.layout.specs.Names.{ty};
 ghost use Rattle.types.specs.Reading.{Held};
-ghost use Rattle.walks.specs.Walks.{Mono, Occurs};
+ghost use Rattle.walks.specs.Walks.{Occurs};
 ghost use Rattle.walks.specs.Letters.{BothNamed, BothNames, lettersAt, Comparing, Same};
-
-// Whether no Forall is in the type.
-pub fn is_mono(q: &[u32], work: &[u32], top: usize, r: usize) -> bool
-    requires { ⌜ Held (now q) (now work) top r ⌝ }
-    ensures { λ b. ⌜ Mono (now (q .entry)) (now (work .entry)) top r b ⌝ }
-{
-    let k = tag(q, work, top, r);
-    match k {
-        5 => {
-            let left = left_of(q, work, top, r);
-            let mono = is_mono(q, work, top, left);
-            if mono {
-                let right = right_of(q, work, top, r);
-                return is_mono(q, work, top, right);
-            }
-            false
-        }
-        6 => false,
-        _ => true,
-    }
-}
 
 // Whether a occurs free in the type, as a Var or as an ETVar: what 000 asks of occurs_check, and of free_vars by `contains`.
 pub fn occurs_check(q: &[u32], work: &[u32], top: usize, a: TyVar, r: usize) -> bool

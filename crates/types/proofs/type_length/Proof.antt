@@ -6,10 +6,10 @@ use Rattle.types.proofs.type_length.Statement.{statement}
 use Rattle.types.proofs.type_length.Tie as tie
 
 sub-result : tie.Need-sub-result
-sub-result c = end-in-question (c .before .before .before .before .pre) (c .before .if1 .taken) (c .word .ensures .0) .0
+sub-result c = end-in-question (c .before .before .before .before .pre) (c .before .if1 .taken) (c .past .ensures .0) .0
 
-word-requires-2 : tie.Need-word-requires-2
-word-requires-2 c κs =
+word-requires : tie.Need-word-requires
+word-requires c κs =
     let at-tag = c .before in let at-if1 = at-tag .before in let at-start = at-if1 .before .before .before in
     omega (
       arith,
@@ -21,5 +21,5 @@ word-requires-2 c κs =
 
 pub type-length-spec : {M : Type 1} → statement M
 type-length-spec =
-    tie.close (tie.spec (λ c. search needs) (λ c κs. search needs) sub-result (λ c. search length-written) (λ c κs. search needs)
-    (λ c κs. search needs) (λ c. search length-leaf) (λ c. search needs) word-requires-2 (λ c. search length-made))
+    tie.close (tie.spec (λ c κs. search needs) sub-result (λ c. search length-written) (λ c κs. search needs)
+    (λ c κs. search needs) (λ c. search length-leaf) (λ c. search needs) word-requires (λ c. search length-made))

@@ -6,13 +6,13 @@ use Rattle.types.proofs.type_words.Statement.{statement}
 use Rattle.types.proofs.type_words.Tie as tie
 
 sub-result : tie.Need-sub-result
-sub-result c = end-in-question (c .before .before .before .before .pre) (c .before .if1 .taken) (c .word .ensures .0) .0
+sub-result c = end-in-question (c .before .before .before .before .pre) (c .before .if1 .taken) (c .past .ensures .0) .0
 
 part-result-start : tie.Need-part-result-start
-part-result-start c = end-in-question (c .before .before .before .before .pre) (c .before .if1 .taken) (c .word .ensures .0) .0
+part-result-start c = end-in-question (c .before .before .before .before .pre) (c .before .if1 .taken) (c .past .ensures .0) .0
 
 part-result-end : tie.Need-part-result-end
-part-result-end c = end-in-question (c .before .before .before .before .pre) (c .before .if1 .taken) (c .word .ensures .0) .1
+part-result-end c = end-in-question (c .before .before .before .before .pre) (c .before .if1 .taken) (c .past .ensures .0) .1
 
 add-end : tie.Need-add-end
 add-end c =
@@ -24,6 +24,6 @@ mul-result-2 c = omega (arith, record-in-work (c .before .before .before .before
 
 pub type-words-spec : {M : Type 1} → statement M
 type-words-spec =
-    tie.close (tie.spec (λ c. search needs) (λ c κs. search needs) (λ c. search needs) sub-result part-result-start part-result-end
+    tie.close (tie.spec (λ c κs. search needs) (λ c. search needs) sub-result part-result-start part-result-end
     (λ c. search words-written) (λ c κs. search needs) (λ c κs. search needs) add-end mul-result-2 (λ c. search needs) (λ c. search needs)
     (λ c. search end-in-work) (λ c. search words-made))

@@ -17,8 +17,8 @@ Inv-loop q work₀ p₀ work p = (p ≤ length q) × Keep ENDS FLOOR work₀ wor
 abbrev μ-loop : tie.MeasureT-loop
 μ-loop q work₀ p₀ work p = p
 
-end-of-requires : tie.Need-end-of-requires Inv-loop μ-loop
-end-of-requires c κs =
+row-of-requires : tie.Need-row-of-requires Inv-loop μ-loop
+row-of-requires c κs =
     let at-loop = c .before .before in let at-start = at-loop .before .before .before .before .before .before .before in
     record {
       sized = record { small = at-start .pre .small; room = omega arith };
@@ -29,17 +29,17 @@ end-of-requires c κs =
 
 loop-again : tie.Need-loop-again Inv-loop μ-loop
 loop-again c =
-    let at-put = c .before .before in let at-end-of = at-put .before .before in let at-loop = at-end-of .before .before .before in
+    let at-put = c .before .before in let at-row-of = at-put .before .before in let at-loop = at-row-of .before .before .before in
     rw (at-put .put .ensures) (
       omega arith,
       keep-trans (at-loop .loop .inv .1) (keep-set _ _ _ _ _ (omega arith) (omega arith)),
-      table-more (omega arith) (at-end-of .end-of .ensures) (table-at (omega arith) (at-loop .loop .inv .2)),
+      table-more (omega arith) (at-row-of .row-of .ensures) (table-at (omega arith) (at-loop .loop .inv .2)),
     )
 
 returns : tie.Need-returns Inv-loop μ-loop
-returns c = laid (c .before .before .before .before .put2 .ensures) (c .before .loop .inv .1) (table-at (omega arith) (c .before .loop .inv .2))
+returns c = laid (c .before .before .before .before .put-bases .ensures) (c .before .loop .inv .1) (table-at (omega arith) (c .before .loop .inv .2))
 
 pub fill-ends-spec : {M : Type 1} → statement M
 fill-ends-spec =
-    tie.close (tie.spec Inv-loop μ-loop (λ c κs. omega arith) (λ c. search (keep-refl, table-none, needs)) (λ c. omega arith) end-of-requires
+    tie.close (tie.spec Inv-loop μ-loop (λ c κs. omega arith) (λ c. search (keep-refl, table-none, needs)) (λ c. omega arith) row-of-requires
     (λ c. omega arith) (λ c κs. search needs) (λ c. omega arith) loop-again (λ c. omega arith) returns)

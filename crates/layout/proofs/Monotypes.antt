@@ -1,0 +1,48 @@
+-- Laws of the monotype mark: a word keeps what was put into it, and a word that stays keeps what it kept.
+use mathlib.Core.Path.{_≡_, refl, ap}
+use mathlib.Core.Bool.{Bool, true, false}
+use mathlib.Core.List.{List}
+use Prim.Native.Nat.{ℕ, _+_, _-_, _%_, _≤_, _<_}
+use native.Mathlib.Omega.{arith}
+use lib.Dec.{leb}
+use borrow.Author.Tests.{le-leb, lt-leb, lt-ltb, le-ltb}
+use Rattle.definition.specs.Syntax.{pick}
+use Rattle.layout.specs.Sizes.{BASE, ENDS, MONO}
+use Rattle.layout.specs.Words.{Keep}
+use Rattle.layout.specs.Monotypes.{withMono, numberAt, monoAt, monoOf}
+
+module _ (n : ℕ) {b : Bool} where
+  pub with-yes : b ≡ true → n + MONO ≡ withMono n b
+  unfolding withMono pick
+  with-yes e = rw e refl
+
+  pub with-no : b ≡ false → n ≡ withMono n b
+  unfolding withMono pick
+  with-no e = rw e refl
+
+pub kept-number : (n : ℕ) (b : Bool) → n < MONO → withMono n b % MONO ≡ n
+unfolding withMono pick
+kept-number n true l = omega arith
+kept-number n false l = omega arith
+
+pub kept-mono : (n : ℕ) (b : Bool) → n < MONO → leb MONO (withMono n b) ≡ b
+unfolding withMono pick
+kept-mono n true l = le-leb MONO (n + MONO) (omega arith)
+kept-mono n false l = lt-leb MONO n l
+
+-- where a reference's mark lies
+module _ (w : List ℕ) (r : ℕ) where
+  pub mono-in-question : r < BASE → monoAt w (ENDS + r) ≡ monoOf w r
+  unfolding monoOf pick
+  mono-in-question l = rw (lt-ltb r BASE l) refl
+
+  pub mono-in-work : BASE ≤ r → monoAt w (r - BASE) ≡ monoOf w r
+  unfolding monoOf pick
+  mono-in-work l = rw (le-ltb r BASE l) refl
+
+module _ {t h i : ℕ} {w w′ : List ℕ} (kp : Keep t h w w′) (l : i < t) where
+  pub number-stays : numberAt w i ≡ numberAt w′ i
+  number-stays = ap (_% MONO) (kp .below i l)
+
+  pub mono-stays : monoAt w i ≡ monoAt w′ i
+  mono-stays = ap (leb MONO) (kp .below i l)
