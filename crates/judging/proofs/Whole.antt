@@ -1,23 +1,30 @@
 -- A whole judgement: from entering to leaving.
 use mathlib.Core.Path.{_≡_, refl, sym, _∙_}
-use mathlib.Core.List.{List}
+use mathlib.Core.List.{List, _∷_, _++_}
 use mathlib.Core.Option.{some}
-use Prim.Native.Nat.{ℕ, _≤_, _<_}
+use Prim.Native.Nat.{ℕ, _+_, _*_, _≤_, _<_}
 use native.Mathlib.Omega.{arith}
-use Rattle.definition.specs.Syntax.{Judgement}
+use lib.ListN.{length, getD}
+use Rattle.definition.specs.Syntax.{Ty, Entry, Ctx, Judgement, Tree}
+use Rattle.definition.specs.Run.{done}
+use Rattle.definition.specs.Contexts.{held}
+use Rattle.definition.specs.Types.{isMono}
 use Rattle.definition.specs.Rules.{judge}
 use Rattle.laws.specs.Count.{Count}
 use Rattle.laws.proofs.Count.{judgement-counted}
+use Rattle.layout.specs.Monotypes.{monoOf}
 use Rattle.layout.specs.declared.Span.{Span}
 use Rattle.layout.specs.declared.State.{State}
+use Rattle.layout.proofs.Denotes.{mono-is-walk, entry-mono}
+use Rattle.judging.specs.declared.Answer.{Answer}
 use Rattle.judging.specs.declared.Ask.{Ask}
 use Rattle.judging.specs.declared.Entered.{Entered}
 use Rattle.judging.specs.declared.Entered.the-variants.{In}
 use Rattle.judging.specs.declared.Here.{Here}
 use Rattle.judging.specs.declared.Step.{Step}
-use Rattle.judging.specs.declared.Step.the-variants.{Spent}
+use Rattle.judging.specs.declared.Step.the-variants.{Done, Spent}
 use Rattle.judging.specs.Asking.{here, Asks, JudgePre, RulePre}
-use Rattle.judging.specs.Ending.{chargeOf, Judged, Fires}
+use Rattle.judging.specs.Ending.{chargeOf, EndsJ, landed, Judged, Fires}
 use Rattle.judging.specs.Leaving.{inner, EnteredBy, entered, unpaid, LeavePre, Left, concluded, failed-on, ran-out-on}
 use Rattle.judging.proofs.Judgements.{judge-spent, rule-pre, conclude-pre, judge-done, fail-pre, judge-fail, judge-out}
 
@@ -59,6 +66,18 @@ module _ {q w : List ℕ} {s : State} {g : Span} {a : Ask} (pre : JudgePre q w s
         go c (concluded u) = judge-done pre (inside h d .pos) fires c u
         go c (failed-on e) = rw e (judge-fail pre (inside h d .pos) fires c)
         go c (ran-out-on e) = rw e (judge-out pre (inside h d .pos) fires c)
+
+-- the stored marks in what a judgement gives are the walk's: of its type, and of the type in each entry of its output context
+pub judged-marks : {m : Here} {q w w₁ : List ℕ} {s : State} {g : Span} {a : Ask} {b : Answer} {j : Judgement} {C : Ty} {Δ : Ctx} {t : Tree} {l n : ℕ}
+    → Judged m q w w₁ s g a (Done b) → Asks q w (s .top) g a j → judge (here m) j (s .left) (s .fresh) ≡ done (C, Δ, t) l n
+    → (monoOf w₁ (b .ty) ≡ isMono C)
+    × ((L : Ctx) (e : Entry) (R : Ctx) → Δ ≡ L ++ (e ∷ R) → monoOf w₁ (getD w₁ (b .g .at + 4 * length L + 2) 0) ≡ isMono (held e))
+judged-marks {q = q} {w₁ = w₁} {s = s} {b = b} {j = j} call k eq = go (rw eq at (call .run j k .ends))
+  where
+    go : {C : Ty} {Δ : Ctx} {t : Tree} {l n : ℕ} → EndsJ q w₁ s (Done b) (done (C, Δ, t) l n)
+        → (monoOf w₁ (b .ty) ≡ isMono C)
+        × ((L : Ctx) (e : Entry) (R : Ctx) → Δ ≡ L ++ (e ∷ R) → monoOf w₁ (getD w₁ (b .g .at + 4 * length L + 2) 0) ≡ isMono (held e))
+    go (landed x) = (mono-is-walk (x .room .base) (x .den), λ L e R d. entry-mono L e R (x .room .base) (rw d at (x .run .ctx)))
 
 -- what a judgement returns as its charge is its count in the definition, which no budget changes
 pub charge-is-count : {m : Here} {q w w₁ : List ℕ} {s : State} {g : Span} {a : Ask} {z : Step} → Judged m q w w₁ s g a z

@@ -197,6 +197,12 @@ ctx-frame kp le (cons {at} x g) =
 pub run-frame : {q w w′ : List ℕ} {t t′ h at n : ℕ} {Γ : Ctx} → Keep t h w w′ → t ≤ t′ → Run q w t at n Γ → Run q w′ t′ at n Γ
 run-frame kp le r = record { ctx = ctx-frame kp le (r .ctx); count = r .count; below = le-trans (r .below) le }
 
+-- the stored mark of the type in the entry that stands behind those of L
+pub entry-mono : {q w : List ℕ} {t at : ℕ} (L : Ctx) (e : Entry) (R : Ctx) → Base q w t → CtxAt q w t at (L ++ (e ∷ R))
+    → monoOf w (getD w (at + 4 * length L + 2) 0) ≡ isMono (held e)
+entry-mono {at = at} [] e R b (cons x g) = let a : at + 4 * 0 + 2 ≡ at + 2 = omega arith in rw (a, x .ref-is) (mono-is-walk b (x .den))
+entry-mono {at = at} (f ∷ L) e R b (cons x g) = let a : at + 4 * length (f ∷ L) + 2 ≡ at + 4 + 4 * length L + 2 = omega arith in rw a (entry-mono L e R b g)
+
 -- two runs, one after the other
 pub ctx-join : {q w : List ℕ} {t at : ℕ} (L : Ctx) {R : Ctx} → CtxAt q w t at L → CtxAt q w t (at + 4 * length L) R → CtxAt q w t at (L ++ R)
 ctx-join {at = at} [] {R} nil h = let a : at + 4 * 0 ≡ at = omega arith in rw a at h

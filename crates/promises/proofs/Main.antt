@@ -1,4 +1,4 @@
--- The three demands, and what orders 2 and 5 ask to be shown, as theorems: what is read after the definition (crates/definition/specs). Each restates
+-- The three demands, and what orders 2, 5 and 8 ask to be shown, as theorems: what is read after the definition (crates/definition/specs). Each restates
 -- the theorem behind its `=`. Further.antt has the other theorems of docs/THEOREMS.md, which says of each what it does not say. The words of the
 -- statements:
 --   Answered, Checked          what sporeflask_answer and sporeflask_check promise: crates/host/specs/Host.antt
@@ -12,6 +12,9 @@
 --   Allowed                    a budget from 1 to 8,192, and work that is long enough for it: crates/laws/specs/OtherBudgets.antt
 --   Settled                    a code that is none of 1, 2 and 6: the same file
 --   Relettered                 two types that differ only in the names bound by Forall: crates/laws/specs/Letters.antt
+--   Den, Base                  what a type reference denotes, by the question's words and by work below t: crates/layout/specs/Denotes.antt
+--   monoOf                     the stored mark of a type reference: crates/layout/specs/Monotypes.antt
+--   Judged, Asks               what the six judgements' functions promise, and what they are asked: crates/judging/specs
 --   AlikeQuestions             well-formed questions that are alike by a pairing of their names: crates/alike/specs/Alike.antt
 --   Pairing, itself            a pairing of variables' and of types' names; the one of every name with itself: the same file
 --   Change, pairing, change    new names and literals; how they pair the names; words with them: crates/alike/proofs/Changes.antt
@@ -19,16 +22,17 @@
 -- r what is returned; of two calls these are w₁, w₂ and so on, and v the second one's work. `getD ns 3 0` is the fourth of ns.
 use mathlib.Core.Path.{_≡_}
 use mathlib.Core.Bool.{true, false}
-use mathlib.Core.List.{List, [], map}
+use mathlib.Core.List.{List, [], _∷_, _++_, map}
 use mathlib.Core.Logic.{_↔_, _≢_}
 use mathlib.Core.Option.{Option, some}
-use Prim.Native.Nat.{ℕ, _+_, _-_, _/_, _%_, _≤_, _<_, min}
+use Prim.Native.Nat.{ℕ, _+_, _-_, _*_, _/_, _%_, _≤_, _<_, min}
 use lib.ListN.{length, getD}
-use Rattle.definition.specs.Syntax.{Ty, Ctx, parameterMismatch}
+use Rattle.definition.specs.Syntax.{Ty, Entry, Ctx, Judgement, Tree, parameterMismatch}
 use Rattle.definition.specs.Question.{Question}
 use Rattle.definition.specs.Run.{done, fail, M}
-use Rattle.definition.specs.Types.{apply}
-use Rattle.definition.specs.Rules.{sameTy, parameter}
+use Rattle.definition.specs.Contexts.{held}
+use Rattle.definition.specs.Types.{isMono, apply}
+use Rattle.definition.specs.Rules.{judge, sameTy, parameter}
 use Rattle.definition.specs.Reply.{Reply, answer, reply}
 use Rattle.definition.specs.Memory.{reportAfter, workAfter, call}
 use Rattle.definition.specs.Host.{wordAt, wordsOf, byteReply, numbers, hostCall}
@@ -41,6 +45,18 @@ use Rattle.laws.proofs as laws-proofs
 use Rattle.alike.specs.Alike.{Pairing, itself, AlikeQuestions, WellFormed}
 use Rattle.alike.proofs.Changes.{Change, pairing, change}
 use Rattle.alike.proofs as alike-proofs
+use Rattle.layout.specs.Monotypes.{monoOf}
+use Rattle.layout.specs.Denotes.{Den, Base}
+use Rattle.layout.specs.declared.Span.{Span}
+use Rattle.layout.specs.declared.State.{State}
+use Rattle.layout.proofs as layout-proofs
+use Rattle.judging.specs.Asking.{here, Asks}
+use Rattle.judging.specs.Ending.{Judged}
+use Rattle.judging.specs.declared.Answer.{Answer}
+use Rattle.judging.specs.declared.Ask.{Ask}
+use Rattle.judging.specs.declared.Here.{Here}
+use Rattle.judging.specs.declared.Step.the-variants.{Done}
+use Rattle.judging.proofs as judging-proofs
 use Rattle.host.specs.Host.{Answered, Checked}
 use Rattle.promises.specs.Common.{SameReplies, SameChecks, SameAnswers, SameTold, AlikeChecks, AlikeAnswers}
 use Rattle.promises.proofs as promises-proofs
@@ -201,3 +217,16 @@ module _ {budget : ℕ} {b s s′ w w′ t t′ ns : List ℕ} {r r′ : ℕ} (a
 
   pub answer-6-exactly-below-its-units : r′ ≢ 6 → (r ≡ 6) ↔ (384 < getD ns 3 0)
   answer-6-exactly-below-its-units = promises-proofs.OtherBudgets.answer-6-exactly-below-its-units a c long whole room allowed
+
+-- # Order 8: "Each type record keeps this as a stored yes or no .. Prove that the stored mark always equals the walk."
+
+-- of whatever a reference denotes; and so of every reference that a run can hold, since each is promised to denote a type: that which a
+-- judgement gives, and those in the entries of its output context
+pub mono-is-walk : {q w : List ℕ} {t r : ℕ} {T : Ty} → Base q w t → Den q w t r T → monoOf w r ≡ isMono T
+mono-is-walk = layout-proofs.Denotes.mono-is-walk
+
+pub judged-marks : {h : Here} {q w w₁ : List ℕ} {s : State} {g : Span} {a : Ask} {b : Answer} {j : Judgement} {C : Ty} {Δ : Ctx} {t : Tree} {l n : ℕ}
+    → Judged h q w w₁ s g a (Done b) → Asks q w (s .top) g a j → judge (here h) j (s .left) (s .fresh) ≡ done (C, Δ, t) l n
+    → (monoOf w₁ (b .ty) ≡ isMono C)
+    × ((L : Ctx) (e : Entry) (R : Ctx) → Δ ≡ L ++ (e ∷ R) → monoOf w₁ (getD w₁ (b .g .at + 4 * length L + 2) 0) ≡ isMono (held e))
+judged-marks = judging-proofs.Whole.judged-marks
