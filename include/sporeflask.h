@@ -26,8 +26,8 @@ extern "C" {
    the third: replies, names and layout are as they were. */
 #define SPOREFLASK_VERSION_MAJOR 3
 #define SPOREFLASK_VERSION_MINOR 0
-#define SPOREFLASK_VERSION_PATCH 0
-#define SPOREFLASK_VERSION "3.0.0"
+#define SPOREFLASK_VERSION_PATCH 1
+#define SPOREFLASK_VERSION "3.0.1"
 
 /* ---- Sizes, in words of 4 bytes unless their name says otherwise */
 

@@ -3,9 +3,6 @@ use layout::TmVar;
 use layout::TyVar;
 use layout::past;
 use layout::word;
-ghost use mathlib.Core.Path.{_≡_};
-ghost use Prim.Native.Nat.{_+_, _<_};
-ghost use lib.ListN.{length, getD};
 ghost use Rattle.definition.specs.Syntax.{ann, tapp};
 ghost use Rattle.expressions.specs.Forms.{Shaped, VarOf, AppOf, AbsOf, TypedOf, TAbsOf, LetOf, IfOf, BinOpOf};
 

@@ -2,17 +2,17 @@
 use mathlib.Core.Path.{_≡_, refl, sym, _∙_, ap}
 use mathlib.Core.Bool.{Bool, true, false}
 use mathlib.Core.List.{List, [], _∷_, _++_}
-use Prim.Native.Nat.{ℕ, _+_, _-_, _*_, _%_, _≤_, _<_}
+use Prim.Native.Nat.{ℕ, _+_, _-_, _*_, _≤_, _<_}
 use native.Mathlib.Nat.{le-trans}
 use native.Mathlib.Omega.{arith}
-use lib.Dec.{leb, ltb}
+use lib.Dec.{ltb}
 use lib.ListN.{length, getD}
 use borrow.Author.Tests.{ltb-true, ltb-false}
 use Rattle.definition.specs.Syntax.{pick, TyVar, Ty, int, bool, etvar, arrow, forall, Binding, Entry, ofQuestion, Ctx}
 use Rattle.definition.specs.Types.{isMono}
 use Rattle.definition.specs.Rules.{tyCode}
 use Rattle.definition.specs.Contexts.{Key, kVar, kTVar, kETVar, kSETVar, kMark, bindingKey, keyOf, kindOf, nameOf, bindingType, held}
-use Rattle.layout.specs.Sizes.{BASE, INT, BOOL, ENDS, MONO}
+use Rattle.layout.specs.Sizes.{BASE, INT, BOOL, ENDS}
 use Rattle.layout.specs.Words.{Keep, Put2, Put4}
 use Rattle.layout.specs.Places.{size, TyAt}
 use Rattle.layout.specs.Monotypes.{withMono, monoAt, monoOf}
@@ -83,8 +83,8 @@ made : {w : List ℕ} {t r i n : ℕ} (T : Ty) → r ≡ BASE + i → i + n ≤ 
 made T e b f = record {
   ref = e;
   below = b;
-  code = ap (_% MONO) f ∙ kept-number (tyCode T) (isMono T) (code-small T);
-  mono = ap (leb MONO) f ∙ kept-mono (tyCode T) (isMono T) (code-small T);
+  code = kept-number (tyCode T) (isMono T) f (code-small T);
+  mono = kept-mono (tyCode T) (isMono T) f (code-small T);
 }
 
 pub etvar-put : {q w w′ : List ℕ} {t n : ℕ} (a : TyVar) → n ≡ a .number → Put2 w w′ t (withMono 4 true) n → Den q w′ (t + 2) (BASE + t) (etvar a)

@@ -1,5 +1,5 @@
 -- Laws of the monotype mark: a word keeps what was put into it, and a word that stays keeps what it kept.
-use mathlib.Core.Path.{_≡_, refl, ap}
+use mathlib.Core.Path.{_≡_, refl, _∙_, ap}
 use mathlib.Core.Bool.{Bool, true, false}
 use mathlib.Core.List.{List}
 use Prim.Native.Nat.{ℕ, _+_, _-_, _%_, _≤_, _<_}
@@ -20,15 +20,22 @@ module _ (n : ℕ) {b : Bool} where
   unfolding withMono pick
   with-no e = rw e refl
 
-pub kept-number : (n : ℕ) (b : Bool) → n < MONO → withMono n b % MONO ≡ n
+number-in : (n : ℕ) (b : Bool) → n < MONO → withMono n b % MONO ≡ n
 unfolding withMono pick
-kept-number n true l = omega arith
-kept-number n false l = omega arith
+number-in n true l = omega arith
+number-in n false l = omega arith
 
-pub kept-mono : (n : ℕ) (b : Bool) → n < MONO → leb MONO (withMono n b) ≡ b
+mono-in : (n : ℕ) (b : Bool) → n < MONO → leb MONO (withMono n b) ≡ b
 unfolding withMono pick
-kept-mono n true l = le-leb MONO (n + MONO) (omega arith)
-kept-mono n false l = lt-leb MONO n l
+mono-in n true l = le-leb MONO (n + MONO) (omega arith)
+mono-in n false l = lt-leb MONO n l
+
+module _ {v : ℕ} (n : ℕ) (b : Bool) (e : v ≡ withMono n b) (l : n < MONO) where
+  pub kept-number : v % MONO ≡ n
+  kept-number = ap (_% MONO) e ∙ number-in n b l
+
+  pub kept-mono : leb MONO v ≡ b
+  kept-mono = ap (leb MONO) e ∙ mono-in n b l
 
 -- where a reference's mark lies
 module _ (w : List ℕ) (r : ℕ) where

@@ -1,5 +1,5 @@
 -- Laws of the table of ends.
-use Prim.Native.Nat.{ℕ, suc, _+_, _%_, _≤_, _<_, _^_}
+use Prim.Native.Nat.{ℕ, suc, _+_, _%_, _≤_, _<_}
 use mathlib.Core.Path.{_≡_, refl, sym, _∙_, ap, ap₂}
 use mathlib.Core.Logic.{inl, inr, ⊎-elim}
 use mathlib.Core.Bool.{Bool, true, false, _&&_}
@@ -32,7 +32,7 @@ pub data ItemsTo (q : List ℕ) : ℕ → ℕ → ℕ → Type 0 where
   done : {p m : ℕ} → p ≡ m → ItemsTo q p 0 m
   item : {p n k m : ℕ} → Spans q p n → ItemsTo q n k m → ItemsTo q p (suc k) m
 
--- by an item's code: how many words it has before its own items, how many items, and its mark: 1 for a type without parts, 2 for an Arrow, by
+-- by an item's code: how many words it has before its own items, how many items, and its monotype mark: 1 for a type without parts, 2 for an Arrow, by
 -- its parts, else 0, none; one word, no item and no mark for codes that are not listed
 abbrev pub Shape : Type 0
 Shape = ℕ × ℕ × ℕ

@@ -7,11 +7,11 @@ use Rattle.types.proofs.put_etvar.Tie as tie
 
 returns : tie.Need-returns
 returns c =
-    let at-put2 = c .before .before in
+    let at-put2 = c .before .before in let at-with-mono = at-put2 .before .before .before in
     record {
       keep = at-put2 .put2 .ensures .keep;
       ref = refl;
-      den = λ q. etvar-put _ refl (rw (at-put2 .before .before .before .with-mono .ensures .0) at (at-put2 .put2 .ensures));
+      den = λ q. etvar-put _ refl (rw (at-with-mono .with-mono .ensures .0) at (at-put2 .put2 .ensures));
     }
 
 pub put-etvar-spec : {M : Type 1} → statement M

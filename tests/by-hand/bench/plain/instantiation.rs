@@ -70,6 +70,7 @@ impl Run<'_> {
             }
             Type::Arrow(from, to) => self.inst_arrow(side, g, name, from, to),
             Type::Forall(b, body) => self.inst_forall(side, g, a, b, body),
+            _ if !self.is_mono(ty) => refused(16, name, ty, 0),
             _ if self.occurs(name, ty) => refused(14, name, ty, 0),
             _ => {
                 let out = self.replace(g, name, &[Key::Solved(name).of(ty)]);

@@ -10,6 +10,9 @@ const CONTEXT: usize = 3;
 /// For each place where a type or an expression begins, the place past it.
 pub type Ends = [u16; MOST_WORDS];
 
+/// Beside an end: a type without Forall ends there.
+pub const MONO_END: u16 = 1 << 15;
+
 /// A question's parts: places of its expression and types, 0 where there is none.
 pub struct Asked {
     pub kind: u32,
@@ -102,23 +105,25 @@ impl Reader<'_> {
         Ok(())
     }
 
-    fn ty(&mut self) -> Result<(), Fault> {
+    /// Reads a type; whether no Forall is in it.
+    fn ty(&mut self) -> Result<bool, Fault> {
         let start = self.at;
-        match self.word()? {
-            1 | 2 => (),
-            3 | 4 => self.name()?,
-            5 => {
-                self.ty()?;
-                self.ty()?;
+        let mono = match self.word()? {
+            1 | 2 => true,
+            3 | 4 => {
+                self.name()?;
+                true
             }
+            5 => self.ty()? & self.ty()?,
             6 => {
                 self.name()?;
                 self.ty()?;
+                false
             }
             _ => return bad_shape(start),
-        }
-        self.ends[start] = self.at as u16;
-        Ok(())
+        };
+        self.ends[start] = self.at as u16 | if mono { MONO_END } else { 0 };
+        Ok(mono)
     }
 
     fn expr(&mut self) -> Result<(), Fault> {
@@ -171,7 +176,7 @@ impl Reader<'_> {
         match self.word()? {
             32 | 35 => {
                 self.name()?;
-                self.ty()
+                self.ty().map(drop)
             }
             33 | 34 | 36 => self.name(),
             _ => bad_shape(start),
@@ -183,7 +188,7 @@ impl Reader<'_> {
         let start = self.at;
         self.within(4, 4)?;
         self.name()?;
-        self.ends[start] = self.at as u16;
+        self.ends[start] = self.at as u16 | MONO_END;
         Ok(())
     }
 
@@ -206,7 +211,7 @@ impl Reader<'_> {
                 }
             }
             Holds::Expr => self.expr()?,
-            Holds::Type => self.ty()?,
+            Holds::Type => drop(self.ty()?),
             Holds::Unknown => self.unknown()?,
         }
         if self.at < self.end {

@@ -1,8 +1,8 @@
 //! A run's state in work, and what every judgement does when it is entered and left.
 
 use crate::contexts::Context;
-use crate::reading::{Ends, FIRST_FRESH};
-use crate::types::TypeRef;
+use crate::reading::{Ends, FIRST_FRESH, MONO_END};
+use crate::types::{TypeRef, MONO};
 
 /// Words of a node: rule, children, place, input context (2), left, right, output context (2), result, kind.
 pub const NODE: usize = 11;
@@ -62,8 +62,8 @@ impl<'a> Run<'a> {
     ) -> Run<'a> {
         let low = work.len();
         let mut run = Run { question, ends, work, top: 0, low, left: budget, fresh: 0, strict };
-        run.put([1]);
-        run.put([2]);
+        run.put([1 | MONO]);
+        run.put([2 | MONO]);
         run
     }
 
@@ -87,7 +87,7 @@ impl<'a> Run<'a> {
 
     /// The place past the type or expression that begins here in the question.
     pub fn end_of(&self, place: u32) -> u32 {
-        u32::from(self.ends[place as usize])
+        u32::from(self.ends[place as usize] & !MONO_END)
     }
 
     /// Pays for entering a judgement, and reserves its node, so that parents stand before children.

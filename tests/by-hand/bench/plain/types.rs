@@ -1,5 +1,6 @@
 //! Types by reference: in the question as written, in work as records that share their parts.
 
+use crate::reading::MONO_END;
 use crate::run::Run;
 
 /// Below `IN_WORK` a place of the question, else `IN_WORK` plus a place of work.
@@ -8,6 +9,9 @@ pub type TypeRef = u32;
 const IN_WORK: TypeRef = 2_048;
 pub const INT: TypeRef = IN_WORK;
 pub const BOOL: TypeRef = IN_WORK + 1;
+
+/// In a record's first word beside the code, which is below this: no Forall is in the type.
+pub const MONO: u32 = 8;
 
 #[derive(Clone, Copy)]
 pub enum Type {
@@ -41,7 +45,7 @@ impl Run<'_> {
     }
 
     fn made_type(&self, at: usize) -> Type {
-        match self.work[at] {
+        match self.work[at] % MONO {
             1 => Type::Int,
             2 => Type::Bool,
             4 => Type::ETVar(self.work[at + 1]),
@@ -61,20 +65,41 @@ impl Run<'_> {
             return self.end_of(r) - r;
         }
         let at = (r - IN_WORK) as usize;
-        match self.work[at] {
+        match self.work[at] % MONO {
             1 | 2 => 1,
             4 => 2,
             _ => self.work[at + 3],
         }
     }
 
+    /// Whether no Forall is in the type, as was noted when it was read or made.
+    pub fn is_mono(&self, r: TypeRef) -> bool {
+        let mono = if r < IN_WORK {
+            self.ends[r as usize] & MONO_END != 0
+        } else {
+            self.work[(r - IN_WORK) as usize] & MONO != 0
+        };
+        debug_assert_eq!(mono, self.walked_mono(r));
+        mono
+    }
+
+    /// The same by a walk, which the notes are held to.
+    fn walked_mono(&self, r: TypeRef) -> bool {
+        match self.ty(r) {
+            Type::Arrow(from, to) => self.walked_mono(from) && self.walked_mono(to),
+            Type::Forall(..) => false,
+            _ => true,
+        }
+    }
+
     pub fn etvar(&mut self, a: u32) -> TypeRef {
-        IN_WORK + self.put([4, a]) as u32
+        IN_WORK + self.put([4 | MONO, a]) as u32
     }
 
     pub fn arrow(&mut self, from: TypeRef, to: TypeRef) -> TypeRef {
         let length = self.length(from).saturating_add(self.length(to)).saturating_add(1);
-        IN_WORK + self.put([5, from, to, length]) as u32
+        let mono = if self.is_mono(from) & self.is_mono(to) { MONO } else { 0 };
+        IN_WORK + self.put([5 | mono, from, to, length]) as u32
     }
 
     pub fn forall(&mut self, a: u32, body: TypeRef) -> TypeRef {

@@ -12,7 +12,8 @@ returns-2 : tie.Need-returns-2
 unfolding look table others pick
 returns-2 c =
     let at-start = c .before .before .before .before in
-    row-none (at-start .pre .0) 2 (omega arith) (each (λ w. look w table ≡ (2, 0, 0)) (16 ∷ 23 ∷ []) (refl, (refl, tt)) (c .match .keys2)) (omega arith)
+    row-none (at-start .pre .0) 2 (omega arith) (each (λ w. look w table ≡ (2, 0, 0)) (16 ∷ 23 ∷ []) (refl, (refl, tt)) (c .match .keys2))
+    (omega arith)
 
 returns-3 : tie.Need-returns-3
 unfolding look table others pick
@@ -24,7 +25,8 @@ returns-4 : tie.Need-returns-4
 unfolding look table others pick
 returns-4 c =
     let at-match = c .before in let at-start = at-match .before .before .before .before in
-    row-one (at-start .pre .0) 2 (omega arith) (c .past .ensures) (each (λ w. look w table ≡ (2, 1, 0)) (6 ∷ 20 ∷ []) (refl, (refl, tt)) (at-match .match .keys4))
+    row-one (at-start .pre .0) 2 (omega arith) (c .past .ensures) (each (λ w. look w table ≡ (2, 1, 0)) (6 ∷ 20 ∷ []) (refl, (refl, tt))
+    (at-match .match .keys4))
 
 returns-5 : tie.Need-returns-5
 unfolding look table others pick
