@@ -54,8 +54,8 @@ enum {
 #define SPOREFLASK_CHECK_STACK_BYTES(budget)                         \
     ((((size_t)(budget) <= 493    ? (size_t)593024                   \
        : (size_t)(budget) <= 1021 ? 928 * (size_t)(budget) + 135168  \
-       : (size_t)(budget) <= 2042 ? 608 * (size_t)(budget) + 461888  \
-                                  : 432 * (size_t)(budget) + 821280) \
+       : (size_t)(budget) <= 2042 ? 592 * (size_t)(budget) + 478224  \
+                                  : 416 * (size_t)(budget) + 837616) \
       + 65535) / 65536 * 65536)
 
 /* ---- The question
