@@ -32,8 +32,8 @@ pub data ItemsTo (q : List ℕ) : ℕ → ℕ → ℕ → Type 0 where
   done : {p m : ℕ} → p ≡ m → ItemsTo q p 0 m
   item : {p n k m : ℕ} → Spans q p n → ItemsTo q n k m → ItemsTo q p (suc k) m
 
--- by an item's code: how many words it has before its own items, how many items, and its monotype mark: 1 for a type without parts, 2 for an Arrow, by
--- its parts, else 0, none; one word, no item and no mark for codes that are not listed
+-- by an item's code: how many words it has before its own items, how many items, and its monotype mark: 1 for a type without parts, 2 for an
+-- Arrow, which has it from its parts, else 0, none. One word, no item and no mark for codes that are not listed
 abbrev pub Shape : Type 0
 Shape = ℕ × ℕ × ℕ
 
@@ -150,15 +150,15 @@ spans-within : {q : List ℕ} {p m : ℕ} → Spans q p m → (p < length q) × 
 spans-within (ty-spans d t) = (ty-code d .within, omega arith)
 spans-within (expr-spans d t) = (expr-code d .within, omega arith)
 
--- what the mark is, by the word at a type's place
-mark-is : {q : List ℕ} {p : ℕ} {A : Ty} (k : ℕ) → TyAt q p A → look (getD q p 0) table .2 ≡ k → (k ≡ 2 → ⊥) → leb 1 k ≡ isMono A
+-- whether a type is a monotype, by the word at its place; of an Arrow that does not tell
+mono-by-shape : {q : List ℕ} {p : ℕ} {A : Ty} (k : ℕ) → TyAt q p A → look (getD q p 0) table .2 ≡ k → (k ≡ 2 → ⊥) → leb 1 k ≡ isMono A
 unfolding look table others pick isMono
-mark-is k (int-at c) e f = rw (← e, c .is) refl
-mark-is k (bool-at c) e f = rw (← e, c .is) refl
-mark-is k (var-at c n) e f = rw (← e, c .is) refl
-mark-is k (etvar-at c n) e f = rw (← e, c .is) refl
-mark-is k (arrow-at c d g h) e f = absurd (f (sym e ∙ rw (c .is) refl))
-mark-is k (forall-at c n d) e f = rw (← e, c .is) refl
+mono-by-shape k (int-at c) e f = rw (← e, c .is) refl
+mono-by-shape k (bool-at c) e f = rw (← e, c .is) refl
+mono-by-shape k (var-at c n) e f = rw (← e, c .is) refl
+mono-by-shape k (etvar-at c n) e f = rw (← e, c .is) refl
+mono-by-shape k (arrow-at c d g h) e f = absurd (f (sym e ∙ rw (c .is) refl))
+mono-by-shape k (forall-at c n d) e f = rw (← e, c .is) refl
 
 pub past-row : {q w : List ℕ} {i v : ℕ} → RowAt q w i v → PastIs q w i (v % MONO)
 past-row x = record { is = λ l. ap (_% MONO) (x .is l); fits = omega arith }
@@ -195,14 +195,14 @@ module _ {q w : List ℕ} {p : ℕ} (ready : ReadyAt q w p) where
   plain : {n k e : ℕ} → look (getD q p 0) table ≡ (n, k, 0) → e < MONO → Ends e → RowIs q p e
   plain {e = e} f l x = record {
     end = λ m s. let y : e % MONO ≡ e = omega arith in y ∙ x m s;
-    mono = λ A d. lt-leb MONO e l ∙ mark-is 0 d (ap (λ (z : Shape). z .2) f) (λ i. omega arith);
+    mono = λ A d. lt-leb MONO e l ∙ mono-by-shape 0 d (ap (λ (z : Shape). z .2) f) (λ i. omega arith);
     fits = omega arith;
   }
 
   row-leaf : (n : ℕ) → look (getD q p 0) table ≡ (n, 0, 1) → 1 ≤ n → n ≤ 2 → RowIs q p (p + n + MONO)
   row-leaf n f some few = record {
     end = λ m s. let y : (p + n + MONO) % MONO ≡ p + n = omega (arith, ready .within, ready .sized .small) in y ∙ ends-none n some f m s;
-    mono = λ A d. le-leb MONO (p + n + MONO) (omega arith) ∙ mark-is 1 d (ap (λ (z : Shape). z .2) f) (λ i. omega arith);
+    mono = λ A d. le-leb MONO (p + n + MONO) (omega arith) ∙ mono-by-shape 1 d (ap (λ (z : Shape). z .2) f) (λ i. omega arith);
     fits = omega (arith, ready .within, ready .sized .small);
   }
 
@@ -235,26 +235,26 @@ module _ {q w : List ℕ} {p : ℕ} (ready : ReadyAt q w p) where
     unfolding look table others pick
     arrow-ends = ends-two 1 (omega arith) {k = 2} (past-row left) (past-row right) (rw five refl)
 
-    arrow-mono : (A : Ty) → TyAt q p A → (leb MONO l && leb MONO r) ≡ isMono A
+    arrow-marks : (A : Ty) → TyAt q p A → (leb MONO l && leb MONO r) ≡ isMono A
     unfolding isMono
-    arrow-mono (arrow B C) (arrow-at {m = m} c d e f) =
+    arrow-marks (arrow B C) (arrow-at {m = m} c d e f) =
         let k : l % MONO ≡ m = past-row left .is (ty-code d .within) ∙ ready .table .ends (p + 1) m (omega arith) (ty-spans d e) in
         let z = rw k at right in
         ap₂ _&&_ (ap (leb MONO) (left .is (ty-code d .within)) ∙ ready .table .monos (p + 1) B (omega arith) d)
         (ap (leb MONO) (z .is (ty-code f .within)) ∙ ready .table .monos m C (omega arith) f)
-    arrow-mono int (int-at c) = absurd (omega (arith, c .is))
-    arrow-mono bool (bool-at c) = absurd (omega (arith, c .is))
-    arrow-mono (var v) (var-at c n) = absurd (omega (arith, c .is))
-    arrow-mono (etvar v) (etvar-at c n) = absurd (omega (arith, c .is))
-    arrow-mono (forall v B) (forall-at c n d) = absurd (omega (arith, c .is))
+    arrow-marks int (int-at c) = absurd (omega (arith, c .is))
+    arrow-marks bool (bool-at c) = absurd (omega (arith, c .is))
+    arrow-marks (var v) (var-at c n) = absurd (omega (arith, c .is))
+    arrow-marks (etvar v) (etvar-at c n) = absurd (omega (arith, c .is))
+    arrow-marks (forall v B) (forall-at c n d) = absurd (omega (arith, c .is))
 
     pub arrow-marked : MONO ≤ l → RowIs q p r
-    arrow-marked h = record { end = arrow-ends; mono = λ A d. ap (_&& leb MONO r) (sym (le-leb MONO l h)) ∙ arrow-mono A d; fits = right .fits }
+    arrow-marked h = record { end = arrow-ends; mono = λ A d. ap (_&& leb MONO r) (sym (le-leb MONO l h)) ∙ arrow-marks A d; fits = right .fits }
 
     pub arrow-plain : l < MONO → RowIs q p (r % MONO)
     arrow-plain h = record {
       end = λ m s. let y : r % MONO % MONO ≡ r % MONO = omega arith in y ∙ arrow-ends m s;
-      mono = λ A d. lt-leb MONO (r % MONO) (omega arith) ∙ ap (_&& leb MONO r) (sym (lt-leb MONO l h)) ∙ arrow-mono A d;
+      mono = λ A d. lt-leb MONO (r % MONO) (omega arith) ∙ ap (_&& leb MONO r) (sym (lt-leb MONO l h)) ∙ arrow-marks A d;
       fits = omega arith;
     }
 
