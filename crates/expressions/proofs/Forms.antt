@@ -10,6 +10,7 @@ use Rattle.layout.specs.Monotypes.{past}
 use Rattle.layout.specs.Places.{exprSize, size, CodeAt, TyAt, ExprAt, evar-at, app-at, abs-at, tapp-at, tabs-at, ann-at, litInt-at, litBool-at, letIn-at, ifThenElse-at, binOp-at}
 use Rattle.layout.specs.Denotes.{Base}
 use Rattle.layout.proofs.Places.{expr-code, ty-code}
+use Rattle.layout.proofs.Denotes.{past-ty}
 use Rattle.layout.proofs.Numbered.{nth}
 use Rattle.expressions.specs.Forms.{Shaped, IsApp, IsAbs, IsTyped, IsTAbs, IsLet, IsIf, IsBinOp, VarOf, AppOf, AbsOf, TypedOf, TAbsOf, LetOf, IfOf, BinOpOf}
 
@@ -56,7 +57,7 @@ module _ {q w : List ℕ} (b : Base q w (length w)) where
   after x m = b .past-expr _ _ x ∙ m
 
   after-type : {i m : ℕ} {A : Ty} → TyAt q i A → i + size A ≡ m → past w i ≡ m
-  after-type x m = b .past-ty _ _ x ∙ m
+  after-type x m = past-ty b x ∙ m
 
   form : {p : ℕ} {e : Expr} (k : ℕ) → getD q p 0 ≡ k → ExprAt q p e → Form q w p e k
   form k h (evar-at {p} {x} c n) = by q w p (evar p x) c h (rw (n .is) refl)

@@ -98,8 +98,8 @@ fn refuse(st: State, code: usize, x: TyVar, ty: usize) -> Step
     })
 }
 
-// InstLSolve (30), InstRSolve (34). Arrow and Forall have rules of their own, so that only monotypes come here: the mark never says no, and
-// 000's last arm, 16, is not reached.
+// InstLSolve (30), InstRSolve (34). Arrow and Forall have rules of their own, so that only monotypes come here: the monotype mark
+// never says no, and 000's last arm, 16, is not reached.
 fn solve(
     q: &[u32],
     work: &mut [u32],

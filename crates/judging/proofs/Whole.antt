@@ -1,18 +1,14 @@
 -- A whole judgement: from entering to leaving.
 use mathlib.Core.Path.{_≡_, refl, sym, _∙_}
-use mathlib.Core.List.{List, _∷_, _++_}
+use mathlib.Core.List.{List}
 use mathlib.Core.Option.{some}
-use Prim.Native.Nat.{ℕ, _+_, _*_, _≤_, _<_}
+use Prim.Native.Nat.{ℕ, _≤_, _<_}
 use native.Mathlib.Omega.{arith}
-use lib.ListN.{length, getD}
-use Rattle.definition.specs.Syntax.{Ty, Entry, Ctx, Judgement, Tree}
+use Rattle.definition.specs.Syntax.{Ty, Ctx, Judgement, Tree}
 use Rattle.definition.specs.Run.{done}
-use Rattle.definition.specs.Contexts.{held}
-use Rattle.definition.specs.Types.{isMono}
 use Rattle.definition.specs.Rules.{judge}
 use Rattle.laws.specs.Count.{Count}
 use Rattle.laws.proofs.Count.{judgement-counted}
-use Rattle.layout.specs.Monotypes.{monoOf}
 use Rattle.layout.specs.declared.Span.{Span}
 use Rattle.layout.specs.declared.State.{State}
 use Rattle.layout.proofs.Denotes.{mono-is-walk, entry-mono}
@@ -25,6 +21,7 @@ use Rattle.judging.specs.declared.Step.{Step}
 use Rattle.judging.specs.declared.Step.the-variants.{Done, Spent}
 use Rattle.judging.specs.Asking.{here, Asks, JudgePre, RulePre}
 use Rattle.judging.specs.Ending.{chargeOf, EndsJ, landed, Judged, Fires}
+use Rattle.judging.specs.Marks.{Marked}
 use Rattle.judging.specs.Leaving.{inner, EnteredBy, entered, unpaid, LeavePre, Left, concluded, failed-on, ran-out-on}
 use Rattle.judging.proofs.Judgements.{judge-spent, rule-pre, conclude-pre, judge-done, fail-pre, judge-fail, judge-out}
 
@@ -67,17 +64,13 @@ module _ {q w : List ℕ} {s : State} {g : Span} {a : Ask} (pre : JudgePre q w s
         go c (failed-on e) = rw e (judge-fail pre (inside h d .pos) fires c)
         go c (ran-out-on e) = rw e (judge-out pre (inside h d .pos) fires c)
 
--- the stored marks in what a judgement gives are the walk's: of its type, and of the type in each entry of its output context
+-- the stored monotype marks in what a judgement gives are the walk's
 pub judged-marks : {m : Here} {q w w₁ : List ℕ} {s : State} {g : Span} {a : Ask} {b : Answer} {j : Judgement} {C : Ty} {Δ : Ctx} {t : Tree} {l n : ℕ}
-    → Judged m q w w₁ s g a (Done b) → Asks q w (s .top) g a j → judge (here m) j (s .left) (s .fresh) ≡ done (C, Δ, t) l n
-    → (monoOf w₁ (b .ty) ≡ isMono C)
-    × ((L : Ctx) (e : Entry) (R : Ctx) → Δ ≡ L ++ (e ∷ R) → monoOf w₁ (getD w₁ (b .g .at + 4 * length L + 2) 0) ≡ isMono (held e))
+    → Judged m q w w₁ s g a (Done b) → Asks q w (s .top) g a j → judge (here m) j (s .left) (s .fresh) ≡ done (C, Δ, t) l n → Marked w₁ b C Δ
 judged-marks {q = q} {w₁ = w₁} {s = s} {b = b} {j = j} call k eq = go (rw eq at (call .run j k .ends))
   where
-    go : {C : Ty} {Δ : Ctx} {t : Tree} {l n : ℕ} → EndsJ q w₁ s (Done b) (done (C, Δ, t) l n)
-        → (monoOf w₁ (b .ty) ≡ isMono C)
-        × ((L : Ctx) (e : Entry) (R : Ctx) → Δ ≡ L ++ (e ∷ R) → monoOf w₁ (getD w₁ (b .g .at + 4 * length L + 2) 0) ≡ isMono (held e))
-    go (landed x) = (mono-is-walk (x .room .base) (x .den), λ L e R d. entry-mono L e R (x .room .base) (rw d at (x .run .ctx)))
+    go : {C : Ty} {Δ : Ctx} {t : Tree} {l n : ℕ} → EndsJ q w₁ s (Done b) (done (C, Δ, t) l n) → Marked w₁ b C Δ
+    go (landed x) = let y = x .room .base in record { type = mono-is-walk y (x .den); entry = λ L e R d. entry-mono L e R y (rw d at (x .run .ctx)) }
 
 -- what a judgement returns as its charge is its count in the definition, which no budget changes
 pub charge-is-count : {m : Here} {q w w₁ : List ℕ} {s : State} {g : Span} {a : Ask} {z : Step} → Judged m q w w₁ s g a z

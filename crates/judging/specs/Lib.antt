@@ -3,3 +3,4 @@ pub mod Asking
 pub mod Nodes
 pub mod Ending
 pub mod Leaving
+pub mod Marks

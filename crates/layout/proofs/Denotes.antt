@@ -3,35 +3,29 @@ use mathlib.Core.Path.{_≡_, refl, sym, _∙_, ap}
 use mathlib.Core.Bool.{Bool, true, false}
 use mathlib.Core.List.{List, [], _∷_, _++_}
 use Prim.Native.Nat.{ℕ, _+_, _-_, _*_, _≤_, _<_}
-use native.Mathlib.Nat.{le-trans}
+use native.Mathlib.Nat.{le-trans, lt-of-not-le}
+use native.Mathlib.Decide.{decLe}
 use native.Mathlib.Omega.{arith}
-use lib.Dec.{ltb}
 use lib.ListN.{length, getD}
-use borrow.Author.Tests.{ltb-true, ltb-false}
-use Rattle.definition.specs.Syntax.{pick, TyVar, Ty, int, bool, etvar, arrow, forall, Binding, Entry, ofQuestion, Ctx}
+use Rattle.definition.specs.Syntax.{TyVar, Ty, int, bool, etvar, arrow, forall, Binding, Entry, ofQuestion, Ctx}
 use Rattle.definition.specs.Types.{isMono}
 use Rattle.definition.specs.Rules.{tyCode}
 use Rattle.definition.specs.Contexts.{Key, kVar, kTVar, kETVar, kSETVar, kMark, bindingKey, keyOf, kindOf, nameOf, bindingType, held}
 use Rattle.layout.specs.Sizes.{BASE, INT, BOOL, ENDS}
 use Rattle.layout.specs.Words.{Keep, Put2, Put4}
 use Rattle.layout.specs.Places.{size, TyAt}
-use Rattle.layout.specs.Monotypes.{withMono, monoAt, monoOf}
+use Rattle.layout.specs.Monotypes.{withMono, monoAt, past, monoOf}
 use Rattle.layout.specs.Denotes.{capped, MadeAt, Den, written, int-made, bool-made, etvar-made, arrow-made, forall-made, AsEntry, EntryAt, PutEntry, CtxAt, nil, cons, Run, Base}
 use Rattle.layout.specs.declared.Entry as program
-use Rattle.layout.proofs.Places.{code-small, ty-code, expr-code}
-use Rattle.layout.proofs.Monotypes.{kept-number, kept-mono, number-stays, mono-stays}
+use Rattle.layout.proofs.Places.{code-small, end-small, ty-code, expr-code}
+use Rattle.layout.proofs.Monotypes.{kept-number, kept-mono, mono-in-question, mono-in-work, number-stays}
 
 -- ## Types
 
 made-frame : {t t′ h r i n : ℕ} {w w′ : List ℕ} {T : Ty} → Keep t h w w′ → t ≤ t′ → 1 ≤ n → MadeAt w t r i n T → MadeAt w′ t′ r i n T
 made-frame {i = i} kp le h m =
     let b = m .below in
-    record {
-      ref = m .ref;
-      below = le-trans b le;
-      code = sym (number-stays kp (omega arith)) ∙ m .code;
-      mono = sym (mono-stays kp (omega arith)) ∙ m .mono;
-    }
+    record { ref = m .ref; below = le-trans b le; is = sym (kp .below i (omega arith)) ∙ m .is }
 
 pub den-frame : {q w w′ : List ℕ} {t t′ h r : ℕ} {T : Ty} → Keep t h w w′ → t ≤ t′ → Den q w t r T → Den q w′ t′ r T
 den-frame kp le (written d) = written d
@@ -56,9 +50,6 @@ den-frame kp le (forall-made {i = i} m y n g s d) =
     (sym (kp .below (i + 3) (omega arith)) ∙ s)
     (den-frame kp le d)
 
-made-mono : {w : List ℕ} {t r i n : ℕ} {T : Ty} → MadeAt w t r i n T → monoAt w (r - BASE) ≡ isMono T
-made-mono {r = r} {i = i} m = let e : r - BASE ≡ i = omega (arith, m .ref) in rw e (m .mono)
-
 -- a reference below 2048 is a place of the question
 pub den-written : {q w : List ℕ} {t r : ℕ} {T : Ty} → r < BASE → Den q w t r T → TyAt q r T
 den-written h (written d) = d
@@ -78,32 +69,23 @@ den-small (forall-made m y n g s d) = omega (arith, m .ref, m .below)
 
 -- ## What is put at t is a type
 
--- a record's first word is the code, with the walk's answer
-made : {w : List ℕ} {t r i n : ℕ} (T : Ty) → r ≡ BASE + i → i + n ≤ t → getD w i 0 ≡ withMono (tyCode T) (isMono T) → MadeAt w t r i n T
-made T e b f = record {
-  ref = e;
-  below = b;
-  code = kept-number (tyCode T) (isMono T) f (code-small T);
-  mono = kept-mono (tyCode T) (isMono T) f (code-small T);
-}
-
 pub etvar-put : {q w w′ : List ℕ} {t n : ℕ} (a : TyVar) → n ≡ a .number → Put2 w w′ t (withMono 4 true) n → Den q w′ (t + 2) (BASE + t) (etvar a)
 unfolding tyCode isMono
-etvar-put {t = t} a e p = etvar-made {i = t} (made (etvar a) refl (omega arith) (p .w0)) (p .w1 ∙ e)
+etvar-put {t = t} a e p = etvar-made {i = t} (record { ref = refl; below = omega arith; is = p .w0 }) (p .w1 ∙ e)
 
 pub arrow-put : {q w w′ : List ℕ} {t l m n : ℕ} {b : Bool} {A B : Ty} → b ≡ isMono (arrow A B) → Put4 w w′ t (withMono 5 b) l m n
     → n ≡ capped (size (arrow A B)) → Den q w t l A → Den q w t m B → Den q w′ (t + 4) (BASE + t) (arrow A B)
 unfolding tyCode
-arrow-put {t = t} {A = A} {B} f p s d e =
-    arrow-made {i = t} (made (arrow A B) refl (omega arith) (p .w0 ∙ ap (withMono 5) f)) (den-small d) (den-small e) (p .w1) (p .w2) (p .w3 ∙ s)
+arrow-put {t = t} f p s d e =
+    arrow-made {i = t} (record { ref = refl; below = omega arith; is = p .w0 ∙ ap (withMono 5) f }) (den-small d) (den-small e) (p .w1) (p .w2) (p .w3 ∙ s)
     (den-frame (p .keep) (omega arith) d)
     (den-frame (p .keep) (omega arith) e)
 
 pub forall-put : {q w w′ : List ℕ} {t b m n : ℕ} {A : Ty} (a : TyVar) → b ≡ a .number → Put4 w w′ t (withMono 6 false) b m n
     → n ≡ capped (size (forall a A)) → Den q w t m A → Den q w′ (t + 4) (BASE + t) (forall a A)
 unfolding tyCode isMono
-forall-put {t = t} {A = A} a f p s d =
-    forall-made {i = t} (made (forall a A) refl (omega arith) (p .w0)) (den-small d) (p .w1 ∙ f) (p .w2) (p .w3 ∙ s)
+forall-put {t = t} a f p s d =
+    forall-made {i = t} (record { ref = refl; below = omega arith; is = p .w0 }) (den-small d) (p .w1 ∙ f) (p .w2) (p .w3 ∙ s)
     (den-frame (p .keep) (omega arith) d)
 
 -- ## The bottom of work
@@ -116,37 +98,44 @@ base-frame kp le b = record {
   floor = le-trans (b .floor) le;
   int-is = sym (kp .below 0 (omega (arith, b .floor))) ∙ b .int-is;
   bool-is = sym (kp .below 1 (omega (arith, b .floor))) ∙ b .bool-is;
-  past-ty = λ p A d. sym (number-stays kp (in-table b (ty-code d .inside))) ∙ b .past-ty p A d;
-  mono-ty = λ p A d. sym (mono-stays kp (in-table b (ty-code d .inside))) ∙ b .mono-ty p A d;
+  end-ty = λ p A d. sym (kp .below (ENDS + p) (in-table b (ty-code d .inside))) ∙ b .end-ty p A d;
   past-expr = λ p e d. sym (number-stays kp (in-table b (expr-code d .inside))) ∙ b .past-expr p e d;
 }
 
 pub int-den : {q w : List ℕ} {t : ℕ} → Base q w t → Den q w t INT int
 unfolding tyCode isMono
-int-den b = int-made {i = 0} (made int refl (omega (arith, b .floor)) (b .int-is))
+int-den b = int-made {i = 0} (record { ref = refl; below = omega (arith, b .floor); is = b .int-is })
 
 pub bool-den : {q w : List ℕ} {t : ℕ} → Base q w t → Den q w t BOOL bool
 unfolding tyCode isMono
-bool-den b = bool-made {i = 1} (made bool refl (omega (arith, b .floor)) (b .bool-is))
+bool-den b = bool-made {i = 1} (record { ref = refl; below = omega (arith, b .floor); is = b .bool-is })
+
+-- the place past a type of the question
+pub past-ty : {q w : List ℕ} {t p : ℕ} {A : Ty} → Base q w t → TyAt q p A → past w p ≡ p + size A
+past-ty {p = p} {A = A} b d = kept-number (p + size A) (isMono A) (b .end-ty p A d) (end-small d)
 
 -- ## The monotype mark
 
-mono-made : {q w : List ℕ} {t r : ℕ} {T : Ty} → BASE ≤ r → Den q w t r T → monoAt w (r - BASE) ≡ isMono T
-mono-made h (written d) = absurd (omega (arith, ty-code d .inside))
-mono-made h (int-made m) = made-mono m
-mono-made h (bool-made m) = made-mono m
-mono-made h (etvar-made m n) = made-mono m
-mono-made h (arrow-made m x y f g s d e) = made-mono m
-mono-made h (forall-made m y n g s d) = made-mono m
+made-mono : {w : List ℕ} {t r i n : ℕ} {T : Ty} → MadeAt w t r i n T → monoAt w (r - BASE) ≡ isMono T
+made-mono {r = r} {i = i} {T = T} m =
+    let e : r - BASE ≡ i = omega (arith, m .ref) in
+    rw e (kept-mono (tyCode T) (isMono T) (m .is) (code-small T))
+
+in-record : {q w : List ℕ} {t r : ℕ} {T : Ty} → BASE ≤ r → Den q w t r T → monoAt w (r - BASE) ≡ isMono T
+in-record h (written d) = absurd (omega (arith, ty-code d .inside))
+in-record h (int-made m) = made-mono m
+in-record h (bool-made m) = made-mono m
+in-record h (etvar-made m n) = made-mono m
+in-record h (arrow-made m x y f g s d e) = made-mono m
+in-record h (forall-made m y n g s d) = made-mono m
 
 -- the stored mark is the walk, whatever the reference denotes
 pub mono-is-walk : {q w : List ℕ} {t r : ℕ} {T : Ty} → Base q w t → Den q w t r T → monoOf w r ≡ isMono T
-unfolding monoOf pick
-mono-is-walk {w = w} {r = r} {T = T} b d = go (ltb r BASE) (ltb-true r BASE) (ltb-false r BASE)
-  where
-    go : (i : Bool) → (i ≡ true → r < BASE) → (i ≡ false → BASE ≤ r) → pick i (monoAt w (ENDS + r)) (monoAt w (r - BASE)) ≡ isMono T
-    go true f g = b .mono-ty r T (den-written (f refl) d)
-    go false f g = mono-made (g refl) d
+mono-is-walk {w = w} {r = r} {T = T} b d = elim (decLe BASE r) [
+  | yes l ↦ sym (mono-in-work w r l) ∙ in-record l d
+  | no l ↦ let c = den-written (lt-of-not-le l) d in
+      sym (mono-in-question w r (lt-of-not-le l)) ∙ kept-mono (r + size T) (isMono T) (b .end-ty r T c) (end-small c)
+]
 
 -- ## Runs of entries
 

@@ -47,9 +47,5 @@ module _ (w : List ℕ) (r : ℕ) where
   unfolding monoOf pick
   mono-in-work l = rw (le-ltb r BASE l) refl
 
-module _ {t h i : ℕ} {w w′ : List ℕ} (kp : Keep t h w w′) (l : i < t) where
-  pub number-stays : numberAt w i ≡ numberAt w′ i
-  number-stays = ap (_% MONO) (kp .below i l)
-
-  pub mono-stays : monoAt w i ≡ monoAt w′ i
-  mono-stays = ap (leb MONO) (kp .below i l)
+pub number-stays : {t h i : ℕ} {w w′ : List ℕ} → Keep t h w w′ → i < t → numberAt w i ≡ numberAt w′ i
+number-stays {i = i} kp l = ap (_% MONO) (kp .below i l)

@@ -78,6 +78,15 @@ expr-place (binOp-at c n l m d e f) = refl
 
 -- ## An item ends within the question
 
+-- and before the monotype mark's number
+pub end-small : {q : List ℕ} {p : ℕ} {T : Ty} → TyAt q p T → p + size T < MONO
+end-small (int-at c) = omega (arith, c .inside)
+end-small (bool-at c) = omega (arith, c .inside)
+end-small (var-at c n) = omega (arith, c .inside)
+end-small (etvar-at c n) = omega (arith, c .inside)
+end-small (arrow-at c d e f) = omega (arith, end-small f)
+end-small (forall-at c n d) = omega (arith, end-small d)
+
 pub ty-within : {q : List ℕ} {p : ℕ} {T : Ty} → TyAt q p T → p + size T ≤ length q
 ty-within (int-at c) = omega (arith, c .within)
 ty-within (bool-at c) = omega (arith, c .within)

@@ -11,7 +11,7 @@ use Rattle.definition.specs.Rules.{tyCode}
 use Rattle.definition.specs.Reply.{most}
 use Rattle.layout.specs.Sizes.{BASE, ENDS, FLOOR}
 use Rattle.layout.specs.Words.{Put4}
-use Rattle.layout.specs.Monotypes.{withMono, numberAt, monoAt, past}
+use Rattle.layout.specs.Monotypes.{withMono, past}
 use Rattle.layout.specs.Places.{size, exprSize, TyAt, ExprAt}
 use Rattle.layout.specs.Names.{key}
 use Rattle.layout.specs.declared.Entry as program
@@ -20,12 +20,11 @@ use Rattle.layout.specs.declared.Entry as program
 abbrev pub capped : ℕ → ℕ
 capped n = min n most
 
--- r refers to T's record, n words at place i of work, below t; its first word keeps T's code, and whether T is a monotype
+-- r refers to T's record, n words at place i of work, below t; the first is T's code, with the monotype mark
 pub record MadeAt (w : List ℕ) (t r i n : ℕ) (T : Ty) : Type 0 where
   pub ref : r ≡ BASE + i
   pub below : i + n ≤ t
-  pub code : numberAt w i ≡ tyCode T
-  pub mono : monoAt w i ≡ isMono T
+  pub is : getD w i 0 ≡ withMono (tyCode T) (isMono T)
 
 -- the reference r denotes T, by the question and by words of work below t; what a record refers to was made before it
 pub data Den (q w : List ℕ) (t : ℕ) : ℕ → Ty → Type 0 where
@@ -70,11 +69,10 @@ pub record Run (q w : List ℕ) (t at n : ℕ) (Γ : Ctx) : Type 0 where
   pub count : n ≡ length Γ
   pub below : at + 4 * n ≤ t
 
--- the bottom of work: the records of Int and Bool, the place past each item of the question, and whether each type there is a monotype
+-- the bottom of work: the records of Int and Bool, and the place past each item of the question, of a type with the monotype mark
 pub record Base (q w : List ℕ) (t : ℕ) : Type 0 where
   pub floor : FLOOR ≤ t
   pub int-is : getD w 0 0 ≡ withMono 1 true
   pub bool-is : getD w 1 0 ≡ withMono 2 true
-  pub past-ty : (p : ℕ) (A : Ty) → TyAt q p A → past w p ≡ p + size A
-  pub mono-ty : (p : ℕ) (A : Ty) → TyAt q p A → monoAt w (ENDS + p) ≡ isMono A
+  pub end-ty : (p : ℕ) (A : Ty) → TyAt q p A → getD w (ENDS + p) 0 ≡ withMono (p + size A) (isMono A)
   pub past-expr : (p : ℕ) (e : Expr) → ExprAt q p e → past w p ≡ p + exprSize e

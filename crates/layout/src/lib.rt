@@ -18,7 +18,7 @@ pub const INT: usize = BASE;
 
 pub const BOOL: usize = BASE + 1;
 
-// From here on work holds, for each place of the question, the place past the item that stands there.
+// From here on work holds, for each place of the question, the place past the item that stands there, of a type with its monotype mark.
 pub const ENDS: usize = 16;
 
 // Types and runs of entries grow up from here.
@@ -222,7 +222,7 @@ pub fn with_mono(n: usize, yes: bool) -> usize
 // The number that the word at i keeps.
 pub fn number(w: &[u32], i: usize) -> usize
     requires { ⌜ i < length (now w) ⌝ }
-    ensures { λ r. ⌜ (r ≡ numberAt (now (w .entry)) i) × (r < MONO) ⌝ }
+    ensures { λ r. ⌜ r ≡ numberAt (now (w .entry)) i ⌝ }
 {
     word(w, i) % MONO
 }
@@ -238,7 +238,7 @@ pub fn mono(w: &[u32], i: usize) -> bool
 // The place past the item that stands at p of the question, by the table of ends.
 pub fn past(work: &[u32], p: usize) -> usize
     requires { ⌜ ENDS + p < length (now work) ⌝ }
-    ensures { λ e. ⌜ (e ≡ past (now (work .entry)) p) × (e < MONO) ⌝ }
+    ensures { λ e. ⌜ e ≡ past (now (work .entry)) p ⌝ }
 {
     number(work, ENDS + p)
 }

@@ -16,7 +16,7 @@ use Rattle.layout.specs.Denotes.{Den, written, EntryAt, Base, CtxAt, nil, cons}
 use Rattle.layout.specs.declared.State.{State}
 use Rattle.layout.proofs.Words.{keep-refl, keep-less, keep-trans}
 use Rattle.layout.proofs.Places.{ty-code}
-use Rattle.layout.proofs.Denotes.{den-frame, base-frame, int-den, ctx-frame, ctx-join, question-put}
+use Rattle.layout.proofs.Denotes.{den-frame, base-frame, past-ty, int-den, ctx-frame, ctx-join, question-put}
 use Rattle.contexts.proofs.Build.{past-run}
 use Rattle.reading.specs.Items.{TyTo}
 use Rattle.reading.specs.Contexts.{RestTo, var-rest, tvar-rest, etvar-rest, setvar-rest, mark-rest, EntryTo, EntriesTo, none, some, ListTo}
@@ -52,7 +52,7 @@ rested {q} {w} {t} {p} {m} {x} {r} b e h = let z = go (e .binds .rest) (e .binds
   where
     held-at : {A : Ty} {m : ℕ} → (r .ty ≡ p + 2) × (r .next ≡ past w (p + 2)) → TyTo q (p + 2) A m
         → Den q w t (r .ty) A × (r .next ≡ m)
-    held-at {A} u d = (rw (u .0) (written (d .at)), u .1 ∙ b .past-ty (p + 2) A (d .at) ∙ d .to)
+    held-at {A} u d = (rw (u .0) (written (d .at)), u .1 ∙ past-ty b (d .at) ∙ d .to)
 
     bare-at : (k : ℕ) → getD q p 0 ≡ k → (k ≡ 32 → ⊥) → (k ≡ 35 → ⊥) → Den q w t (r .ty) int × (r .next ≡ p + 2)
     bare-at k e u v = let z = h .bare (⊎-elim (λ f. u (sym e ∙ f)) (λ f. v (sym e ∙ f))) in (rw (z .0) (int-den b), z .1)

@@ -1,6 +1,6 @@
 -- Laws of the table of ends.
 use Prim.Native.Nat.{ℕ, suc, _+_, _%_, _≤_, _<_}
-use mathlib.Core.Path.{_≡_, refl, sym, _∙_, ap, ap₂}
+use mathlib.Core.Path.{_≡_, refl, sym, _∙_, ap}
 use mathlib.Core.Logic.{inl, inr, ⊎-elim}
 use mathlib.Core.Bool.{Bool, true, false, _&&_}
 use mathlib.Core.List.{List, [], _∷_}
@@ -17,11 +17,12 @@ use Rattle.definition.specs.Syntax.{pick, Ty, int, bool, var, etvar, arrow, for
 use Rattle.definition.specs.Types.{isMono}
 use Rattle.laws.proofs.Steps.{pick-false}
 use Rattle.layout.specs.Sizes.{ENDS, FLOOR, MONO}
-use Rattle.layout.specs.Monotypes.{withMono, monoAt, past}
+use Rattle.layout.specs.Monotypes.{withMono, past}
 use Rattle.layout.specs.Places.{size, exprSize, TyAt, int-at, bool-at, var-at, etvar-at, arrow-at, forall-at, evar-at, app-at, abs-at, tapp-at, tabs-at, ann-at, litInt-at, litBool-at, letIn-at, ifThenElse-at, binOp-at}
 use Rattle.layout.specs.Words.{Keep, Put2}
 use Rattle.layout.specs.Denotes.{Base}
-use Rattle.layout.proofs.Places.{ty-code, expr-code}
+use Rattle.layout.proofs.Monotypes.{with-yes, with-no, kept-number, kept-mono}
+use Rattle.layout.proofs.Places.{end-small, ty-code, expr-code}
 use Rattle.layout.proofs.Words.{keep-trans, keep-less}
 use Rattle.loading.specs.Table.{Spans, ty-spans, expr-spans, Table, ReadyAt, RowAt, PastIs, RowIs, Laid}
 
@@ -135,10 +136,13 @@ looks-none w (g ∷ gs) h =
 
 pub look-none : (w : ℕ) → (1 ≤ w → 5 ≤ w) → Missed (Unit {0}) w others → look w table ≡ (1, 0, 0)
 unfolding look table
-look-none w f h =
-    pick-false _ _ (no-key (1 ∷ 2 ∷ []) w (⊎-elim (λ e. omega (arith, f (omega arith))) (λ e. omega (arith, f (omega arith)))))
-    ∙ pick-false _ _ (no-key (3 ∷ 4 ∷ []) w (⊎-elim (λ e. omega (arith, f (omega arith))) (λ e. omega (arith, f (omega arith)))))
-    ∙ looks-none w others h .0
+look-none w f h = pick-false _ _ (neither 1 2 (omega arith) (omega arith)) ∙ pick-false _ _ (neither 3 4 (omega arith) (omega arith)) ∙ looks-none w others h .0
+  where
+    leaf : (k : ℕ) → 1 ≤ k → k ≤ 4 → w ≡ k → ⊥
+    leaf k l m e = omega (arith, f (omega arith))
+
+    neither : (k j : ℕ) → (1 ≤ k) × (k ≤ 4) → (1 ≤ j) × (j ≤ 4) → hasKey (k ∷ j ∷ []) w ≡ false
+    neither k j a b = no-key (k ∷ j ∷ []) w (⊎-elim (leaf k (a .0) (a .1)) (leaf j (b .0) (b .1)))
 
 -- what holds of two words in a row holds of one that is between them
 next-to : {w : ℕ} (P : ℕ → Type 0) (k : ℕ) → P k → P (1 + k) → k ≤ w → w ≤ 1 + k → P w
@@ -174,35 +178,37 @@ module _ {q w : List ℕ} {p : ℕ} (ready : ReadyAt q w p) where
   stop (done e) = e
 
   -- the place past what stands at p
-  abbrev Ends : ℕ → Type 0
-  Ends e = (m : ℕ) → Spans q p m → e ≡ m
+  abbrev EndsAt : ℕ → Type 0
+  EndsAt e = (m : ℕ) → Spans q p m → e ≡ m
 
   module _ (n : ℕ) (some : 1 ≤ n) {k : ℕ} where
-    ends-none : look (getD q p 0) table ≡ (n, 0, k) → Ends (p + n)
+    ends-none : look (getD q p 0) table ≡ (n, 0, k) → EndsAt (p + n)
     ends-none e m s = stop (rw e at (inner s))
 
     module _ {r : ℕ} (x : PastIs q w (p + n) r) where
-      ends-one : look (getD q p 0) table ≡ (n, 1, k) → Ends r
+      ends-one : look (getD q p 0) table ≡ (n, 1, k) → EndsAt r
       ends-one e m s = stop (step (omega arith) (rw e at (inner s)) x .1)
 
-      ends-two : {r′ : ℕ} → PastIs q w r r′ → look (getD q p 0) table ≡ (n, 2, k) → Ends r′
+      ends-two : {r′ : ℕ} → PastIs q w r r′ → look (getD q p 0) table ≡ (n, 2, k) → EndsAt r′
       ends-two y e m s = let a = step (omega arith) (rw e at (inner s)) x in stop (step (a .0) (a .1) y .1)
 
-      ends-three : {r′ r″ : ℕ} → PastIs q w r r′ → PastIs q w r′ r″ → look (getD q p 0) table ≡ (n, 3, k) → Ends r″
+      ends-three : {r′ r″ : ℕ} → PastIs q w r r′ → PastIs q w r′ r″ → look (getD q p 0) table ≡ (n, 3, k) → EndsAt r″
       ends-three y z e m s = let a = step (omega arith) (rw e at (inner s)) x in let b = step (a .0) (a .1) y in stop (step (b .0) (b .1) z .1)
 
   -- the table's word for an item that is no type, or a Forall; and for a type without parts
-  plain : {n k e : ℕ} → look (getD q p 0) table ≡ (n, k, 0) → e < MONO → Ends e → RowIs q p e
+  plain : {n k e : ℕ} → look (getD q p 0) table ≡ (n, k, 0) → e < MONO → EndsAt e → RowIs q p e
   plain {e = e} f l x = record {
     end = λ m s. let y : e % MONO ≡ e = omega arith in y ∙ x m s;
-    mono = λ A d. lt-leb MONO e l ∙ mono-by-shape 0 d (ap (λ (z : Shape). z .2) f) (λ i. omega arith);
+    type = λ A d. x (p + size A) (ty-spans d refl) ∙ with-no (p + size A) (sym (mono-by-shape 0 d (ap (λ (z : Shape). z .2) f) (λ i. omega arith)));
     fits = omega arith;
   }
 
   row-leaf : (n : ℕ) → look (getD q p 0) table ≡ (n, 0, 1) → 1 ≤ n → n ≤ 2 → RowIs q p (p + n + MONO)
   row-leaf n f some few = record {
     end = λ m s. let y : (p + n + MONO) % MONO ≡ p + n = omega (arith, ready .within, ready .sized .small) in y ∙ ends-none n some f m s;
-    mono = λ A d. le-leb MONO (p + n + MONO) (omega arith) ∙ mono-by-shape 1 d (ap (λ (z : Shape). z .2) f) (λ i. omega arith);
+    type = λ A d.
+        ap (_+ MONO) (ends-none n some f (p + size A) (ty-spans d refl))
+        ∙ with-yes (p + size A) (sym (mono-by-shape 1 d (ap (λ (z : Shape). z .2) f) (λ i. omega arith)));
     fits = omega (arith, ready .within, ready .sized .small);
   }
 
@@ -231,43 +237,63 @@ module _ {q w : List ℕ} {p : ℕ} (ready : ReadyAt q w p) where
   -- ## An Arrow's word, by its parts'
 
   module _ (five : getD q p 0 ≡ 5) {l r : ℕ} (left : RowAt q w (p + 1) l) (right : RowAt q w (l % MONO) r) where
-    arrow-ends : Ends (r % MONO)
+    arrow-ends : EndsAt (r % MONO)
     unfolding look table others pick
     arrow-ends = ends-two 1 (omega arith) {k = 2} (past-row left) (past-row right) (rw five refl)
 
-    arrow-marks : (A : Ty) → TyAt q p A → (leb MONO l && leb MONO r) ≡ isMono A
+    -- what is known of the parts of the type at p
+    record Parts (A : Ty) : Type 0 where
+      B : Ty
+      C : Ty
+      both : isMono A ≡ (isMono B && isMono C)
+      first : leb MONO l ≡ isMono B
+      second : r ≡ withMono (p + size A) (isMono C)
+      small : p + size A < MONO
+
+    parts : (A : Ty) → TyAt q p A → Parts A
     unfolding isMono
-    arrow-marks (arrow B C) (arrow-at {m = m} c d e f) =
+    parts (arrow B C) (arrow-at {m = m} c d e f) =
         let k : l % MONO ≡ m = past-row left .is (ty-code d .within) ∙ ready .table .ends (p + 1) m (omega arith) (ty-spans d e) in
+        let x : l ≡ withMono (p + 1 + size B) (isMono B) = left .is (ty-code d .within) ∙ ready .table .types (p + 1) B (omega arith) d in
         let z = rw k at right in
-        ap₂ _&&_ (ap (leb MONO) (left .is (ty-code d .within)) ∙ ready .table .monos (p + 1) B (omega arith) d)
-        (ap (leb MONO) (z .is (ty-code f .within)) ∙ ready .table .monos m C (omega arith) f)
-    arrow-marks int (int-at c) = absurd (omega (arith, c .is))
-    arrow-marks bool (bool-at c) = absurd (omega (arith, c .is))
-    arrow-marks (var v) (var-at c n) = absurd (omega (arith, c .is))
-    arrow-marks (etvar v) (etvar-at c n) = absurd (omega (arith, c .is))
-    arrow-marks (forall v B) (forall-at c n d) = absurd (omega (arith, c .is))
+        let y : r ≡ withMono (m + size C) (isMono C) = z .is (ty-code f .within) ∙ ready .table .types m C (omega arith) f in
+        let s : m + size C ≡ p + size (arrow B C) = omega arith in
+        record { B = B; C = C; both = refl; first = kept-mono _ _ x (end-small d); second = rw s at y; small = omega (arith, end-small f) }
+    parts int (int-at c) = absurd (omega (arith, c .is))
+    parts bool (bool-at c) = absurd (omega (arith, c .is))
+    parts (var v) (var-at c n) = absurd (omega (arith, c .is))
+    parts (etvar v) (etvar-at c n) = absurd (omega (arith, c .is))
+    parts (forall v B) (forall-at c n d) = absurd (omega (arith, c .is))
 
     pub arrow-marked : MONO ≤ l → RowIs q p r
-    arrow-marked h = record { end = arrow-ends; mono = λ A d. ap (_&& leb MONO r) (sym (le-leb MONO l h)) ∙ arrow-marks A d; fits = right .fits }
+    arrow-marked h = record {
+      end = arrow-ends;
+      type = λ A d.
+          let u = parts A d in
+          u .second ∙ ap (withMono (p + size A)) (sym (u .both ∙ ap (_&& isMono (u .C)) (sym (u .first) ∙ le-leb MONO l h)));
+      fits = right .fits;
+    }
 
     pub arrow-plain : l < MONO → RowIs q p (r % MONO)
     arrow-plain h = record {
       end = λ m s. let y : r % MONO % MONO ≡ r % MONO = omega arith in y ∙ arrow-ends m s;
-      mono = λ A d. lt-leb MONO (r % MONO) (omega arith) ∙ ap (_&& leb MONO r) (sym (lt-leb MONO l h)) ∙ arrow-marks A d;
+      type = λ A d.
+          let u = parts A d in
+          kept-number (p + size A) (isMono (u .C)) (u .second) (u .small)
+          ∙ with-no (p + size A) (u .both ∙ ap (_&& isMono (u .C)) (sym (u .first) ∙ lt-leb MONO l h));
       fits = omega arith;
     }
 
 -- ## Filling the table
 
 pub table-none : (q w : List ℕ) → Table q w (length q)
-table-none q w = record { ends = λ i m h s. absurd (omega (arith, spans-within s .0)); monos = λ i A h d. absurd (omega (arith, ty-code d .within)) }
+table-none q w = record { ends = λ i m h s. absurd (omega (arith, spans-within s .0)); types = λ i A h d. absurd (omega (arith, ty-code d .within)) }
 
 -- one place more
 pub table-more : {q w : List ℕ} {i v : ℕ} → ENDS + i < length w → RowIs q i v → Table q w (i + 1) → Table q (set w (ENDS + i) v) i
 table-more {q} {w} {i} {v} l x t = record {
   ends = λ j m h s. elim (decLe j i) [ yes k ↦ end-here j m (le-antisymm k h) s | no k ↦ end-there j m (lt-of-not-le k) s ];
-  monos = λ j A h d. elim (decLe j i) [ yes k ↦ mono-here j A (le-antisymm k h) d | no k ↦ mono-there j A (lt-of-not-le k) d ];
+  types = λ j A h d. elim (decLe j i) [ yes k ↦ type-here j A (le-antisymm k h) d | no k ↦ type-there j A (lt-of-not-le k) d ];
 }
   where
     w₁ : List ℕ
@@ -285,11 +311,11 @@ table-more {q} {w} {i} {v} l x t = record {
     end-there : (j m : ℕ) → i < j → Spans q j m → past w₁ j ≡ m
     end-there j m k s = ap (_% MONO) (stays j k) ∙ t .ends j m (omega arith) s
 
-    mono-here : (j : ℕ) (A : Ty) → j ≡ i → TyAt q j A → monoAt w₁ (ENDS + j) ≡ isMono A
-    mono-here j A k d = rw k (ap (leb MONO) put ∙ x .mono A (rw k at d))
+    type-here : (j : ℕ) (A : Ty) → j ≡ i → TyAt q j A → getD w₁ (ENDS + j) 0 ≡ withMono (j + size A) (isMono A)
+    type-here j A k d = rw k (put ∙ x .type A (rw k at d))
 
-    mono-there : (j : ℕ) (A : Ty) → i < j → TyAt q j A → monoAt w₁ (ENDS + j) ≡ isMono A
-    mono-there j A k d = ap (leb MONO) (stays j k) ∙ t .monos j A (omega arith) d
+    type-there : (j : ℕ) (A : Ty) → i < j → TyAt q j A → getD w₁ (ENDS + j) 0 ≡ withMono (j + size A) (isMono A)
+    type-there j A k d = stays j k ∙ t .types j A (omega arith) d
 
 pub table-at : {q w : List ℕ} {p p′ : ℕ} → p ≡ p′ → Table q w p → Table q w p′
 table-at e t = rw e at t
@@ -300,8 +326,7 @@ laid {q} p k t =
       floor = le-refl FLOOR;
       int-is = sym (k .below 0 (omega arith)) ∙ p .w0;
       bool-is = sym (k .below 1 (omega arith)) ∙ p .w1;
-      past-ty = λ i A d. t .ends i (i + size A) (omega arith) (ty-spans d refl);
-      mono-ty = λ i A d. t .monos i A (omega arith) d;
+      end-ty = λ i A d. t .types i A (omega arith) d;
       past-expr = λ i f d. t .ends i (i + exprSize f) (omega arith) (expr-spans d refl);
     } in
     record { base = b; keep = keep-trans (keep-less (omega arith) (omega arith) (p .keep)) (keep-less (omega arith) (le-refl FLOOR) k) }

@@ -27,7 +27,7 @@ fn past(q: &[u32], work: &[u32], i: usize) -> usize
     row(q, work, i) % layout::MONO
 }
 
-// An Arrow's word is its right part's, without the mark where the left part has none.
+// An Arrow's word is its right part's, without the monotype mark where the left part has none.
 fn arrow_row(q: &[u32], work: &[u32], p: usize) -> usize
     requires { ⌜ ReadyAt (now q) (now work) p × getD (now q) p 0 ≡ 5 ⌝ }
     ensures { λ v. ⌜ RowIs (now (q .entry)) p v ⌝ }

@@ -13,8 +13,8 @@
 --   Settled                    a code that is none of 1, 2 and 6: the same file
 --   Relettered                 two types that differ only in the names bound by Forall: crates/laws/specs/Letters.antt
 --   Den, Base                  what a type reference denotes, by the question's words and by work below t: crates/layout/specs/Denotes.antt
---   monoOf                     the stored mark of a type reference: crates/layout/specs/Monotypes.antt
---   Judged, Asks               what the six judgements' functions promise, and what they are asked: crates/judging/specs
+--   monoOf                     the stored monotype mark of a type reference: crates/layout/specs/Monotypes.antt
+--   Judged, Asks, Marked       what the six judgements' functions promise, are asked, and the marks in what they give: crates/judging/specs
 --   AlikeQuestions             well-formed questions that are alike by a pairing of their names: crates/alike/specs/Alike.antt
 --   Pairing, itself            a pairing of variables' and of types' names; the one of every name with itself: the same file
 --   Change, pairing, change    new names and literals; how they pair the names; words with them: crates/alike/proofs/Changes.antt
@@ -22,15 +22,14 @@
 -- r what is returned; of two calls these are w₁, w₂ and so on, and v the second one's work. `getD ns 3 0` is the fourth of ns.
 use mathlib.Core.Path.{_≡_}
 use mathlib.Core.Bool.{true, false}
-use mathlib.Core.List.{List, [], _∷_, _++_, map}
+use mathlib.Core.List.{List, [], map}
 use mathlib.Core.Logic.{_↔_, _≢_}
 use mathlib.Core.Option.{Option, some}
-use Prim.Native.Nat.{ℕ, _+_, _-_, _*_, _/_, _%_, _≤_, _<_, min}
+use Prim.Native.Nat.{ℕ, _+_, _-_, _/_, _%_, _≤_, _<_, min}
 use lib.ListN.{length, getD}
-use Rattle.definition.specs.Syntax.{Ty, Entry, Ctx, Judgement, Tree, parameterMismatch}
+use Rattle.definition.specs.Syntax.{Ty, Ctx, Judgement, Tree, parameterMismatch}
 use Rattle.definition.specs.Question.{Question}
 use Rattle.definition.specs.Run.{done, fail, M}
-use Rattle.definition.specs.Contexts.{held}
 use Rattle.definition.specs.Types.{isMono, apply}
 use Rattle.definition.specs.Rules.{judge, sameTy, parameter}
 use Rattle.definition.specs.Reply.{Reply, answer, reply}
@@ -52,6 +51,7 @@ use Rattle.layout.specs.declared.State.{State}
 use Rattle.layout.proofs as layout-proofs
 use Rattle.judging.specs.Asking.{here, Asks}
 use Rattle.judging.specs.Ending.{Judged}
+use Rattle.judging.specs.Marks.{Marked}
 use Rattle.judging.specs.declared.Answer.{Answer}
 use Rattle.judging.specs.declared.Ask.{Ask}
 use Rattle.judging.specs.declared.Here.{Here}
@@ -220,13 +220,11 @@ module _ {budget : ℕ} {b s s′ w w′ t t′ ns : List ℕ} {r r′ : ℕ} (a
 
 -- # Order 8: "Each type record keeps this as a stored yes or no .. Prove that the stored mark always equals the walk."
 
--- of whatever a reference denotes; and so of every reference that a run can hold, since each is promised to denote a type: that which a
--- judgement gives, and those in the entries of its output context
+-- whatever a type reference denotes; that all references of a run denote types is in the contracts. `judged-marks`: so of those that a judgement
+-- gives
 pub mono-is-walk : {q w : List ℕ} {t r : ℕ} {T : Ty} → Base q w t → Den q w t r T → monoOf w r ≡ isMono T
 mono-is-walk = layout-proofs.Denotes.mono-is-walk
 
 pub judged-marks : {h : Here} {q w w₁ : List ℕ} {s : State} {g : Span} {a : Ask} {b : Answer} {j : Judgement} {C : Ty} {Δ : Ctx} {t : Tree} {l n : ℕ}
-    → Judged h q w w₁ s g a (Done b) → Asks q w (s .top) g a j → judge (here h) j (s .left) (s .fresh) ≡ done (C, Δ, t) l n
-    → (monoOf w₁ (b .ty) ≡ isMono C)
-    × ((L : Ctx) (e : Entry) (R : Ctx) → Δ ≡ L ++ (e ∷ R) → monoOf w₁ (getD w₁ (b .g .at + 4 * length L + 2) 0) ≡ isMono (held e))
+    → Judged h q w w₁ s g a (Done b) → Asks q w (s .top) g a j → judge (here h) j (s .left) (s .fresh) ≡ done (C, Δ, t) l n → Marked w₁ b C Δ
 judged-marks = judging-proofs.Whole.judged-marks

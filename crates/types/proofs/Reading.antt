@@ -16,7 +16,7 @@ use Rattle.layout.specs.Denotes.{capped, Base, Den, written}
 use Rattle.layout.specs.declared.TyVar.{TyVar}
 use Rattle.layout.proofs.Places.{ty-code, ty-within}
 use Rattle.layout.proofs.Monotypes.{mono-in-question, mono-in-work}
-use Rattle.layout.proofs.Denotes.{den-written, mono-is-walk}
+use Rattle.layout.proofs.Denotes.{den-written, past-ty, mono-is-walk}
 use Rattle.types.specs.Reading.{Held, HeldAs, Tagged, Mono, Named, PartBelow, LeftOf, RightOf, BodyOf, LengthOf, recordSize, RecordLength, WordsOf}
 use Rattle.types.proofs.Codes.{arrow-case, forall-case, Naming, var-names, etvar-names, forall-names, sizes, two-words, leaf-size}
 use Rattle.types.proofs.Records.{made-record, made-length, made-name, made-left, made-right, made-body}
@@ -56,10 +56,10 @@ left-inside : {q : List ℕ} {r : ℕ} {A B : Ty} → TyAt q r (arrow A B) → r
 left-inside (arrow-at c d e f) = ty-code d .inside
 
 left-past : {q w : List ℕ} {t r : ℕ} {A B : Ty} → Base q w t → TyAt q r (arrow A B) → past w (r + 1) ≡ r + 1 + size A
-left-past b (arrow-at c d e f) = b .past-ty _ _ d
+left-past b (arrow-at c d e f) = past-ty b d
 
 past-is : {q w : List ℕ} {t r : ℕ} {T : Ty} → Held q w t r → r < BASE → Den q w t r T → past w r ≡ r + size T
-past-is h l d = h .base .past-ty _ _ (den-written l d)
+past-is h l d = past-ty (h .base) (den-written l d)
 
 -- ## Places that a reader may look at
 

@@ -5,12 +5,14 @@ use Prim.Native.Nat.{ℕ, _+_, _-_, _≤_, _<_}
 use native.Mathlib.Omega.{arith}
 use lib.ListN.{getD}
 use Rattle.definition.specs.Syntax.{TyVar, Ty, arrow, forall}
+use Rattle.definition.specs.Types.{isMono}
 use Rattle.definition.specs.Rules.{tyCode}
 use Rattle.layout.specs.Sizes.{BASE}
 use Rattle.layout.specs.Monotypes.{numberAt}
 use Rattle.layout.specs.Places.{size, TyAt}
 use Rattle.layout.specs.Denotes.{capped, MadeAt, Den, written, int-made, bool-made, etvar-made, arrow-made, forall-made}
-use Rattle.layout.proofs.Places.{ty-code}
+use Rattle.layout.proofs.Places.{code-small, ty-code}
+use Rattle.layout.proofs.Monotypes.{kept-number}
 use Rattle.types.specs.Reading.{recordSize, PartBelow}
 use Rattle.types.proofs.Codes.{Naming, etvar-names, forall-names}
 
@@ -23,7 +25,7 @@ place-is : {w : List ℕ} {t r i n : ℕ} {T : Ty} → MadeAt w t r i n T → r 
 place-is m = omega (arith, m .ref)
 
 record-at : {w : List ℕ} {t r i n : ℕ} {T : Ty} → MadeAt w t r i n T → RecordAt w t (r - BASE) n (tyCode T)
-record-at m = rw (place-is m) (record { end = m .below; code = m .code })
+record-at {T = T} m = rw (place-is m) (record { end = m .below; code = kept-number (tyCode T) (isMono T) (m .is) (code-small T) })
 
 not-written : {q : List ℕ} {r : ℕ} {T : Ty} → BASE ≤ r → TyAt q r T → ⊥
 not-written h d = let c = ty-code d in omega (arith, c .inside)

@@ -30,7 +30,7 @@ pub fn tag(q: &[u32], work: &[u32], top: usize, r: usize) -> usize
     }
 }
 
-// Whether no Forall is in the type, by its stored mark.
+// Whether no Forall is in the type, by its monotype mark.
 pub fn is_mono(q: &[u32], work: &[u32], top: usize, r: usize) -> bool
     requires { ⌜ Held (now q) (now work) top r ⌝ }
     ensures { λ b. ⌜ Mono (now (q .entry)) (now (work .entry)) top r b ⌝ }
@@ -163,9 +163,9 @@ pub fn put_etvar(work: &mut [u32], top: usize, a: TyVar) -> usize
     ensures { λ k. ⌜ PutETVar (now (work .entry)) (now (work .exit)) top a k ⌝ }
 {
     let made = BASE + top;
-    let code = with_mono(4, true);
+    let head = with_mono(4, true);
     let name = a.0 as usize;
-    put2(work, top, code, name);
+    put2(work, top, head, name);
     made
 }
 
@@ -181,8 +181,8 @@ pub fn put_arrow(q: &[u32], work: &mut [u32], top: usize, left: usize, right: us
     let length = sat_add(1, parts);
     let first = is_mono(q, work, top, left);
     let second = is_mono(q, work, top, right);
-    let code = with_mono(5, first & second);
-    put4(work, top, code, left, right, length);
+    let head = with_mono(5, first & second);
+    put4(work, top, head, left, right, length);
     made
 }
 
@@ -195,7 +195,7 @@ pub fn put_forall(q: &[u32], work: &mut [u32], top: usize, a: TyVar, body: usize
     let name = a.0 as usize;
     let b = type_length(q, work, top, body);
     let length = sat_add(2, b);
-    let code = with_mono(6, false);
-    put4(work, top, code, name, body, length);
+    let head = with_mono(6, false);
+    put4(work, top, head, name, body, length);
     made
 }

@@ -11,7 +11,7 @@ past-requires c κs = c .before .before .pre .table (c .match .keys1)
 returns : tie.Need-returns
 returns c =
     let at-match = c .before in let at-start = at-match .before .before in
-    record { held = λ h. (refl, c .past .ensures .0); bare = λ h. absurd (h (at-match .match .keys1)); small = omega (arith, at-start .pre .place) }
+    record { held = λ h. (refl, c .past .ensures); bare = λ h. absurd (h (at-match .match .keys1)); small = omega (arith, at-start .pre .place) }
 
 returns-2 : tie.Need-returns-2
 returns-2 c = record { held = λ h. absurd (c .match .rest .1 h); bare = λ h. (refl, refl); small = omega arith }

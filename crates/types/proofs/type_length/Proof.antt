@@ -6,7 +6,7 @@ use Rattle.types.proofs.type_length.Statement.{statement}
 use Rattle.types.proofs.type_length.Tie as tie
 
 sub-result : tie.Need-sub-result
-sub-result c = end-in-question (c .before .before .before .before .pre) (c .before .if1 .taken) (c .past .ensures .0) .0
+sub-result c = end-in-question (c .before .before .before .before .pre) (c .before .if1 .taken) (c .past .ensures) .0
 
 word-requires : tie.Need-word-requires
 word-requires c κs =

@@ -6,13 +6,13 @@ use Rattle.types.proofs.type_words.Statement.{statement}
 use Rattle.types.proofs.type_words.Tie as tie
 
 sub-result : tie.Need-sub-result
-sub-result c = end-in-question (c .before .before .before .before .pre) (c .before .if1 .taken) (c .past .ensures .0) .0
+sub-result c = end-in-question (c .before .before .before .before .pre) (c .before .if1 .taken) (c .past .ensures) .0
 
 part-result-start : tie.Need-part-result-start
-part-result-start c = end-in-question (c .before .before .before .before .pre) (c .before .if1 .taken) (c .past .ensures .0) .0
+part-result-start c = end-in-question (c .before .before .before .before .pre) (c .before .if1 .taken) (c .past .ensures) .0
 
 part-result-end : tie.Need-part-result-end
-part-result-end c = end-in-question (c .before .before .before .before .pre) (c .before .if1 .taken) (c .past .ensures .0) .1
+part-result-end c = end-in-question (c .before .before .before .before .pre) (c .before .if1 .taken) (c .past .ensures) .1
 
 add-end : tie.Need-add-end
 add-end c =

@@ -54,7 +54,7 @@ returns-8 : tie.Need-returns-8
 unfolding others
 returns-8 c =
     let at-start = c .before .before .before .before in
-    row-none (at-start .pre .0) 1 (omega arith) (look-none _ (at-start .pre .1 .past) (c .match .rest)) (omega arith)
+    row-none (at-start .pre .0) 1 (omega arith) (look-none _ (at-start .pre .1 .code) (c .match .rest)) (omega arith)
 
 pub other-row-spec : {M : Type 1} → statement M
 other-row-spec =

@@ -7,7 +7,7 @@ use Rattle.loading.proofs.ends.row_of.Statement.{statement}
 use Rattle.loading.proofs.ends.row_of.Tie as tie
 
 other-row-requires : tie.Need-other-row-requires
-other-row-requires c κs = (c .before .before .before .before .pre, record { past = λ l. ⊎-elim (λ w. omega arith) (λ w. omega arith) (c .if1 .came) })
+other-row-requires c κs = (c .before .before .before .before .pre, record { code = λ l. ⊎-elim (λ w. omega arith) (λ w. omega arith) (c .if1 .came) })
 
 returns : tie.Need-returns
 returns c = base-row (c .before .before .before .before .before .pre) (omega arith) (omega arith)
