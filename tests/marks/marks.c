@@ -1,7 +1,7 @@
 /* The stored monotype marks of a run beside a walk: asks each question of standard input, looks at work when the report's first word is
    written, and goes from the tree's nodes through every type that they and their contexts refer to (docs/LAYOUT.md). A line in: WORD.. ; the
-   last line out: types looked at by sort, and how many marks differ. With an argument N, the N-th mark that is looked at is turned round
-   before it is, so that one differs. */
+   last line out: types looked at by sort, and how many marks differ. With an argument N, the N-th mark that is looked at is turned round in
+   that copy of work, and all of its question is walked again, so that one differs. */
 #define _GNU_SOURCE
 #include <signal.h>
 #include <stdbool.h>
@@ -15,11 +15,12 @@
 enum { MOST_LINE = 1 << 20, ROOM = 1 << 16, LARGEST_PAGE = 1 << 16, BUDGET = SPOREFLASK_MOST_BUDGET, WORK = 32 * BUDGET + 4096 };
 enum { BASE = 2048, ENDS = 16, MARK = 4096, NODE = 12, ENTRY = 4 };
 enum { INT = 1, BOOL, VAR, ETVAR, ARROW, FORALL };
-enum { WRITTEN_LEAF, WRITTEN_ARROW, WRITTEN_HOLDER, WRITTEN_FORALL, MADE_LEAF, MADE_ARROW, MADE_HOLDER, MADE_FORALL, SORTS };
+enum { WRITTEN_LEAF, WRITTEN_ARROW, WRITTEN_HOLDER, WRITTEN_FORALL, MADE_BASE, MADE_UNKNOWN, MADE_ARROW, MADE_HOLDER, MADE_FORALL, SORTS };
 
 static uint32_t question[MOST_LINE], work[WORK], seen[WORK], numbers[4];
 static _Alignas(LARGEST_PAGE) uint32_t report[ROOM];
-static size_t words, looked[SORTS], wrong, turned;
+static size_t words, looked[SORTS], wrong, seen_marks, turned;
+static uint32_t *turned_word;
 static bool written;
 /* what a walk found of a reference: 0 not walked yet, 1 a monotype, 2 it holds a Forall */
 static uint8_t walked[BASE + WORK];
@@ -51,10 +52,8 @@ static uint32_t past_type(uint32_t p, bool *holds) {
 
 /* A mark, held to the walk; a code, or an end, is what the word has without it. */
 static void look(uint32_t *word, uint32_t plain, bool holds, int sort) {
-    size_t before = 0;
-    for (int i = 0; i < SORTS; i++) before += looked[i];
     looked[sort]++;
-    if (before + 1 == turned) *word ^= MARK;
+    if (++seen_marks == turned) turned_word = word;
     if (*word != plain + (holds ? 0 : MARK)) wrong++;
 }
 
@@ -85,11 +84,12 @@ static bool made_type(uint32_t i) {
         holds_forall(seen[i + 2]);
     else if (code != INT && code != BOOL && code != ETVAR)
         abort();
-    look(&seen[i], code, holds, code == FORALL ? MADE_FORALL : code < ARROW ? MADE_LEAF : holds ? MADE_HOLDER : MADE_ARROW);
+    look(&seen[i], code, holds, code == FORALL ? MADE_FORALL : code == ETVAR ? MADE_UNKNOWN : code < ARROW ? MADE_BASE : holds ? MADE_HOLDER : MADE_ARROW);
     return holds;
 }
 
 static bool holds_forall(uint32_t r) {
+    if (r >= BASE + WORK) abort();
     if (walked[r] == 0) walked[r] = 1 + (r < BASE ? written_type(r) : made_type(r - BASE));
     return walked[r] == 2;
 }
@@ -100,6 +100,7 @@ static void context(uint32_t at, uint32_t entries) {
 
 /* The nodes from the end of work down: what each of their judgements refers to. */
 static void tree(void) {
+    memset(walked, 0, sizeof walked);
     for (uint32_t *node = seen + WORK - NODE; node >= seen && node[0] != 0; node -= NODE) {
         uint32_t kind = node[10];
         context(node[3], node[4]);
@@ -116,8 +117,12 @@ static void ask(void) {
     uint32_t code = sporeflask_check(question, words, BUDGET, work, WORK, report, ROOM, numbers);
     mprotect(report, sizeof report, PROT_READ | PROT_WRITE);
     if (!written || code != 0) return;
-    memset(walked, 0, sizeof walked);
     tree();
+    if (turned_word != NULL) {
+        *turned_word ^= MARK;
+        turned_word = NULL;
+        tree();
+    }
 }
 
 int main(int count, char **arguments) {
