@@ -1,5 +1,6 @@
 /* Questions from standard input, each as budget, words of work and of report, how many words, and these, in decimal; asked of
- * sporeflask_check ROUNDS times over. Says the nanoseconds of the quickest round. See versus. */
+ * sporeflask_check ROUNDS times over. Says how many they are, the nanoseconds of the quickest round, and a sum over all replies' four numbers. See
+ * versus. */
 #include <stdio.h>
 #include <stdlib.h>
 #include <time.h>
@@ -42,15 +43,20 @@ int main(int argc, char **argv)
                 return fprintf(stderr, "versus: question %zu ends early\n", questions), 2;
         all[questions++] = a;
     }
+    if (questions == MOST_QUESTIONS)
+        return fprintf(stderr, "versus: %d questions or more\n", MOST_QUESTIONS), 2;
     double least = 1e18;
     uint32_t numbers[4];
+    uint64_t told = 0;
     for (int round = atoi(argv[1]); round > 0; round--) {
         double begun = now();
-        for (size_t i = 0; i < questions; i++)
+        for (size_t i = 0; i < questions; i++) {
             sporeflask_check(words + all[i].first, all[i].count, all[i].budget, work, all[i].work, report, all[i].room, numbers);
+            told = told * 31 + numbers[0] + numbers[1] * 3 + numbers[2] * 5 + numbers[3] * 7;
+        }
         double taken = now() - begun;
         least = taken < least ? taken : least;
     }
-    printf("%zu %.0f\n", questions, least);
+    printf("%zu %.0f %llu\n", questions, least, (unsigned long long)told);
     return 0;
 }
