@@ -1,4 +1,6 @@
 // Contexts as runs of entries in work: searched by kind and name, and built anew at top; words below top never change.
+#![tactic(auto)]
+
 ghost use Rattle.std.specs.Prelude.{◌+◌, ◌-◌, ◌*◌, ◌≤◌, ◌<◌, ◌^◌, ◌≡◌, length, get_or};
 ghost use Rattle.layout.specs.Sizes.{CAP};
 ghost use Rattle.layout.specs.Names.{ty, key};
@@ -12,7 +14,7 @@ use layout::{Entry, Key, Span, State, TyVar};
 const SETVAR: usize = 35;
 
 // A context that was built at top, and the state past it.
-#[derive(Drop)]
+#[derive(Clone, Copy)]
 pub struct Opened {
     pub st: State,
     pub g: Span,

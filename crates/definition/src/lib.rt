@@ -1,4 +1,5 @@
 // The definition of document 01, with the orders that change it, stands in specs/. The program's crates share its limits from here.
+#![tactic(auto)]
 
 // A question has at most this many words.
 pub const QUESTION_MOST: usize = 2048;

@@ -1,4 +1,6 @@
 // The library's entry: from any words, budget and buffers to exactly one reply.
+#![tactic(auto)]
+
 ghost use Rattle.std.specs.Prelude.{◌≡◌, ◌++◌, ◌≤◌, ◌<◌, ◌^◌, length, drop, replicate};
 ghost use Rattle.definition.specs.Reply.{work_words};
 ghost use Rattle.entry.specs.Entry.{OutsideOf, AskPre, Answers, told_of, length_of, FinishPre, Finishes, ResolvePre, Resolves, OpenPre, Prepares, RunPre, Runs, ZeroBits, ClearedPre, Cleared, Replied};

@@ -1,17 +1,19 @@
 // An expression's parts by its form: names and places in the question. A part that stands behind another begins where that one ends.
+#![tactic(auto)]
+
 ghost use Rattle.definition.specs.Syntax.{ann, tapp};
 ghost use Rattle.expressions.specs.Forms.{Shaped, VarOf, AppOf, AbsOf, TypedOf, TAbsOf, LetOf, IfOf, BinOpOf};
 
 use layout::{TmVar, TyVar, past, word};
 
 // The parts of each form: names, the operator's number, else places of the question.
-#[derive(Drop)]
+#[derive(Clone, Copy)]
 pub struct App {
     pub func: usize,
     pub arg: usize,
 }
 
-#[derive(Drop)]
+#[derive(Clone, Copy)]
 pub struct Abs {
     pub x: TmVar,
     pub ty: usize,
@@ -19,33 +21,33 @@ pub struct Abs {
 }
 
 // An Ann or a TApp.
-#[derive(Drop)]
+#[derive(Clone, Copy)]
 pub struct Typed {
     pub e: usize,
     pub ty: usize,
 }
 
-#[derive(Drop)]
+#[derive(Clone, Copy)]
 pub struct TAbs {
     pub a: TyVar,
     pub body: usize,
 }
 
-#[derive(Drop)]
+#[derive(Clone, Copy)]
 pub struct Let {
     pub x: TmVar,
     pub first: usize,
     pub body: usize,
 }
 
-#[derive(Drop)]
+#[derive(Clone, Copy)]
 pub struct If {
     pub cond: usize,
     pub yes: usize,
     pub no: usize,
 }
 
-#[derive(Drop)]
+#[derive(Clone, Copy)]
 pub struct BinOp {
     pub op: usize,
     pub left: usize,

@@ -1,4 +1,6 @@
 // The functions for C: the telephone host's, in bytes, and one with every parameter free, in words.
+#![tactic(auto)]
+
 ghost use Rattle.std.specs.Prelude.{◌≡◌, ◌-◌, ◌/◌, ◌≤◌, min};
 ghost use Rattle.host.specs.Host.{Answered, Checked};
 ghost use Rattle.sized.specs.Sized.{Lent};

@@ -1,4 +1,6 @@
 // The judgements infer, check and infer_app and their rules, after 000: one cycle of calls, which ends because the budget left falls.
+#![tactic(auto)]
+
 ghost use Rattle.judging.specs.Asking.{infer_ask, check_ask, app_ask, JudgePre, RulePre};
 ghost use Rattle.judging.specs.Ending.{Judged, Fires};
 ghost use Rattle.rules.specs.Taking.{InferPre, CheckPre, AppPre};
@@ -224,7 +226,7 @@ fn infer_if(q: &[u32], work: &mut [u32], h: Here, st: State, g: Span, ex: usize)
 }
 
 // What an operator's rule asks: whether its left side is inferred, or else the type that it is checked against; the result; the rule's number.
-#[derive(Drop)]
+#[derive(Clone, Copy)]
 struct Sides(bool, usize, usize, usize);
 
 // InfArith, InfBool, InfEq or InfCmp, as 000's infer_binop matches.

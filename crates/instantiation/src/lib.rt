@@ -1,4 +1,6 @@
 // Instantiation: inst_l and inst_r with their rules. A reference a denotes the unknown, on side s, ty the type that it is to be.
+#![tactic(auto)]
+
 ghost use Rattle.std.specs.Prelude.{◌≡◌, ◌<◌, ◌^◌};
 ghost use Rattle.definition.specs.Syntax.{on_l, on_r};
 ghost use Rattle.contexts.specs.Build.{Space};

@@ -1,4 +1,6 @@
 // What the six judgements share: what is asked and what comes back, entering and leaving, the nodes of the tree.
+#![tactic(auto)]
+
 ghost use Rattle.std.specs.Prelude.{◌≡◌};
 ghost use Rattle.definition.specs.Rules as rules;
 ghost use Rattle.judging.specs.Asking.{mode, here, EntryFrom};
@@ -10,14 +12,14 @@ use layout::{Entry, Key, Paid, Span, State, put4};
 pub const NODE: usize = 12;
 
 // What varies with the mode.
-#[derive(Drop)]
+#[derive(Clone, Copy)]
 pub struct Mode {
     pub compares_parameter: bool,
     pub applies_branches: bool,
 }
 
 // What a judgement runs in: the mode.
-#[derive(Drop)]
+#[derive(Clone, Copy)]
 pub struct Here {
     pub manner: Mode,
 }
@@ -37,7 +39,7 @@ pub fn entry(h: Here, k: Key, ty: usize) -> Entry
 }
 
 // A judgement besides its context: its kind (1 to 6), the place of its expression, its left and its right type; 0 where there is none.
-#[derive(Drop)]
+#[derive(Clone, Copy)]
 pub struct Ask {
     pub kind: usize,
     pub ex: usize,
@@ -47,7 +49,7 @@ pub struct Ask {
 
 // What a rule gives: the output context, the result type (INT where there is none), the rule's number, how many children. Its judgement
 // adds what it was charged, from entering on (0 before).
-#[derive(Drop)]
+#[derive(Clone, Copy)]
 pub struct Answer {
     pub st: State,
     pub g: Span,
@@ -58,7 +60,7 @@ pub struct Answer {
 }
 
 // The types that a type error shows, by reference.
-#[derive(Drop)]
+#[derive(Clone, Copy)]
 pub enum Shown {
     NoType,
     OneType(usize),
@@ -66,7 +68,7 @@ pub enum Shown {
 }
 
 // A type error: its code, the name that it is about (0 where there is none), the types that it shows; and what the judgement was charged.
-#[derive(Drop)]
+#[derive(Clone, Copy)]
 pub struct Bad {
     pub st: State,
     pub code: usize,
@@ -76,7 +78,7 @@ pub struct Bad {
 }
 
 // What a rule or a judgement comes to; Spent where the next charge would pass the budget.
-#[derive(Drop)]
+#[derive(Clone, Copy)]
 pub enum Step {
     Done(Answer),
     Fail(Bad),
@@ -84,7 +86,7 @@ pub enum Step {
 }
 
 // The state in which a judgement's rule starts.
-#[derive(Drop)]
+#[derive(Clone, Copy)]
 pub enum Entered {
     In(State),
     Spent,

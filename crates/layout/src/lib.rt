@@ -1,4 +1,6 @@
 // How types, contexts and a run's state lie in the question and in work (docs/LAYOUT.md), and the words they are made of.
+#![tactic(auto)]
+
 ghost use Rattle.std.specs.Prelude.{◌≡◌, ◌+◌, ◌-◌, ◌≤◌, ◌<◌, ◌^◌, length, get_or, set};
 ghost use Rattle.definition.specs.Contexts.{kind_of, name_of};
 ghost use Rattle.layout.specs.Sizes.{ENDS, MONO, CAP};
@@ -29,14 +31,14 @@ pub const MONO: usize = 4_096;
 pub const MOST: usize = 4_294_967_295;
 
 // A variable's name and a type's name: two kinds, so that a lookup cannot take the other.
-#[derive(Drop)]
+#[derive(Clone, Copy)]
 pub struct TmVar(pub u32);
 
-#[derive(Drop)]
+#[derive(Clone, Copy)]
 pub struct TyVar(pub u32);
 
 // What a search asks for: an entry's kind and name.
-#[derive(Drop)]
+#[derive(Clone, Copy)]
 pub enum Key {
     Var(TmVar),
     TVar(TyVar),
@@ -72,7 +74,7 @@ impl Key {
 }
 
 // A run's state: types and runs of entries grow up from top, nodes down from low; the budget left; the fresh names taken.
-#[derive(Drop)]
+#[derive(Clone, Copy)]
 pub struct State {
     pub top: usize,
     pub low: usize,
@@ -81,14 +83,14 @@ pub struct State {
 }
 
 // A fresh name, and the state once it is taken.
-#[derive(Drop)]
+#[derive(Clone, Copy)]
 pub struct Drawn {
     pub st: State,
     pub name: TyVar,
 }
 
 // The state once units are paid; Spent where the charge would pass the budget.
-#[derive(Drop)]
+#[derive(Clone, Copy)]
 pub enum Paid {
     On(State),
     Spent,
@@ -179,21 +181,21 @@ impl State {
 }
 
 // An entry: its kind and name, and a reference to the type that it holds (INT where it holds none).
-#[derive(Drop)]
+#[derive(Clone, Copy)]
 pub struct Entry {
     pub key: Key,
     pub ty: usize,
 }
 
 // A context: n entries of four words (kind, name, type reference, spare) from a place of work on.
-#[derive(Drop)]
+#[derive(Clone, Copy)]
 pub struct Span {
     pub at: usize,
     pub n: usize,
 }
 
 // A type that was made (or found) and the state then; or the next charge would pass the budget.
-#[derive(Drop)]
+#[derive(Clone, Copy)]
 pub enum Made {
     Done(State, usize),
     Spent,

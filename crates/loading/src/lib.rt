@@ -1,4 +1,6 @@
 // What is laid into work once a question is read: the table of ends (`ends`), and its context as a run of entries.
+#![tactic(auto)]
+
 ghost use Rattle.loading.specs.Loading.{Loads, LoadedFrom, Loading, Loaded, Readable, EntryRest};
 
 use contexts::Opened;
@@ -7,7 +9,7 @@ use layout::{INT, Span, State, past, put4, word};
 pub mod ends;
 
 // An entry's type reference (INT where it holds none), and the place past the entry.
-#[derive(Drop)]
+#[derive(Clone, Copy)]
 pub struct Rest {
     pub ty: usize,
     pub next: usize,

@@ -1,5 +1,7 @@
 // The parts program: a question's words from standard input, and seven lines, the reply's four numbers, the words of each section, and the
 // rules of the tree's nodes.
+#![tactic(auto)]
+
 ghost use Rattle.std.specs.Prelude.{◌≡◌, ◌+◌, ◌*◌, ◌≤◌, length};
 ghost use Rattle.parts.specs.Shown.{PartsSaid, SectionLines, PartLine, RulesOf, RuleLine};
 ghost use Rattle.sized.specs.Sized.{Lent};

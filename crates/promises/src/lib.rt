@@ -1,5 +1,7 @@
 // Calls of both functions for C, and of the library's entry, with nothing known before: they ask for nothing, and what they promise is
 // handed on whole. What it comes to stands in specs/ and proofs/.
+#![tactic(auto)]
+
 ghost use Rattle.host.specs.Host.{Answered, Checked};
 ghost use Rattle.entry.specs.Entry.{Replied};
 

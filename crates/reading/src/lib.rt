@@ -1,5 +1,7 @@
 // Reading: one pass from left to right over the question's words; what it accepts, what it refuses and where, is the definition's.
 // It writes nothing.
+#![tactic(auto)]
+
 ghost use Rattle.std.specs.Prelude.{◌≡◌, ◌≤◌, length};
 ghost use Rattle.reading.specs.Items.{Inside, Onward, NameRead, WithinRead, TypeRead, TypeThen, ExprRead, ExprThen};
 ghost use Rattle.reading.specs.Contexts.{EntryRead, ContextRead};
@@ -12,21 +14,21 @@ pub const BAD_SHAPE: usize = 4;
 pub const RESERVED_NAME: usize = 5;
 
 // The place past an item that was read; or a fault: its code and place.
-#[derive(Drop)]
+#[derive(Clone, Copy)]
 pub enum Item {
     Past(usize),
     Fault(usize, usize),
 }
 
 // What a section leaves: the place of its item or the number of its entries (0 where it is empty), and the place past it; or a fault.
-#[derive(Drop)]
+#[derive(Clone, Copy)]
 pub enum Part {
     Past(usize, usize),
     Fault(usize, usize),
 }
 
 // What a section of a question holds.
-#[derive(Drop)]
+#[derive(Clone, Copy)]
 pub enum Holds {
     Nothing,
     Entries,
@@ -36,12 +38,12 @@ pub enum Holds {
 }
 
 // What the four sections of a question hold: context, expression, left type, right type.
-#[derive(Drop)]
+#[derive(Clone, Copy)]
 pub struct Plan(pub Holds, pub Holds, pub Holds, pub Holds);
 
 // A question's parts: kind and mode, how many entries its context has, and the places of the first entry, of the expression, of the left
 // and of the right type (0 where there is none).
-#[derive(Drop)]
+#[derive(Clone, Copy)]
 pub struct Question {
     pub kind: usize,
     pub mode: usize,
@@ -53,7 +55,7 @@ pub struct Question {
 }
 
 // The question's parts; or a fault: its code and place.
-#[derive(Drop)]
+#[derive(Clone, Copy)]
 pub enum Reading {
     Asked(Question),
     Fault(usize, usize),

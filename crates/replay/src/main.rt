@@ -1,5 +1,7 @@
 // The replay program: framed questions from standard input, their replies to standard output, in little-endian words.
 // A frame: budget, words of work, words of report, words of question, and the question. A reply: the four numbers, then its report.
+#![tactic(auto)]
+
 ghost use Rattle.std.specs.Prelude.{◌≡◌, ◌*◌, ◌≤◌, min, length};
 ghost use Rattle.replay.specs.Replayed.{LentByMain, Framed, FrameFits, FrameAnswered, Replayed};
 
@@ -10,7 +12,7 @@ use replies::Reply;
 const FRAME_MOST: usize = 4096;
 
 // What stands before a question.
-#[derive(Drop)]
+#[derive(Clone, Copy)]
 struct Frame {
     budget: u32,
     work: usize,

@@ -1,4 +1,6 @@
 // The report: how long it is, from the records' own lengths; then its words, or that there is no room for them.
+#![tactic(auto)]
+
 ghost use Rattle.std.specs.Prelude.{◌≡◌, ◌+◌, ◌≤◌, ◌^◌, length};
 ghost use Rattle.definition.specs.Reply.{gives_type};
 ghost use Rattle.writing.specs.Spelling.{AfterCount, Long, Spelled, Writable, Writes};
@@ -14,14 +16,14 @@ use writing::{
 };
 
 // What became of a report: its length; or the slice is too short for it, and the length that is needed (at most MOST).
-#[derive(Drop)]
+#[derive(Clone, Copy)]
 pub enum Report {
     Written(usize),
     NoRoom(usize),
 }
 
 // Which of a node's type sections are filled.
-#[derive(Drop)]
+#[derive(Clone, Copy)]
 struct Filled {
     left: bool,
     right: bool,
@@ -29,7 +31,7 @@ struct Filled {
 }
 
 // A node as its words in work give it.
-#[derive(Drop)]
+#[derive(Clone, Copy)]
 struct Node {
     rule: usize,
     kids: usize,
@@ -104,7 +106,7 @@ fn node_at(work: &[u32], m: usize) -> Node
 }
 
 // How long a node is, and its output context, by which the next node's contexts are known.
-#[derive(Drop)]
+#[derive(Clone, Copy)]
 struct Measured {
     length: usize,
     output: Known,
@@ -148,7 +150,7 @@ fn write_three(report: &mut [u32], at: usize, a: usize, b: usize, c: usize) -> u
 }
 
 // Where a node ends that was written, and where its output context stands.
-#[derive(Drop)]
+#[derive(Clone, Copy)]
 struct Wrote {
     end: usize,
     output: Standing,
@@ -289,11 +291,11 @@ fn write_result<'a>(
 }
 
 // A section for a type: whether it is filled, and by which type.
-#[derive(Drop)]
+#[derive(Clone, Copy)]
 struct Slot(bool, usize);
 
 // A type error's two sections.
-#[derive(Drop)]
+#[derive(Clone, Copy)]
 struct Slots(Slot, Slot);
 
 // Each type that is shown fills a section, the first one first.

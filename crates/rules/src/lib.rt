@@ -1,4 +1,6 @@
 // What rules do before, between and after the judgements that they ask, and the rules that ask none. Functions named as 000's do its work.
+#![tactic(auto)]
+
 ghost use Rattle.std.specs.Prelude.{◌≡◌, ◌<◌};
 ghost use Rattle.definition.specs.Syntax.{on_l, on_r};
 ghost use Rattle.layout.specs.Names.{ty as tyName, key};
@@ -16,14 +18,14 @@ use judging::{Answer, Bad, Here, Shown, Step};
 use layout::{BOOL, INT, Key, Made, Span, State, TmVar, TyVar};
 
 // A side of subtype, inst_l or inst_r, on which a type stands.
-#[derive(Drop)]
+#[derive(Clone, Copy)]
 pub enum Side {
     L,
     R,
 }
 
 // A context in which an unknown is solved as an arrow of two fresh ones, and their types.
-#[derive(Drop)]
+#[derive(Clone, Copy)]
 pub struct Parted {
     pub st: State,
     pub g: Span,
@@ -32,7 +34,7 @@ pub struct Parted {
 }
 
 // What stands under a Forall, its name, and the context for it.
-#[derive(Drop)]
+#[derive(Clone, Copy)]
 pub struct Body {
     pub st: State,
     pub g: Span,
@@ -41,14 +43,14 @@ pub struct Body {
 }
 
 // An instance of a Forall; Spent where the next charge would pass the budget.
-#[derive(Drop)]
+#[derive(Clone, Copy)]
 pub enum Instance {
     Of(Body),
     Spent,
 }
 
 // What a lambda's body is checked in: the context with the parameter and a fresh unknown, the unknown, the lambda's type.
-#[derive(Drop)]
+#[derive(Clone, Copy)]
 pub struct Lam {
     pub st: State,
     pub g: Span,
@@ -57,7 +59,7 @@ pub struct Lam {
 }
 
 // A step between judgements: the rule goes on, with up to two types, or ends.
-#[derive(Drop)]
+#[derive(Clone, Copy)]
 pub enum Mid {
     On(State, usize, usize),
     End(Step),

@@ -1,4 +1,6 @@
 // A report's sections, each as the part of the report slice that it fills, count excluded, empty where there is none; and its tree, node by node.
+#![tactic(auto)]
+
 ghost use Rattle.std.specs.Prelude.{◌≡◌, ◌≤◌, length, take};
 ghost use Rattle.sections.specs.Sections.{is_error, has_section, order_of, part_of, PlacedPart, PartAt, PartOf};
 ghost use Rattle.sections.specs.Nodes.{whole_at, node_in};
@@ -7,7 +9,7 @@ use definition::LAST_ERROR;
 use replies::Reply;
 
 // What is asked for: on 0 a report has a type, a context and a tree; on 11 to 17 a first and a second type, those of the error.
-#[derive(Drop)]
+#[derive(Clone, Copy)]
 pub enum Section {
     Ty,
     Context,
@@ -17,14 +19,14 @@ pub enum Section {
 }
 
 // A part of a slice.
-#[derive(Drop)]
+#[derive(Clone, Copy)]
 pub struct Bounds {
     pub from: usize,
     pub to: usize,
 }
 
 // A node of a tree, as it is written: the place is its expression's in the question. The next node stands where its own words end.
-#[derive(Drop)]
+#[derive(Clone, Copy)]
 pub struct Node {
     pub rule: u32,
     pub children: u32,
@@ -38,7 +40,7 @@ pub struct Node {
 }
 
 // What a walk comes to at a place: a whole node, or words that are none.
-#[derive(Drop)]
+#[derive(Clone, Copy)]
 pub enum Walked {
     Met(Node),
     Broken,

@@ -1,4 +1,6 @@
 // The entry asked in bytes, with the desk program's sizes: what the desk program and the telephone host share.
+#![tactic(auto)]
+
 ghost use Rattle.std.specs.Prelude.{◌≤◌};
 ghost use Rattle.sized.specs.Sized.{Fit, BytesAnswered, Lent, Told};
 

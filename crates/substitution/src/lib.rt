@@ -1,4 +1,6 @@
 // Substitution and context application, by reference: each call pays one unit, and builds one record of four words at most.
+#![tactic(auto)]
+
 ghost use Rattle.std.specs.Prelude.{◌≡◌};
 ghost use Rattle.types.specs.Reading.{Held, HeldNamed};
 ghost use Rattle.types.specs.Making.{ArrowRoom, ForallRoom};
@@ -8,7 +10,7 @@ ghost use Rattle.substitution.specs.Calls.{SubstPre, Substed, ApplyPre, Applied}
 use layout::{Key, Made, Paid, Span, State, TyVar};
 
 // How a call begins: the state once it is paid for and the code of its type, or the budget is spent.
-#[derive(Drop)]
+#[derive(Clone, Copy)]
 enum Begun {
     At(State, usize),
     Spent,

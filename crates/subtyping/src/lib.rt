@@ -1,4 +1,6 @@
 // Subtyping: subtype with its rules. References a and b denote the left and the right type.
+#![tactic(auto)]
+
 ghost use Rattle.std.specs.Prelude.{◌≡◌};
 ghost use Rattle.judging.specs.Asking.{sub_ask, JudgePre, RulePre};
 ghost use Rattle.judging.specs.Ending.{Judged, Fires};
@@ -12,7 +14,7 @@ use rules::{Instance, Mid, Side};
 
 // 000's arms: the same Int, Bool, Var or ETVar (with the rule's number), Arrows, a Forall on a side, an unknown on a side that does not
 // occur on the other.
-#[derive(Drop)]
+#[derive(Clone, Copy)]
 pub enum Arm {
     Refl(usize),
     Arr,

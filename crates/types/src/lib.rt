@@ -1,4 +1,6 @@
 // Types by reference, in the question or in work, shared where 000 clones: code, name, parts, lengths, words; records made at the top of work.
+#![tactic(auto)]
+
 ghost use Rattle.std.specs.Prelude.{◌≡◌, ◌+◌, ◌≤◌, length};
 ghost use Rattle.layout.specs.Denotes.{capped};
 ghost use Rattle.types.specs.Reading.{Held, HeldAs, HeldNamed, Tagged, Mono, Named, LeftOf, RightOf, BodyOf, LengthOf, RecordLength, WordsOf};

@@ -1,4 +1,6 @@
 // Walks over types by reference that are not charged: they end because the parts of a type rank below it.
+#![tactic(auto)]
+
 ghost use Rattle.std.specs.Prelude.{◌≡◌, ◌+◌, ◌*◌, ◌≤◌, length};
 ghost use Rattle.definition.specs.Rules.{same_var};
 ghost use Rattle.layout.specs.Names.{ty};
@@ -45,7 +47,7 @@ pub fn occurs_check(q: &[u32], work: &[u32], top: usize, a: TyVar, r: usize) -> 
 }
 
 // The names of two Vars, two ETVars or two Foralls.
-#[derive(Drop)]
+#[derive(Clone, Copy)]
 struct NamePair {
     a: TyVar,
     b: TyVar,

@@ -1,4 +1,6 @@
 // Words into the report: types with no recursion, sections, contexts; each function writes at a place and returns the next.
+#![tactic(auto)]
+
 ghost use Rattle.std.specs.Prelude.{◌≡◌, ◌&&◌, ◌+◌, ◌≤◌, ◌^◌, min, eqb, length};
 ghost use Rattle.writing.specs.Spelling.{AfterCount, Long, Spelled, PutWords, Writable, Writes};
 ghost use Rattle.writing.specs.Types.{OfType, OfPart, Waiting, Steps};
@@ -12,7 +14,7 @@ use types::{body_of, left_of, name_of, right_of, tag, type_length, type_words};
 const OVER: usize = 4_294_967_296;
 
 // Where the next word is written, and where the next waiting reference stands.
-#[derive(Drop)]
+#[derive(Clone, Copy)]
 struct Pen {
     at: usize,
     low: usize,
@@ -281,14 +283,14 @@ pub fn write_context<'a>(
 }
 
 // A context, and how long its section is.
-#[derive(Drop)]
+#[derive(Clone, Copy)]
 pub struct Known {
     pub g: Span,
     pub length: usize,
 }
 
 // A context, and where its section stands in the report.
-#[derive(Drop)]
+#[derive(Clone, Copy)]
 pub struct Standing {
     pub g: Span,
     pub at: usize,

@@ -9,7 +9,7 @@ returns c =
     let at-put4 = c.before.before in let at-put3 = at-put4.before.before.before.before in
     let at-put2 = at-put3.before.before.before.before in let at-put = at-put2.before.before.before.before in
     let at-start = at-put.before.before.before in
-    rw (at-put4.put4.ensures, at-put3.put3.ensures, at-put2.put2.ensures, at-put.put.ensures) (put_four _ _ _ _ _ _ at-start.requires.0)
+    rw (at-put4.put-4.ensures, at-put3.put-3.ensures, at-put2.put-2.ensures, at-put.put.ensures) (put_four _ _ _ _ _ _ at-start.requires.0)
 
 pub put4_spec : {M : Type 1} → statement M
 put4_spec =

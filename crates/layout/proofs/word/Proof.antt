@@ -5,7 +5,7 @@ use borrow.Author.Rules.{rules}
 use Rattle.layout.proofs.word.Statement.{statement}
 use Rattle.layout.proofs.word.Tie as tie
 
-cast_result : tie.Need-overflow-cast-result
+cast_result : tie.Need-overflow_cast-result
 cast_result c = omega (arith, c.shared-slice-known.given c.before.args.i)
 
 returns : tie.Need-returns
