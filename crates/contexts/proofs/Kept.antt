@@ -71,7 +71,7 @@ halves {q} {w} {t} {at} zero j {Γ} g c b =
     let run : Run q w t at j Γ = record { ctx = g; count = omega arith; below = omega arith } in
     record { L = []; R = Γ; is = refl; left = record { ctx = nil; count = refl; below = omega arith }; right = rw e run }
 halves (suc i) j nil c b = absurd (omega arith)
-halves (suc i) j (cons x g) c b = further x (halves i j g (omega arith) (omega arith))
+halves {at = at} (suc i) j (cons x g) c b = further x (halves {at = at + 4} i j g (omega arith) (omega arith))
 
 -- ## What is copied
 

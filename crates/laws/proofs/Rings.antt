@@ -4,7 +4,7 @@ use mathlib.Core.Path.{◌≡◌, refl, ◌∙◌}
 use Prim.Native.Nat.{ℕ, zero, suc, ◌≤◌}
 use mathlib.Core.List.{List}
 use mathlib.Core.Option.{none}
-use Rattle.definition.specs.Syntax.{TyVar, Ty, etvar, arrow, forall, Ctx}
+use Rattle.definition.specs.Syntax.{TyVar, Ty, int, bool, var, etvar, arrow, forall, Ctx}
 use Rattle.definition.specs.Question.{Question}
 use Rattle.definition.specs.Run.{Out, done, fail, stop, M, and_then, ◌>>=◌, charge, halt}
 use Rattle.definition.specs.Types.{solution_or, apply_step, apply_to, apply}
@@ -32,6 +32,9 @@ module _ {Γ : Ctx} {a : TyVar} (ring : Ring Γ a) where
 
   step_stops : (d : ℕ) → Stops (λ B. apply_to d Γ B) → Stops (apply_step Γ (λ B l n. apply_to d Γ B l n))
   unfolding apply_step solution_or ◌>>=◌ and_then
+  step_stops d h int q l n = elim q [ ]
+  step_stops d h bool q l n = elim q [ ]
+  step_stops d h (var b) q l n = elim q [ ]
   step_stops d h (etvar b) here l n = rw ring.solved (h ring.solution ring.back l n)
   step_stops d h (etvar b) (follow {B} e q) l n = rw e (h B q l n)
   step_stops d h (arrow A B) (left q) l n = rw (h A q l n)

@@ -190,14 +190,14 @@ run_frame kp le r = record { ctx = ctx_frame kp le r.ctx; count = r.count; below
 pub entry_mono : {q w : List ℕ} {t at : ℕ} (L : Ctx) (e : Entry) (R : Ctx) → Base q w t → CtxAt q w t at (L ++ (e ∷ R))
     → mono_of w (get_or w (at + 4 * length L + 2) 0) ≡ is_mono (held e)
 entry_mono {at = at} [] e R b (cons x g) = let a : at + 4 * 0 + 2 ≡ at + 2 = omega arith in rw (a, x.ref_is) (mono_is_walk b x.den)
-entry_mono {at = at} (f ∷ L) e R b (cons x g) = let a : at + 4 * length (f ∷ L) + 2 ≡ at + 4 + 4 * length L + 2 = omega arith in rw a (entry_mono L e R b g)
+entry_mono {at = at} (f ∷ L) e R b (cons x g) = let a : at + 4 * length (f ∷ L) + 2 ≡ at + 4 + 4 * length L + 2 = omega arith in rw a (entry_mono {at = at + 4} L e R b g)
 
 -- two runs, one after the other
 pub ctx_join : {q w : List ℕ} {t at : ℕ} (L : Ctx) {R : Ctx} → CtxAt q w t at L → CtxAt q w t (at + 4 * length L) R → CtxAt q w t at (L ++ R)
 ctx_join {at = at} [] {R} nil h = let a : at + 4 * 0 ≡ at = omega arith in rw a at h
 ctx_join {q} {w} {t} {at} (f ∷ L) {R} (cons x g) h =
     let a : at + 4 * length (f ∷ L) ≡ at + 4 + 4 * length L = omega arith in
-    cons x (ctx_join L g (rw a at h))
+    cons x (ctx_join {at = at + 4} L g (rw a at h))
 
 -- an entry of the question that was put
 pub question_put : {q w w' : List ℕ} {at k a r : ℕ} (i : ℕ) (b : Binding) (t : ℕ) → Put4 w w' at k a r 0 → at + 4 ≤ t → k ≡ kind_of (binding_key b)

@@ -51,6 +51,9 @@ module _ {q w : List ℕ} {t r : ℕ} (h : BASE ≤ r) where
 
   pub made_name : {T : Ty} {b : TyVar} → Naming T b → Den q w t r T → get_or w (r - BASE + 1) 0 ≡ b.number
   made_name n (written d) = absurd (not_written h d)
+  made_name n (int_made m) = elim n [ ]
+  made_name n (bool_made m) = elim n [ ]
+  made_name n (arrow_made m x y f g s d e) = elim n [ ]
   made_name etvar_names (etvar_made m n) = rw (place_is m) n
   made_name forall_names (forall_made m y n g s d) = rw (place_is m) n
 

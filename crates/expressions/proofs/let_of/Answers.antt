@@ -1,0 +1,12 @@
+-- `let_of` meets its contract.
+use Rattle.expressions.proofs.Forms.{name_within, let_table, let_of}
+use Rattle.expressions.proofs.let_of.Goals as goal
+
+pub bounds-q-at : goal.bounds-q-at
+bounds-q-at c = search name_within
+
+pub past-body-requires : goal.past-body-requires
+past-body-requires c = search let_table
+
+pub returns : goal.returns
+returns c = search let_of

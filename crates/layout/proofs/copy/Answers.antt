@@ -1,0 +1,21 @@
+-- `copy` meets its contract.
+use borrow.Author.Rules.{rules}
+use native.Mathlib.Omega.{arith}
+use mathlib.Core.Path.{◌≡◌}
+use Prim.Native.Nat.{ℕ, ◌≤◌, ◌<◌, ◌-◌, ◌+◌}
+use lib.ListN.{get_or}
+use Rattle.layout.specs.Words.{Keep}
+use Rattle.layout.proofs.Words.{keep_trans, keep_set}
+use Rattle.layout.proofs.Words.{copy_more}
+use Rattle.layout.proofs.copy.Goals as goal
+
+pub loop-i-preserved : goal.loop-i-preserved
+loop-i-preserved c = (
+  omega arith,
+  keep_trans c.loop-i.invariant.1 (keep_set _ _ _ _ _ (omega arith) (omega arith)),
+  copy_more c.args.from c.args.n
+      c.loop-i.i c.requires.0 c.requires.1 (omega arith) c.loop-i.invariant.1 c.loop-i.invariant.2,
+)
+
+pub returns : goal.returns
+returns c = record { keep = c.loop-i.invariant.1; same = λ j l. c.loop-i.invariant.2 j (omega arith) }

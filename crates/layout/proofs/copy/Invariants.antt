@@ -1,0 +1,18 @@
+-- `copy` meets its contract.
+use borrow.Author.Rules.{rules}
+use native.Mathlib.Omega.{arith}
+use mathlib.Core.Path.{◌≡◌}
+use Prim.Native.Nat.{ℕ, ◌≤◌, ◌<◌, ◌-◌, ◌+◌}
+use lib.ListN.{get_or}
+use Rattle.layout.specs.Words.{Keep}
+use Rattle.layout.proofs.Words.{keep_trans, keep_set}
+use Rattle.layout.proofs.Words.{copy_more}
+use Rattle.layout.proofs.copy.Given as goal
+
+abbrev pub invariant-loop-i : goal.invariant-loop-i
+invariant-loop-i l =
+    (l.i ≤ l.n) × Keep l.to (l.to + l.n) l.initial.words l.words × ((j : ℕ) → j < l.i → get_or l.words (l.to + j) 0 ≡ get_or l.initial.words
+    (l.from + j) 0)
+
+abbrev pub decreases-loop-i : goal.decreases-loop-i
+decreases-loop-i l = l.n - l.i

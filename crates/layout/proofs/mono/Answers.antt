@@ -1,0 +1,9 @@
+-- `mono` meets its contract.
+use mathlib.Core.Path.{ap}
+use lib.Dec.{leb}
+use borrow.Author.Rules.{rules}
+use Rattle.layout.specs.Sizes.{MONO}
+use Rattle.layout.proofs.mono.Goals as goal
+
+pub returns : goal.returns
+returns c = ap (leb MONO) c.word.ensures.0
