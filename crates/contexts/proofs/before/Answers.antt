@@ -1,6 +1,5 @@
 -- `before` meets its contract.
 use Rattle.contexts.proofs.Search.{before_none, before_some}
-use borrow.Author.Rules.{rules}
 use Rattle.contexts.proofs.before.Goals as goal
 
 pub returns-then-i-n : goal.returns-then-i-n

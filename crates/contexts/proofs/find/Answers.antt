@@ -1,8 +1,7 @@
 -- `find` meets its contract: the first entry in words is the definition's.
-use borrow.Author.Rules.{rules}
 use Rattle.layout.specs.Names.{key}
 use Rattle.contexts.proofs.Search.{first_split}
 use Rattle.contexts.proofs.find.Goals as goal
 
 pub returns : goal.returns
-returns c = first_split (search key) (rw (c.kind-kind.ensures, c.name-name.ensures.0) at c.first.ensures)
+returns c = first_split (key c.args.k) (rw (c.kind-kind.ensures, c.name-name.ensures.0) at c.first.ensures)

@@ -1,10 +1,5 @@
 -- `first` meets its contract: no entry passed has that kind and name.
-use borrow.Author.Rules.{rules}
-use native.Mathlib.Omega.{arith}
-use mathlib.Core.Path.{◌∙◌}
-use mathlib.Core.Logic.{⊎_elim}
 use Prim.Native.Nat.{ℕ, ◌≤◌, ◌<◌, ◌-◌}
-use borrow.Author.Count.{below_more}
 use Rattle.contexts.specs.Search.{Hit}
 use Rattle.contexts.proofs.first.Given as goal
 

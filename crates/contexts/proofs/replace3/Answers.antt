@@ -1,6 +1,5 @@
 -- `replace3` meets its contract.
 use Rattle.contexts.proofs.Build.{replaced3}
-use borrow.Author.Rules.{rules}
 use Rattle.contexts.proofs.replace3.Goals as goal
 
 pub returns : goal.returns

@@ -1,6 +1,5 @@
 -- `right_of` meets its contract.
 use Rattle.contexts.proofs.Search.{right_none, right_some}
-use borrow.Author.Rules.{rules}
 use Rattle.contexts.proofs.right_of.Goals as goal
 
 pub returns-then-i-n : goal.returns-then-i-n

@@ -1,6 +1,5 @@
 -- `solved_and_right` meets its contract.
 use Rattle.contexts.proofs.Kept.{kept_both}
-use borrow.Author.Rules.{rules}
 use Rattle.contexts.proofs.solved_and_right.Goals as goal
 
 pub returns : goal.returns
