@@ -400,3 +400,23 @@ module _ {X : Type 0} {n : ℕ} (b : BodyMade X n) where
         rw (f.is, v.is, forall_done (k.m x) _ _ k.s.left k.s.fresh (b.on.opens x v.A) k.began.some y.is)
         (made (grown k.began.some y.passed f.put.keep (omega (arith, (room_then k y.passed).fits))) (f.put.den y.type y.den));
   }
+
+-- ## A call as its parts are read, and made
+
+module _ {X : Type 0} {n : ℕ} where
+  abbrev pub arrow_read : {l u : ℕ} (i : PaidCall X n) → i.k ≡ 5 → LeftOf i.q i.w i.s.top i.r l → RightOf i.q i.w i.s.top i.r u → Arrow X n
+  arrow_read i e f g = record { on = i; l = _; u = _; parts = halves i.began.tag e f g }
+
+  abbrev pub forall_read : {a : TyVar} {u : ℕ} (i : PaidCall X n) → i.k ≡ 6 → Named i.q i.w i.s.top i.r a → BodyOf i.q i.w i.s.top i.r u
+      → ((x : X) (A : Ty) → PaysFirst (i.m x (forall (ty a) A)) (on_forall (i.m x) (ty a) A)) → Forall X n
+  forall_read i e f g h = record { on = i; a = _; u = _; parts = body i.began.tag e f g; opens = h }
+
+  module _ {w' : List ℕ} {s' : State} {r : ℕ} {z : Made} where
+    abbrev pub left_made : (h : Arrow X n) → On h.on h.l w' z → z ≡ Done s' r → LeftMade X n
+    left_made h f e = record { on = h; made = gone f e }
+
+    abbrev pub both_made : (h : LeftMade X n) → Does h.on.on.G h.on.on.m h.on.on.q h.made.w' w' h.made.s' h.on.u z → z ≡ Done s' r → BothMade X n
+    both_made h f e = record { on = h; made = gone f e }
+
+    abbrev pub body_made : (h : Forall X n) → On h.on h.u w' z → z ≡ Done s' r → BodyMade X n
+    body_made h f e = record { on = h; made = gone f e }
