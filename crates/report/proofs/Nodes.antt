@@ -5,7 +5,7 @@ use mathlib.Core.List.{List, [], ◌∷◌, ◌++◌, append_assoc}
 use Prim.Native.Nat.{ℕ, ◌+◌, ◌-◌, ◌≤◌, ◌<◌}
 use native.Mathlib.Omega.{arith}
 use lib.ListN.{length, get_or}
-use Rattle.definition.specs.Syntax.{Ty, ty_words, Ctx, ctx_words, Judgement, section, no_section, sections, ctx_section, ty_section, judgement_words, node, Trees, leaf, ◌&◌, children, tree_words, trees_words}
+use Rattle.definition.specs.Syntax.{Ty, ty_words, Ctx, ctx_words, Judgement, section, no_section, sections, ctx_section, ty_section, judgement_words, Trees, leaf, ◌&◌, children, tree_words, trees_words}
 use Rattle.layout.specs.Denotes.{Den, Run}
 use Rattle.layout.specs.declared.Span.{Span}
 use Rattle.layout.proofs.Places.{expr_place}

@@ -1,0 +1,13 @@
+-- `tree_length` meets its contract.
+use Rattle.writing.specs.After.{Measures}
+use Rattle.writing.proofs.Loops.{Summing}
+use Rattle.report.specs.Nodes.{OfNodes}
+use Rattle.report.proofs.tree_length.Given as goal
+
+abbrev pub invariant-loop-m : goal.invariant-loop-m
+invariant-loop-m l =
+    Summing l.q l.work l.top (OfNodes l.q l.work l.top l.low l.high) (OfNodes l.q l.work l.top l.low l.m) l.total × Measures l.q l.work
+    l.top l.last.g l.last
+
+abbrev pub decreases-loop-m : goal.decreases-loop-m
+decreases-loop-m l = l.m
