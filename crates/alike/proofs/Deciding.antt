@@ -272,6 +272,7 @@ data PairIn (a b : ℕ) : List (ℕ × ℕ) → Type 0 where
 
 every_in : (f : ℕ × ℕ → Bool) {a b : ℕ} {l : List (ℕ × ℕ)} → T (every f l) → PairIn a b l → T (f (a, b))
 unfolding every
+every_in f {l = []} t x = elim x [ ]
 every_in f {l = p ∷ l} t (here e e') = rw (← e, ← e') (and_yes (f p) (every f l) t).0
 every_in f {l = p ∷ l} t (there i) = every_in f (and_yes (f p) (every f l) t).1 i
 

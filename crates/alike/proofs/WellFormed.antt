@@ -124,7 +124,10 @@ module _ {A : Type 0} {F : A → List ℕ → Type 0} where
   -- a reader of one word, and what comes then
   lone_o : {B : Type 0} {R : ℕ → Type 0} {m : Reader B} (number : B → ℕ) (f : B → Reader A) → Only m (λ b. Lone R (number b))
       → ((b : B) → R (number b) → Only (f b) (λ a v. F a (number b ∷ v))) → Only (◌>>=◌ m f) F
-  lone_o number f g h = bind_o f g (λ b u. elim [ lone r ↦ h b r ])
+  lone_o {B} {R} number f g h = bind_o f g by
+    where
+      by : (b : B) (u : List ℕ) → Lone R (number b) u → Only (f b) (λ a v. F a (u ++ v))
+      by b u (lone r) = h b r
 
   row_o : (p w : ℕ) {rows : List (ℕ × Reader A)} → Rows F rows → Only (row w rows (bad_shape p)) (λ a v. F a (w ∷ v))
   unfolding row
@@ -263,12 +266,18 @@ counted_o {G = G} {m} h = word_o _ (λ p n. record { at = λ q ws. by p n q ws (
 module _ {A : Type 0} {F : A → List ℕ → Type 0} where
   section_o : {B : Type 0} {G : B → List ℕ → Type 0} {m : Reader B} (f : B → Reader A) → Only m G
       → ((b : B) (u : List ℕ) → G b u → Only (f b) (λ a v. F a (Syntax.section u ++ v))) → Only (◌>>=◌ (counted m) f) F
-  section_o f g h = bind_o f (counted_o g) (λ b w. elim [ in_section {u = u} x ↦ h b u x ])
+  section_o {B} {G} f g h = bind_o f (counted_o g) by
+    where
+      by : (b : B) (w : List ℕ) → SectionWords G b w → Only (f b) (λ a v. F a (w ++ v))
+      by b w (in_section {u = u} x) = h b u x
 
   last_section_o : {B : Type 0} {G : B → List ℕ → Type 0} {m : Reader B} (f : B → A) → Only m G
       → ((b : B) (u : List ℕ) → G b u → F (f b) (Syntax.section u))
       → Only (◌>>=◌ (counted m) λ b. give (f b)) F
-  last_section_o f g h = last_o f (counted_o g) (λ b w. elim [ in_section {u = u} x ↦ h b u x ])
+  last_section_o {B} {G} f g h = last_o f (counted_o g) by
+    where
+      by : (b : B) (w : List ℕ) → SectionWords G b w → F (f b) w
+      by b w (in_section {u = u} x) = h b u x
 
   empty_o : (f : ℕ → Reader A) → ((n : ℕ) → Only (f n) (λ a v. F a (0 ∷ v))) → Only (◌>>=◌ empty f) F
   unfolding empty
@@ -302,13 +311,19 @@ on_unknown : {A : Type 0} {F : A → List ℕ → Type 0} (f : TyVar → Reader 
     → ((a : TyVar) → InQuestions itself Label.type_name a.number a.number → Only (f a) (λ b v. F b (2 ∷ 4 ∷ a.number ∷ v)))
     → Only (◌>>=◌ (counted unknown) f) F
 unfolding Syntax.section
-on_unknown f h = section_o f unknown_o (λ a v. elim [ unknown_words n ↦ h a n ])
+on_unknown {F} f h = section_o f unknown_o by
+  where
+    by : (a : TyVar) (u : List ℕ) → Unknown a u → Only (f a) (λ b v. F b (Syntax.section u ++ v))
+    by a u (unknown_words n) = h a n
 
 last_unknown : {A : Type 0} {F : A → List ℕ → Type 0} (f : TyVar → A)
     → ((a : TyVar) → InQuestions itself Label.type_name a.number a.number → F (f a) (2 ∷ 4 ∷ a.number ∷ []))
     → Only (◌>>=◌ (counted unknown) λ a. give (f a)) F
 unfolding Syntax.section
-last_unknown f h = last_section_o f unknown_o (λ a v. elim [ unknown_words n ↦ h a n ])
+last_unknown {F} f h = last_section_o f unknown_o by
+  where
+    by : (a : TyVar) (u : List ℕ) → Unknown a u → F (f a) (Syntax.section u)
+    by a u (unknown_words n) = h a n
 
 -- the mode's word stands after the kind
 abbrev with_mode : ℕ → List ℕ → List ℕ
@@ -352,10 +367,13 @@ end_o = record { at = λ p. elim [ [] ↦ took [] [] refl refl | w ∷ ws ↦ fa
 
 question_o : Only question (λ q u. Own IsQuestion u)
 unfolding question
-question_o =
-    lone_o (λ k. k) _ (within_o 1 7) (λ k l. bind_o _ mode_o (λ μ v. elim [
-      | mode_word {w = m} h ↦ bind_o _ (row_o 0 k (kind_rows_o m h)) (λ j w a. last_o _ end_o (λ t x e. rw (e, append-nil w) a))
-    ]))
+question_o = lone_o (λ k. k) _ (within_o 1 7) (λ k l. bind_o _ mode_o (by k))
+  where
+    by : (k : ℕ) (μ : Mode) (v : List ℕ) → ModeWord μ v
+        → Only {A = Question}
+        (◌>>=◌ (row k kind_rows (bad_shape 0)) λ j. ◌>>=◌ end λ t. give (record { kind = k; manner = μ; asks = j }))
+        (λ q u. Own IsQuestion (k ∷ v ++ u))
+    by k μ v (mode_word {w = m} h) = bind_o _ (row_o 0 k (kind_rows_o m h)) (λ j w a. last_o _ end_o (λ t x e. rw (e, append-nil w) a))
 
 all_read : {q : Question} {p : ℕ} {ws : List ℕ} {o : Read Question} → Took (λ q u. Own IsQuestion u) ws o → o ≡ got q p []
     → AlikeQuestions itself ws ws

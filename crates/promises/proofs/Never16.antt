@@ -10,7 +10,7 @@ use lib.Dec.{T, ltb, eqb, leb}
 use mir.Facts.{no_ltb}
 use borrow.Author.Tests.{eqb-true, leb-true}
 use Rattle.definition.specs.Syntax.{pick}
-use Rattle.definition.specs.Reply.{Reply, refusal, reply}
+use Rattle.definition.specs.Reply.{Reply, refusal}
 use Rattle.definition.specs.Memory.{call}
 use Rattle.definition.specs.Host.{word_at, words_of, bytes_of, desk_reply, byte_reply, numbers, HostCall, host_call}
 use Rattle.laws.specs.Codes.{reply_codes, is_one_of, Listed}
