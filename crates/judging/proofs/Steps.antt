@@ -23,10 +23,10 @@ use Rattle.judging.specs.contracts.Step as StepT
 -- ## An answer that is not Done: what the code's `else` knows
 
 abbrev pub NotDone : Step → Type 0
-NotDone z = OneOf (1 ∷ 2 ∷ []) (Declared.tag_of StepT.the_type z)
+NotDone z = (a : Answer) → z ≡ Done a → ⊥
 
 pub no_done : (a : Answer) → NotDone (Done a) → ⊥
-no_done a h = ⊎_elim (λ e. omega arith) (λ e. omega arith) h
+no_done a h = h a refl
 
 -- a judgement that does not end well ends its rule
 pub else_ends : {q w' : List ℕ} {s s₁ : State} {z : Step} {R : Out Result} (k : Result → M Fired) → EndsJ q w' s₁ z R → NotDone z

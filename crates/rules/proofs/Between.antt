@@ -5,7 +5,7 @@ use mathlib.Core.List.{List, []}
 use Prim.Native.Nat.{ℕ, ◌+◌, ◌≤◌}
 use native.Mathlib.Nat.{le_refl}
 use native.Mathlib.Omega.{arith}
-use Rattle.definition.specs.Syntax.{pick, TyVar, Ty, int, bool, var, etvar, arrow, forall, Ctx, type_application_error, parameter_mismatch}
+use Rattle.definition.specs.Syntax.{TyVar, Ty, int, bool, var, etvar, arrow, forall, Ctx, type_application_error, parameter_mismatch}
 use Rattle.definition.specs.Run.{Out, done, M, and_then, give, refuse, ◌>>=◌}
 use Rattle.definition.specs.Types.{apply, subst}
 use Rattle.definition.specs.Rules.{ty_code, on, as_forall, same_ty, parameter, branch, instantiate, ◌or_else◌}

@@ -10,7 +10,6 @@ use Rattle.definition.specs.Syntax.{Ty, etvar, forall, Ctx, on_l, on_r}
 use Rattle.definition.specs.Run.{Out, done, stop}
 use Rattle.definition.specs.Types.{subst}
 use Rattle.layout.specs.Sizes.{INT}
-use Rattle.layout.specs.Names.{ty}
 use Rattle.layout.specs.States.{raised}
 use Rattle.layout.specs.Words.{Keep}
 use Rattle.layout.specs.Denotes.{Den, Run, SmallEntry}
