@@ -1,12 +1,8 @@
 -- A judgement's steps in the definition: entering, its rule, leaving; and how a run that did not end well ends what asked it.
 use mathlib.Core.Path.{◌≡◌, refl, ◌∙◌}
-use mathlib.Core.List.{List, [], ◌∷◌}
-use mathlib.Core.Logic.{⊎_elim}
+use mathlib.Core.List.{List}
 use Prim.Native.Nat.{ℕ, ◌+◌, ◌-◌, ◌*◌, ◌≤◌, ◌<◌}
-use native.Mathlib.Omega.{arith}
 use lib.ListN.{length}
-use denote.Enum.Declared
-use types.Run.{OneOf}
 use Rattle.definition.specs.Syntax.{Ty, Ctx, Judgement, given, Rule, rule_number, Tree, node, Trees, leaf, ◌&◌, children, TypeError}
 use Rattle.definition.specs.Run.{Out, done, fail, stop, M, and_then, ◌>>=◌, give, charge}
 use Rattle.definition.specs.Rules.{Fired, Result, Here, rule, judge_step, judge}
@@ -18,7 +14,6 @@ use Rattle.judging.specs.declared.Bad.{Bad}
 use Rattle.judging.specs.declared.Step.{Step}
 use Rattle.judging.specs.declared.Step.TheVariants.{Done, Fail, Spent}
 use Rattle.judging.specs.Ending.{Landed, Failed, EndsJ, landed, failed, ran_out, EndsR, fired, refused, out}
-use Rattle.judging.specs.contracts.Step as StepT
 
 -- ## An answer that is not Done: what the code's `else` knows
 

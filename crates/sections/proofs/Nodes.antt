@@ -329,6 +329,7 @@ walk : (ws : List ℕ) (Ss : List Stated) (d at : ℕ) → length Ss ≤ d → d
 unfolding nodes_from onward states_words
 walk ws [] zero at k h = refl
 walk ws [] (suc d) at k h = rw (← no_node ws at (omega (arith, ap length h, length-drop at ws)))
+walk ws (S ∷ Ss) zero at k h = elim k [ ]
 walk ws (S ∷ Ss) (suc d) at k h =
     rw (
       node_there ws S (states_words Ss) at h,

@@ -1,10 +1,7 @@
 -- Which arm of the definition two types fall into.
 use mathlib.Core.Path.{◌≡◌, refl, sym, ◌∙◌, ap}
 use mathlib.Core.Bool.{Bool, true, false, not}
-use mathlib.Core.List.{List, [], ◌∷◌}
-use mathlib.Core.Logic.{⊎_elim}
-use denote.Enum.Declared
-use types.Run.{OneOf}
+use mathlib.Core.List.{List}
 use mathlib.Core.Option.{Option, none, some}
 use Prim.Native.Nat.{ℕ, ◌+◌, ◌≤◌, ◌<◌}
 use native.Mathlib.Omega.{arith}
@@ -27,7 +24,6 @@ use Rattle.rules.proofs.TypeForms.{IsETVar, is_etvar, is_arrow, is_forall}
 use Rattle.subtyping.specs.Arms.{Comes, NotAlike, AlikeBy, by_rule, by_none, AlikeTypes, Absent, Formed, both_arrows, right_forall, left_forall, no_form, ByUnknown, left_unknown, right_unknown, no_unknown, ArmFits, fits_refl, fits_arr, fits_all, fits_inst, fits_none, ArmChosen}
 use Rattle.subtyping.specs.declared.Arm.{Arm}
 use Rattle.subtyping.specs.declared.Arm.TheVariants as arm
-use Rattle.subtyping.specs.contracts.Arm as ArmT
 
 -- ## By the code
 
@@ -252,10 +248,10 @@ module _ {q w : List ℕ} {t a b : ℕ} {r : Bool} (ab : Absent q w t a b r) whe
 
 -- an arm that is another: what the code's `_` knows
 abbrev pub NotNeither : Arm → Type 0
-NotNeither z = OneOf (0 ∷ 1 ∷ 2 ∷ 3 ∷ []) (Declared.tag_of ArmT.the_type z)
+NotNeither z = z ≡ arm.Neither → ⊥
 
 is_neither : NotNeither arm.Neither → ⊥
-is_neither h = ⊎_elim (λ e. omega arith) (λ h. ⊎_elim (λ e. omega arith) (λ h. ⊎_elim (λ e. omega arith) (λ e. omega arith) h) h) h
+is_neither h = h refl
 
 pub chosen_refl : {q w : List ℕ} {t a b n : ℕ} → AlikeTypes q w t a b n → (n ≡ 0 → ⊥) → ArmChosen q w t a b (arm.Refl n)
 chosen_refl {n = n} al h = record { is = λ A B d e. go (al.is A B d e) }

@@ -1,0 +1,12 @@
+-- `run` meets its contract.
+use Rattle.entry.proofs.Running.{unpaid, finish_pre, runs}
+use Rattle.entry.proofs.run.Goals as goal
+
+pub returns-then-budget-n : goal.returns-then-budget-n
+returns-then-budget-n c = search unpaid
+
+pub finish-requires : goal.finish-requires
+finish-requires c = search finish_pre
+
+pub returns : goal.returns
+returns c = search runs

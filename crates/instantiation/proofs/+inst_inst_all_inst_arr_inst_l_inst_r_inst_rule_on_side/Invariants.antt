@@ -1,0 +1,25 @@
+-- What falls from call to call of the cycle of inst_l and inst_r: five times the budget left, and one more for each step on the way to a
+-- judgement.
+use Prim.Native.Nat.{◌+◌, ◌*◌}
+use Rattle.instantiation.proofs.+inst_inst_all_inst_arr_inst_l_inst_r_inst_rule_on_side.Given as goal
+
+abbrev pub decreases-inst : goal.decreases-inst
+decreases-inst l = 5 * l.st.left
+
+abbrev pub decreases-inst_all : goal.decreases-inst_all
+decreases-inst_all l = 5 * l.st.left + 3
+
+abbrev pub decreases-inst_arr : goal.decreases-inst_arr
+decreases-inst_arr l = 5 * l.st.left + 3
+
+abbrev pub decreases-inst_l : goal.decreases-inst_l
+decreases-inst_l l = 5 * l.st.left + 1
+
+abbrev pub decreases-inst_r : goal.decreases-inst_r
+decreases-inst_r l = 5 * l.st.left + 1
+
+abbrev pub decreases-inst_rule : goal.decreases-inst_rule
+decreases-inst_rule l = 5 * l.st.left + 4
+
+abbrev pub decreases-on_side : goal.decreases-on_side
+decreases-on_side l = 5 * l.st.left + 2
