@@ -19,21 +19,21 @@ use Rattle.judging.specs.declared.Step.{Step}
 use Rattle.judging.specs.declared.Step.TheVariants.{Done, Spent}
 use Rattle.judging.specs.Ending.{Landed, EndsJ, landed, failed, ran_out, charge_of}
 use Rattle.judging.proofs.Nodes.{nodes_frame, nodes_at}
-use Rattle.judging.proofs.Steps.{came}
+use Rattle.judging.proofs.Steps.{NotDone, no_done, came}
 use Rattle.entry.specs.Entry.{resolved, ResolvePre, Resolves}
 
 -- it did not end well
-pub resolve_else : {q w : List ℕ} {s : State} {z : Step} → ((a : Answer) → z ≡ Done a → ⊥) → Resolves q w w s z z
+pub resolve_else : {q w : List ℕ} {s : State} {z : Step} → NotDone z → Resolves q w w s z z
 unfolding and_then charged
 resolve_else {q} {w} {s} nd = record { ends = λ R h. go h nd; charge = λ R h e. same h nd e }
   where
-    same : {z : Step} {R : Out Result} → EndsJ q w s z R → ((a : Answer) → z ≡ Done a → ⊥) → charge_of z ≡ charged s.left R → charge_of z ≡ charged s.left (resolved R)
-    same (landed {a = a} x) nd e = absurd (nd a refl)
+    same : {z : Step} {R : Out Result} → EndsJ q w s z R → NotDone z → charge_of z ≡ charged s.left R → charge_of z ≡ charged s.left (resolved R)
+    same (landed {a = a} x) nd e = absurd (no_done a nd)
     same (failed x) nd e = e
     same ran_out nd e = e
 
-    go : {z : Step} {R : Out Result} → EndsJ q w s z R → ((a : Answer) → z ≡ Done a → ⊥) → EndsJ q w s z (resolved R)
-    go (landed {a = a} x) nd = absurd (nd a refl)
+    go : {z : Step} {R : Out Result} → EndsJ q w s z R → NotDone z → EndsJ q w s z (resolved R)
+    go (landed {a = a} x) nd = absurd (no_done a nd)
     go (failed x) nd = failed x
     go ran_out nd = ran_out
 

@@ -10,5 +10,9 @@ put4-requires c = omega (arith, den_small)
 
 pub returns : goal.returns
 returns c =
-    record { keep = c.put4.ensures.keep; ref = refl; den = λ A d. forall_put (ty c.args.a) refl (rw c.with_mono-head.ensures.0 at
-    c.put4.ensures) (omega (arith, c.sat_add-length.ensures, c.type_length-b.ensures.is A d)) d; }
+    record {
+      keep = c.put4.ensures.keep;
+      ref = refl;
+      den = λ A d. forall_put (ty c.args.a) refl (rw c.with_mono-head.ensures.0 at
+          c.put4.ensures) (omega (arith, c.sat_add-length.ensures, c.type_length-b.ensures.is A d)) d;
+    }

@@ -14,7 +14,7 @@ returns-then-k-lt5 c = search length_leaf
 
 pub word-requires : goal.word-requires
 word-requires c =
-    omega ( arith, four_in_work c.requires c.if-r-lt-BASE.false (omega ( arith, c.tag-k.ensures.is c.requires.type c.requires.den, )), )
+    omega (arith, four_in_work c.requires c.if-r-lt-BASE.false (omega (arith, c.tag-k.ensures.is c.requires.type c.requires.den)))
 
 pub returns : goal.returns
 returns c = search length_made

@@ -45,7 +45,7 @@ pub returns-in-3 : goal.returns-in-3
 returns-in-3 t c = search occurs_name
 
 pub returns-in_default : goal.returns-in_default
-returns-in_default t c = search occurs_base
+returns-in_default t c = occurs_base c.tag-k.ensures (omega arith)
 
 pub returns-in_default-2 : goal.returns-in_default-2
 returns-in_default-2 t c = search no_other

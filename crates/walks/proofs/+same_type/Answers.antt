@@ -33,7 +33,7 @@ abbrev laid : {v : ℕ} {w₁ : List ℕ} (i : Foralls v) → Put2 i.on.w w₁ (
 laid i h = record { both = i; w₁ = _; put = h }
 
 pub returns-then-k-m : goal.returns-then-k-m
-returns-then-k-m t c = search same_apart
+returns-then-k-m t c = same_apart c.tag-k.ensures c.tag-m.ensures (λ e. omega arith)
 
 pub names_of-requires : goal.names_of-requires
 names_of-requires t c = vars_named (one_code c.decreases c.requires c.tag-k.ensures c.tag-m.ensures c.if-k-m.false) c.in-3.is
