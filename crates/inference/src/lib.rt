@@ -14,7 +14,7 @@ use rules::Mid;
 // ---- infer
 
 // The type of an expression.
-#[cycle(app_arr_app_etvar_app_rule_check_chk_all_chk_lam_chk_rule_chk_sub_inf_rule_infer_infer_abs_infer_ann_infer_app_infer_application_infer_binop_infer_if_infer_let_infer_tabs_infer_tapp)]
+#[cycle(infer_check_infer_app)]
 pub fn infer(q: &[u32], work: &mut [u32], h: Here, st: State, g: Span, ex: usize) -> Step
     requires { JudgePre q.now work.old st g (infer_ask ex) }
     ensures { Judged h q.now work.old work.new st g (infer_ask ex) result }
@@ -33,7 +33,7 @@ pub fn infer(q: &[u32], work: &mut [u32], h: Here, st: State, g: Span, ex: usize
 }
 
 // The rule for the expression's form, as 000's infer matches.
-#[cycle(app_arr_app_etvar_app_rule_check_chk_all_chk_lam_chk_rule_chk_sub_inf_rule_infer_infer_abs_infer_ann_infer_app_infer_application_infer_binop_infer_if_infer_let_infer_tabs_infer_tapp)]
+#[cycle(infer_check_infer_app)]
 fn inf_rule(q: &[u32], work: &mut [u32], h: Here, st: State, g: Span, ex: usize) -> Step
     requires { RulePre q.now work.old st g (infer_ask ex) }
     ensures { Fires h q.now work.old work.new st g (infer_ask ex) result }
@@ -55,7 +55,7 @@ fn inf_rule(q: &[u32], work: &mut [u32], h: Here, st: State, g: Span, ex: usize)
 }
 
 // InfAnn: the expression is checked against the written type.
-#[cycle(app_arr_app_etvar_app_rule_check_chk_all_chk_lam_chk_rule_chk_sub_inf_rule_infer_infer_abs_infer_ann_infer_app_infer_application_infer_binop_infer_if_infer_let_infer_tabs_infer_tapp)]
+#[cycle(infer_check_infer_app)]
 fn infer_ann(q: &[u32], work: &mut [u32], h: Here, st: State, g: Span, ex: usize) -> Step
     requires { InferPre q.now work.old st g ex 21 }
     ensures { Fires h q.now work.old work.new st g (infer_ask ex) result }
@@ -71,7 +71,7 @@ fn infer_ann(q: &[u32], work: &mut [u32], h: Here, st: State, g: Span, ex: usize
 }
 
 // InfLam: the body is checked against a fresh unknown; solved entries of left, then right.
-#[cycle(app_arr_app_etvar_app_rule_check_chk_all_chk_lam_chk_rule_chk_sub_inf_rule_infer_infer_abs_infer_ann_infer_app_infer_application_infer_binop_infer_if_infer_let_infer_tabs_infer_tapp)]
+#[cycle(infer_check_infer_app)]
 fn infer_abs(q: &[u32], work: &mut [u32], h: Here, st: State, g: Span, ex: usize) -> Step
     requires { InferPre q.now work.old st g ex 18 }
     ensures { Fires h q.now work.old work.new st g (infer_ask ex) result }
@@ -89,7 +89,7 @@ fn infer_abs(q: &[u32], work: &mut [u32], h: Here, st: State, g: Span, ex: usize
 }
 
 // InfApp: the function's type, with the context applied, takes the argument.
-#[cycle(app_arr_app_etvar_app_rule_check_chk_all_chk_lam_chk_rule_chk_sub_inf_rule_infer_infer_abs_infer_ann_infer_app_infer_application_infer_binop_infer_if_infer_let_infer_tabs_infer_tapp)]
+#[cycle(infer_check_infer_app)]
 fn infer_application(q: &[u32], work: &mut [u32], h: Here, st: State, g: Span, ex: usize) -> Step
     requires { InferPre q.now work.old st g ex 17 }
     ensures { Fires h q.now work.old work.new st g (infer_ask ex) result }
@@ -116,7 +116,7 @@ fn infer_application(q: &[u32], work: &mut [u32], h: Here, st: State, g: Span, e
 }
 
 // InfTAbs: the body is inferred under the name; solved entries of left, then right.
-#[cycle(app_arr_app_etvar_app_rule_check_chk_all_chk_lam_chk_rule_chk_sub_inf_rule_infer_infer_abs_infer_ann_infer_app_infer_application_infer_binop_infer_if_infer_let_infer_tabs_infer_tapp)]
+#[cycle(infer_check_infer_app)]
 fn infer_tabs(q: &[u32], work: &mut [u32], h: Here, st: State, g: Span, ex: usize) -> Step
     requires { InferPre q.now work.old st g ex 20 }
     ensures { Fires h q.now work.old work.new st g (infer_ask ex) result }
@@ -141,7 +141,7 @@ fn infer_tabs(q: &[u32], work: &mut [u32], h: Here, st: State, g: Span, ex: usiz
 }
 
 // InfTApp: the written type for the name that the Forall binds.
-#[cycle(app_arr_app_etvar_app_rule_check_chk_all_chk_lam_chk_rule_chk_sub_inf_rule_infer_infer_abs_infer_ann_infer_app_infer_application_infer_binop_infer_if_infer_let_infer_tabs_infer_tapp)]
+#[cycle(infer_check_infer_app)]
 fn infer_tapp(q: &[u32], work: &mut [u32], h: Here, st: State, g: Span, ex: usize) -> Step
     requires { InferPre q.now work.old st g ex 19 }
     ensures { Fires h q.now work.old work.new st g (infer_ask ex) result }
@@ -162,7 +162,7 @@ fn infer_tapp(q: &[u32], work: &mut [u32], h: Here, st: State, g: Span, ex: usiz
 }
 
 // InfLet: the body is inferred under the name with the first expression's type; solved entries of left, then right.
-#[cycle(app_arr_app_etvar_app_rule_check_chk_all_chk_lam_chk_rule_chk_sub_inf_rule_infer_infer_abs_infer_ann_infer_app_infer_application_infer_binop_infer_if_infer_let_infer_tabs_infer_tapp)]
+#[cycle(infer_check_infer_app)]
 fn infer_let(q: &[u32], work: &mut [u32], h: Here, st: State, g: Span, ex: usize) -> Step
     requires { InferPre q.now work.old st g ex 24 }
     ensures { Fires h q.now work.old work.new st g (infer_ask ex) result }
@@ -189,7 +189,7 @@ fn infer_let(q: &[u32], work: &mut [u32], h: Here, st: State, g: Span, ex: usize
 }
 
 // InfIf: a Bool, two branches, the first's type below the second's; strict mode applies the context to both before.
-#[cycle(app_arr_app_etvar_app_rule_check_chk_all_chk_lam_chk_rule_chk_sub_inf_rule_infer_infer_abs_infer_ann_infer_app_infer_application_infer_binop_infer_if_infer_let_infer_tabs_infer_tapp)]
+#[cycle(infer_check_infer_app)]
 fn infer_if(q: &[u32], work: &mut [u32], h: Here, st: State, g: Span, ex: usize) -> Step
     requires { InferPre q.now work.old st g ex 25 }
     ensures { Fires h q.now work.old work.new st g (infer_ask ex) result }
@@ -242,7 +242,7 @@ fn operator(op: usize) -> Sides
 }
 
 // The operator's rule: the left side is inferred or checked, then the right side is checked against the same type.
-#[cycle(app_arr_app_etvar_app_rule_check_chk_all_chk_lam_chk_rule_chk_sub_inf_rule_infer_infer_abs_infer_ann_infer_app_infer_application_infer_binop_infer_if_infer_let_infer_tabs_infer_tapp)]
+#[cycle(infer_check_infer_app)]
 fn infer_binop(q: &[u32], work: &mut [u32], h: Here, st: State, g: Span, ex: usize) -> Step
     requires { InferPre q.now work.old st g ex 26 }
     ensures { Fires h q.now work.old work.new st g (infer_ask ex) result }
@@ -272,7 +272,7 @@ fn infer_binop(q: &[u32], work: &mut [u32], h: Here, st: State, g: Span, ex: usi
 // ---- check
 
 // Whether an expression has a type.
-#[cycle(app_arr_app_etvar_app_rule_check_chk_all_chk_lam_chk_rule_chk_sub_inf_rule_infer_infer_abs_infer_ann_infer_app_infer_application_infer_binop_infer_if_infer_let_infer_tabs_infer_tapp)]
+#[cycle(infer_check_infer_app)]
 pub fn check(q: &[u32], work: &mut [u32], h: Here, st: State, g: Span, ex: usize, ty: usize) -> Step
     requires { JudgePre q.now work.old st g (check_ask ex ty) }
     ensures { Judged h q.now work.old work.new st g (check_ask ex ty) result }
@@ -291,7 +291,7 @@ pub fn check(q: &[u32], work: &mut [u32], h: Here, st: State, g: Span, ex: usize
 }
 
 // The first arm of 000's check that fits.
-#[cycle(app_arr_app_etvar_app_rule_check_chk_all_chk_lam_chk_rule_chk_sub_inf_rule_infer_infer_abs_infer_ann_infer_app_infer_application_infer_binop_infer_if_infer_let_infer_tabs_infer_tapp)]
+#[cycle(infer_check_infer_app)]
 fn chk_rule(q: &[u32], work: &mut [u32], h: Here, st: State, g: Span, ex: usize, ty: usize) -> Step
     requires { RulePre q.now work.old st g (check_ask ex ty) }
     ensures { Fires h q.now work.old work.new st g (check_ask ex ty) result }
@@ -309,7 +309,7 @@ fn chk_rule(q: &[u32], work: &mut [u32], h: Here, st: State, g: Span, ex: usize,
 }
 
 // ChkLam: the body under the expected parameter, which strict mode compares first; right alone.
-#[cycle(app_arr_app_etvar_app_rule_check_chk_all_chk_lam_chk_rule_chk_sub_inf_rule_infer_infer_abs_infer_ann_infer_app_infer_application_infer_binop_infer_if_infer_let_infer_tabs_infer_tapp)]
+#[cycle(infer_check_infer_app)]
 fn chk_lam(q: &[u32], work: &mut [u32], h: Here, st: State, g: Span, ex: usize, ty: usize) -> Step
     requires { CheckPre q.now work.old st g ex ty 19 }
     ensures { Fires h q.now work.old work.new st g (check_ask ex ty) result }
@@ -337,7 +337,7 @@ fn chk_lam(q: &[u32], work: &mut [u32], h: Here, st: State, g: Span, ex: usize, 
 }
 
 // ChkAll: under the name that the Forall binds; right alone.
-#[cycle(app_arr_app_etvar_app_rule_check_chk_all_chk_lam_chk_rule_chk_sub_inf_rule_infer_infer_abs_infer_ann_infer_app_infer_application_infer_binop_infer_if_infer_let_infer_tabs_infer_tapp)]
+#[cycle(infer_check_infer_app)]
 fn chk_all(q: &[u32], work: &mut [u32], h: Here, st: State, g: Span, ex: usize, ty: usize) -> Step
     requires { CheckPre q.now work.old st g ex ty 20 }
     ensures { Fires h q.now work.old work.new st g (check_ask ex ty) result }
@@ -355,7 +355,7 @@ fn chk_all(q: &[u32], work: &mut [u32], h: Here, st: State, g: Span, ex: usize, 
 }
 
 // ChkSub: the inferred type below the expected one, both with the context applied.
-#[cycle(app_arr_app_etvar_app_rule_check_chk_all_chk_lam_chk_rule_chk_sub_inf_rule_infer_infer_abs_infer_ann_infer_app_infer_application_infer_binop_infer_if_infer_let_infer_tabs_infer_tapp)]
+#[cycle(infer_check_infer_app)]
 fn chk_sub(q: &[u32], work: &mut [u32], h: Here, st: State, g: Span, ex: usize, ty: usize) -> Step
     requires { CheckPre q.now work.old st g ex ty 21 }
     ensures { Fires h q.now work.old work.new st g (check_ask ex ty) result }
@@ -400,7 +400,7 @@ fn subtype_applied(
 // ---- infer_app
 
 // What a function of the type ty gives for the argument.
-#[cycle(app_arr_app_etvar_app_rule_check_chk_all_chk_lam_chk_rule_chk_sub_inf_rule_infer_infer_abs_infer_ann_infer_app_infer_application_infer_binop_infer_if_infer_let_infer_tabs_infer_tapp)]
+#[cycle(infer_check_infer_app)]
 pub fn infer_app(
     q: &[u32],
     work: &mut [u32],
@@ -427,7 +427,7 @@ pub fn infer_app(
 }
 
 // The rule for the form of the function's type.
-#[cycle(app_arr_app_etvar_app_rule_check_chk_all_chk_lam_chk_rule_chk_sub_inf_rule_infer_infer_abs_infer_ann_infer_app_infer_application_infer_binop_infer_if_infer_let_infer_tabs_infer_tapp)]
+#[cycle(infer_check_infer_app)]
 fn app_rule(q: &[u32], work: &mut [u32], h: Here, st: State, g: Span, ty: usize, ex: usize) -> Step
     requires { RulePre q.now work.old st g (app_ask ty ex) }
     ensures { Fires h q.now work.old work.new st g (app_ask ty ex) result }
@@ -442,7 +442,7 @@ fn app_rule(q: &[u32], work: &mut [u32], h: Here, st: State, g: Span, ty: usize,
 }
 
 // InfAppArr: the argument is checked against what the Arrow takes.
-#[cycle(app_arr_app_etvar_app_rule_check_chk_all_chk_lam_chk_rule_chk_sub_inf_rule_infer_infer_abs_infer_ann_infer_app_infer_application_infer_binop_infer_if_infer_let_infer_tabs_infer_tapp)]
+#[cycle(infer_check_infer_app)]
 fn app_arr(q: &[u32], work: &mut [u32], h: Here, st: State, g: Span, ty: usize, ex: usize) -> Step
     requires { AppPre q.now work.old st g ty ex 5 }
     ensures { Fires h q.now work.old work.new st g (app_ask ty ex) result }
@@ -460,7 +460,7 @@ fn app_arr(q: &[u32], work: &mut [u32], h: Here, st: State, g: Span, ty: usize, 
 }
 
 // InfAppETVar: the unknown becomes an Arrow of two fresh ones.
-#[cycle(app_arr_app_etvar_app_rule_check_chk_all_chk_lam_chk_rule_chk_sub_inf_rule_infer_infer_abs_infer_ann_infer_app_infer_application_infer_binop_infer_if_infer_let_infer_tabs_infer_tapp)]
+#[cycle(infer_check_infer_app)]
 fn app_etvar(q: &[u32], work: &mut [u32], h: Here, st: State, g: Span, ty: usize, ex: usize) -> Step
     requires { AppPre q.now work.old st g ty ex 4 }
     ensures { Fires h q.now work.old work.new st g (app_ask ty ex) result }

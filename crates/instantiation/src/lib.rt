@@ -161,7 +161,7 @@ fn meet(
 }
 
 // The unknown a on the left of ty.
-#[cycle(inst_inst_all_inst_arr_inst_l_inst_r_inst_rule_on_side)]
+#[cycle(inst_l_inst_r)]
 pub fn inst_l(q: &[u32], work: &mut [u32], h: Here, st: State, g: Span, a: usize, ty: usize) -> Step
     requires { JudgePre q.now work.old st g (inst_ask on_l a ty) }
     ensures { Judged h q.now work.old work.new st g (inst_ask on_l a ty) result }
@@ -170,7 +170,7 @@ pub fn inst_l(q: &[u32], work: &mut [u32], h: Here, st: State, g: Span, a: usize
 }
 
 // The unknown a on the right of ty.
-#[cycle(inst_inst_all_inst_arr_inst_l_inst_r_inst_rule_on_side)]
+#[cycle(inst_l_inst_r)]
 pub fn inst_r(q: &[u32], work: &mut [u32], h: Here, st: State, g: Span, ty: usize, a: usize) -> Step
     requires { JudgePre q.now work.old st g (inst_ask on_r a ty) }
     ensures { Judged h q.now work.old work.new st g (inst_ask on_r a ty) result }
@@ -179,7 +179,7 @@ pub fn inst_r(q: &[u32], work: &mut [u32], h: Here, st: State, g: Span, ty: usiz
 }
 
 // The one of the two that has the unknown on side s.
-#[cycle(inst_inst_all_inst_arr_inst_l_inst_r_inst_rule_on_side)]
+#[cycle(inst_l_inst_r)]
 fn on_side(
     q: &[u32],
     work: &mut [u32],
@@ -200,7 +200,7 @@ fn on_side(
 }
 
 // Both, over the side: enters, asks the rule that fits, leaves.
-#[cycle(inst_inst_all_inst_arr_inst_l_inst_r_inst_rule_on_side)]
+#[cycle(inst_l_inst_r)]
 pub fn inst(
     q: &[u32],
     work: &mut [u32],
@@ -223,7 +223,7 @@ pub fn inst(
 }
 
 // The rule that fits, by the type's code.
-#[cycle(inst_inst_all_inst_arr_inst_l_inst_r_inst_rule_on_side)]
+#[cycle(inst_l_inst_r)]
 fn inst_rule(
     q: &[u32],
     work: &mut [u32],
@@ -248,7 +248,7 @@ fn inst_rule(
 
 // InstLArr (32), InstRArr (36): a becomes an arrow of unknowns, the first to be of the left half on the other side, the second of the right
 // half, applied.
-#[cycle(inst_inst_all_inst_arr_inst_l_inst_r_inst_rule_on_side)]
+#[cycle(inst_l_inst_r)]
 fn inst_arr(
     q: &[u32],
     work: &mut [u32],
@@ -290,7 +290,7 @@ fn inst_arr(
 }
 
 // InstLAllR (33), InstRAllL (37): the Forall, on the other side, opened; of the output what stands right of what opening pushed.
-#[cycle(inst_inst_all_inst_arr_inst_l_inst_r_inst_rule_on_side)]
+#[cycle(inst_l_inst_r)]
 fn inst_all(
     q: &[u32],
     work: &mut [u32],

@@ -148,7 +148,7 @@ fn sub_inst(
 }
 
 // The type a is a subtype of b.
-#[cycle(sub_all_sub_arr_sub_rule_subtype)]
+#[cycle(subtype_and_rules)]
 pub fn subtype(q: &[u32], work: &mut [u32], h: Here, st: State, g: Span, a: usize, b: usize) -> Step
     requires { JudgePre q.now work.old st g (sub_ask a b) }
     ensures { Judged h q.now work.old work.new st g (sub_ask a b) result }
@@ -167,7 +167,7 @@ pub fn subtype(q: &[u32], work: &mut [u32], h: Here, st: State, g: Span, a: usiz
 }
 
 // The rule in the first arm that is there; 15 where there is none.
-#[cycle(sub_all_sub_arr_sub_rule_subtype)]
+#[cycle(subtype_and_rules)]
 fn sub_rule(q: &[u32], work: &mut [u32], h: Here, st: State, g: Span, a: usize, b: usize) -> Step
     requires { RulePre q.now work.old st g (sub_ask a b) }
     ensures { Fires h q.now work.old work.new st g (sub_ask a b) result }
@@ -196,7 +196,7 @@ fn sub_rule(q: &[u32], work: &mut [u32], h: Here, st: State, g: Span, a: usize, 
 }
 
 // SubArr: the left halves exchanged, then the right halves, with no context applied between them.
-#[cycle(sub_all_sub_arr_sub_rule_subtype)]
+#[cycle(subtype_and_rules)]
 fn sub_arr(q: &[u32], work: &mut [u32], h: Here, st: State, g: Span, a: usize, b: usize) -> Step
     requires { ArmPre q.now work.old st g a b arm.Arr }
     ensures { Fires h q.now work.old work.new st g (sub_ask a b) result }
@@ -226,7 +226,7 @@ fn sub_arr(q: &[u32], work: &mut [u32], h: Here, st: State, g: Span, a: usize, b
 }
 
 // SubAllR (26), SubAllL (27): the Forall on side s opened, against the other type; of the output what stands right of what opening pushed.
-#[cycle(sub_all_sub_arr_sub_rule_subtype)]
+#[cycle(subtype_and_rules)]
 fn sub_all(
     q: &[u32],
     work: &mut [u32],

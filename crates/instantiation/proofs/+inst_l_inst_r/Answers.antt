@@ -12,8 +12,8 @@ use Rattle.instantiation.proofs.Arrow.{Halved, FirstHalf, Between, arr_held, arr
 use Rattle.rules.specs.Sides.{side}
 use Rattle.instantiation.proofs.Solving.{side_held}
 use Rattle.instantiation.proofs.Choosing.{choose_form, choose_solve}
-use Rattle.instantiation.proofs.+inst_inst_all_inst_arr_inst_l_inst_r_inst_rule_on_side.Goals.{inst_arr-After-part-o, inst_arr-In-Done, inst_arr-In-Done-apply_ctx_type}
-use Rattle.instantiation.proofs.+inst_inst_all_inst_arr_inst_l_inst_r_inst_rule_on_side.Goals as goal
+use Rattle.instantiation.proofs.+inst_l_inst_r.Goals.{inst_arr-After-part-o, inst_arr-In-Done, inst_arr-In-Done-apply_ctx_type}
+use Rattle.instantiation.proofs.+inst_l_inst_r.Goals as goal
 
 -- ## What `inst` needs.
 

@@ -1,7 +1,7 @@
 -- What falls from call to call of the cycle of inst_l and inst_r: five times the budget left, and one more for each step on the way to a
 -- judgement.
 use Prim.Native.Nat.{◌+◌, ◌*◌}
-use Rattle.instantiation.proofs.+inst_inst_all_inst_arr_inst_l_inst_r_inst_rule_on_side.Given as goal
+use Rattle.instantiation.proofs.+inst_l_inst_r.Given as goal
 
 abbrev pub decreases-inst : goal.decreases-inst
 decreases-inst l = 5 * l.st.left

@@ -1,6 +1,6 @@
 -- What falls from call to call of the cycle of subtype: three times the budget left, and one more for each step on the way to a judgement.
 use Prim.Native.Nat.{◌+◌, ◌*◌}
-use Rattle.subtyping.proofs.+sub_all_sub_arr_sub_rule_subtype.Given as goal
+use Rattle.subtyping.proofs.+subtype_and_rules.Given as goal
 
 abbrev pub decreases-sub_all : goal.decreases-sub_all
 decreases-sub_all l = 3 * l.st.left + 1

@@ -11,8 +11,8 @@ use Rattle.subtyping.proofs.Arrow.{Halved, Lefts, Between, arr_left, arr_right, 
 use Rattle.subtyping.proofs.Rules.{both_held, arm_pre, refl_fires, none_fires}
 use Rattle.judging.proofs.Judgements.{may_enter}
 use Rattle.judging.proofs.Whole.{whole_spent, whole_rule, whole_less, whole_leave, whole_left}
-use Rattle.subtyping.proofs.+sub_all_sub_arr_sub_rule_subtype.Goals.{sub_arr-After-right_of-b2, sub_arr-In-Done, sub_arr-In-On}
-use Rattle.subtyping.proofs.+sub_all_sub_arr_sub_rule_subtype.Goals as goal
+use Rattle.subtyping.proofs.+subtype_and_rules.Goals.{sub_arr-After-right_of-b2, sub_arr-In-Done, sub_arr-In-On}
+use Rattle.subtyping.proofs.+subtype_and_rules.Goals as goal
 
 -- ## What `sub_all` needs.
 

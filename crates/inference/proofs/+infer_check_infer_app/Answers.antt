@@ -38,8 +38,8 @@ use Rattle.expressions.specs.Forms.{TAbsOf}
 use Rattle.inference.proofs.InferOne.{TAbsOpened, TAbsInferred, TAbsApplied, tabs_space, tabs_apply, tabs_spent, tabs_pre, tabs_done, tabs_asks}
 use Rattle.definition.specs.Syntax.{tapp}
 use Rattle.inference.proofs.InferOne.{TAppInferred, tapp_two, tapp_end, tapp_done, tapp_asks}
-use Rattle.inference.proofs.+app_arr_app_etvar_app_rule_check_chk_all_chk_lam_chk_rule_chk_sub_inf_rule_infer_infer_abs_infer_ann_infer_app_infer_application_infer_binop_infer_if_infer_let_infer_tabs_infer_tapp.Goals.{infer_binop-then-infers-2, infer_binop-else-infers-2, chk_rule-in_default-via-then-rule-lt17, chk_rule-in_default-via-else-rule-lt17+else-rule-lt19, infer_binop-then-infers, infer_binop-else-infers, infer_ann-After-ann_of-p, chk_sub-In-Done, chk_sub-Start, infer_abs-After-abs_of-p, infer_abs-After-g1-1, infer_application-After-app_of-p, infer_application-In-Done, infer_application-In-Done-apply_ctx_type, infer_binop-After-binop_of-p, infer_binop-After-operator-infers, infer_binop-In-Done, infer_binop-Joined-infers, infer_binop-Joined-infers-2, infer_if-After-if_of-p, infer_if-In-Done, infer_if-In-Done-x, infer_if-In-Done-y, infer_let-After-g2-1, infer_let-After-let_of-p, infer_let-In-Done, infer_tabs-After-push-o, infer_tabs-After-tabs_of-p, infer_tabs-In-Done, infer_tabs-In-Done-apply_ctx_type, infer_tapp-After-tapp_of-p, infer_tapp-In-Done}
-use Rattle.inference.proofs.+app_arr_app_etvar_app_rule_check_chk_all_chk_lam_chk_rule_chk_sub_inf_rule_infer_infer_abs_infer_ann_infer_app_infer_application_infer_binop_infer_if_infer_let_infer_tabs_infer_tapp.Goals as goal
+use Rattle.inference.proofs.+infer_check_infer_app.Goals.{infer_binop-then-infers-2, infer_binop-else-infers-2, chk_rule-in_default-via-then-rule-lt17, chk_rule-in_default-via-else-rule-lt17+else-rule-lt19, infer_binop-then-infers, infer_binop-else-infers, infer_ann-After-ann_of-p, chk_sub-In-Done, chk_sub-Start, infer_abs-After-abs_of-p, infer_abs-After-g1-1, infer_application-After-app_of-p, infer_application-In-Done, infer_application-In-Done-apply_ctx_type, infer_binop-After-binop_of-p, infer_binop-After-operator-infers, infer_binop-In-Done, infer_binop-Joined-infers, infer_binop-Joined-infers-2, infer_if-After-if_of-p, infer_if-In-Done, infer_if-In-Done-x, infer_if-In-Done-y, infer_let-After-g2-1, infer_let-After-let_of-p, infer_let-In-Done, infer_tabs-After-push-o, infer_tabs-After-tabs_of-p, infer_tabs-In-Done, infer_tabs-In-Done-apply_ctx_type, infer_tapp-After-tapp_of-p, infer_tapp-In-Done}
+use Rattle.inference.proofs.+infer_check_infer_app.Goals as goal
 
 -- ## `app_arr`: InfAppArr.
 

@@ -1,7 +1,7 @@
 -- What falls from call to call of the cycle of infer, check and infer_app: three times the budget left, and one more for each step from a
 -- judgement to its rule (2) and the rule's own function (1).
 use Prim.Native.Nat.{◌+◌, ◌*◌}
-use Rattle.inference.proofs.+app_arr_app_etvar_app_rule_check_chk_all_chk_lam_chk_rule_chk_sub_inf_rule_infer_infer_abs_infer_ann_infer_app_infer_application_infer_binop_infer_if_infer_let_infer_tabs_infer_tapp.Given as goal
+use Rattle.inference.proofs.+infer_check_infer_app.Given as goal
 
 abbrev pub decreases-app_arr : goal.decreases-app_arr
 decreases-app_arr l = 3 * l.st.left + 1
