@@ -1,7 +1,7 @@
 /* Sporeflask for C: both exported functions, the layout of a question and of its reply, names for their words, sizes.
    docs/FORMAT.md says the same at length, with examples.
 
-   Link with target/staticlib/libhost.a (`rt staticlib host`; x86-64).
+   Link with target/staticlib/libhost.a (tests/host/build; x86-64).
 
    Calls are independent of each other: nothing is allocated, nothing is kept from one call to the next, and there is no
    state outside the slices and the stack. So threads may call at the same time, each with slices of its own (a question

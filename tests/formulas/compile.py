@@ -3,7 +3,7 @@
 
 usage: compile.py [--strict] FORMULAS          the verdict is what the file claims: 'claimed accepted' or 'claimed refused'
        compile.py --ask [--strict] FORMULAS    the verdict is the checker's: 'accepted', or 'refused' and the code, by the desk
-                                               program (after `rt check desk`); exit status 1 where one is not as claimed
+                                               program (after `rt ci`); exit status 1 where one is not as claimed
                                                ('claimed refused' is: refused with a type error, 11 to 17)
 With --strict the questions are in strict mode.
 

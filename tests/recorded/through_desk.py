@@ -1,5 +1,5 @@
 #!/usr/bin/env python3
-"""through_desk.py ANSWERS..: the recorded answers that the desk's sizes do not change, through the desk program (after `rt check desk`)."""
+"""through_desk.py ANSWERS..: the recorded answers that the desk's sizes do not change, through the desk program (after `rt ci`)."""
 import pathlib
 import sys
 

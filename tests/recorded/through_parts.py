@@ -1,6 +1,6 @@
 #!/usr/bin/env python3
 """through_parts.py ANSWERS..: the recorded answers that the desk's sizes do not change, section by section, and the tree node by node,
-through the parts program (after `rt check parts`)."""
+through the parts program (after `rt ci`)."""
 import pathlib
 import sys
 

@@ -1,5 +1,5 @@
 #!/usr/bin/env python3
-"""through_replay.py ANSWERS..: recorded answers through the replay program, in one run, at their own sizes (after `rt check replay`)."""
+"""through_replay.py ANSWERS..: recorded answers through the replay program, in one run, at their own sizes (after `rt ci`)."""
 import pathlib
 import struct
 import subprocess

@@ -1,4 +1,4 @@
-"""The desk program as a function, after `rt check desk`: a question's words in, its two lines out; or the parts program's seven."""
+"""The desk program as a function, after `rt ci`: a question's words in, its two lines out; or the parts program's seven."""
 import concurrent.futures
 import os
 import struct

@@ -1,11 +1,11 @@
-"""Where the programs are that `rt check` makes, and how x86-64 programs are built and run on this machine (x86.sh)."""
+"""Where the programs are that `rt ci` and `rt run` make, and how x86-64 programs are built and run on this machine (x86.sh)."""
 import functools
 import pathlib
 import subprocess
 import sys
 
 SHARED = pathlib.Path(__file__).resolve().parent
-PROGRAMS = SHARED.parent.parent / "target/bin"
+CRATES = SHARED.parent.parent / "crates"
 
 
 @functools.cache
@@ -17,8 +17,8 @@ def x86(name):
 
 @functools.cache
 def program(name):
-    """The command that runs a program of crates.txt, once `rt check` has made it."""
-    file = PROGRAMS / name
+    """The command that runs a program of crates.txt, once `rt ci`, or `rt run` in its folder, has made it."""
+    file = CRATES / name / "out" / name
     if not file.is_file():
-        sys.exit(f"no {name} program in target/bin: `rt check {name}` makes it")
+        sys.exit(f"no {name} program in crates/{name}/out: `rt run </dev/null` in crates/{name} makes it")
     return [*x86("on_kit"), str(file)]

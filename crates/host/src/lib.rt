@@ -1,4 +1,4 @@
-// The functions for C: the telephone host's, in bytes, and one with every parameter free, in words.
+// What the functions for C do: the telephone host's, in bytes, and one with every parameter free, in words. Crate host_c exports them.
 #![tactic(auto)]
 
 ghost use Rattle.std.specs.Prelude.{◌≡◌, ◌-◌, ◌/◌, ◌≤◌, min};
@@ -19,6 +19,7 @@ fn room_for(n: usize) -> usize
 }
 
 // The telephone host's function, in what it lends itself.
+#[tactic(auto, using(crate::proofs::Replying::short))]
 fn answer_in(
     question: &[u8],
     reply: &mut [u8],
@@ -40,8 +41,7 @@ fn answer_in(
 }
 
 // The telephone host's function: bytes in, bytes out, with the desk program's sizes.
-#[unsafe(no_mangle)]
-pub extern "C" fn sporeflask_answer(question: &[u8], reply: &mut [u8]) -> u32
+pub fn sporeflask_answer(question: &[u8], reply: &mut [u8]) -> u32
     ensures { Answered question.now reply.old reply.new result }
 {
     let mut words = [0u32; definition::QUESTION_MOST];
@@ -51,8 +51,7 @@ pub extern "C" fn sporeflask_answer(question: &[u8], reply: &mut [u8]) -> u32
 }
 
 // The library's entry with every parameter free; the four numbers go to the caller's array.
-#[unsafe(no_mangle)]
-pub extern "C" fn sporeflask_check(
+pub fn sporeflask_check(
     question: &[u32],
     budget: u32,
     work: &mut [u32],

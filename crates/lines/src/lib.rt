@@ -19,8 +19,8 @@ fn number(out: &mut [u8], at: usize, x: u32, end: u8) -> usize
 {
     let mut digits = [0u8; 20];
     let n = digits_of(x, &mut digits);
-    bytes::copy(&digits[..n], &mut out[at..]);
     let next = at + n;
+    out[at..next].copy_from_slice(&digits[..n]);
     out[next] = end;
     next + 1
 }

@@ -6,9 +6,10 @@ ghost use Rattle.std.specs.Prelude.{◌≡◌, ◌+◌, ◌*◌, ◌≤◌, leng
 ghost use Rattle.parts.specs.Shown.{PartsSaid, SectionLines, PartLine, RulesOf, RuleLine};
 ghost use Rattle.sized.specs.Sized.{Lent};
 
-use libc::{STDIN_FILENO, STDOUT_FILENO};
 use replies::Reply;
 use sections::{Section, Walked};
+use std::io;
+use std::io::{Read, Write};
 
 // As many nodes as a report has room for: each has eight words at least.
 const NODES: usize = sized::REPORT / 8;
@@ -82,20 +83,38 @@ fn answer(
 }
 
 // Reads, answers and prints, in what main lends: bytes for one word more than a question may have, so that a longer one is seen.
-fn parts(bytes: &mut [u8], words: &mut [u32], work: &mut [u32], report: &mut [u32], out: &mut [u8])
+fn parts<R: Read, W: Write>(
+    from: &mut R,
+    to: &mut W,
+    bytes: &mut [u8],
+    words: &mut [u32],
+    work: &mut [u32],
+    report: &mut [u32],
+    out: &mut [u8],
+) -> io::Result<()>
     requires { (8196 ≤ length bytes.old) × (Lent words.old work.old report.old) × (length out.old ≡ 230963) }
 {
-    let n = io::read_full(STDIN_FILENO, bytes);
+    let n = input::read_full(from, bytes)?;
     let z = answer(&bytes[0..n], words, work, report, out);
-    io::write_all(STDOUT_FILENO, &out[0..z]);
+    to.write_all(&out[0..z])
 }
 
-fn main() {
+fn main(rt: HostRuntime) -> io::Result<()> {
+    let mut from = rt.stdin();
+    let mut to = rt.stdout();
     let mut bytes = [0u8; 4 * definition::QUESTION_MOST + 4];
     let mut words = [0u32; definition::QUESTION_MOST];
     let mut work = [0u32; sized::WORK];
     let mut report = [0u32; sized::REPORT];
     // 11 bytes for each number, were each of the five sections as long as a report and its nodes as short as can be, and 7
     let mut out = [0u8; 11 * (4 + 5 * sized::REPORT + NODES) + 7];
-    parts(&mut bytes, &mut words, &mut work, &mut report, &mut out);
+    parts(
+        &mut from,
+        &mut to,
+        &mut bytes,
+        &mut words,
+        &mut work,
+        &mut report,
+        &mut out,
+    )
 }

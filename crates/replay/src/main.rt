@@ -5,8 +5,9 @@
 ghost use Rattle.std.specs.Prelude.{◌≡◌, ◌*◌, ◌≤◌, min, length};
 ghost use Rattle.replay.specs.Replayed.{LentByMain, Framed, FrameFits, FrameAnswered, Replayed};
 
-use libc::{STDIN_FILENO, STDOUT_FILENO};
 use replies::Reply;
+use std::io;
+use std::io::{Read, Write};
 
 // A frame may ask for this many words of question, and of report.
 const FRAME_MOST: usize = 4096;
@@ -75,57 +76,80 @@ fn frame_at_start(bytes: &[u8], lent: usize) -> Frame
     }
 }
 
-// Fills the first n bytes from standard input: false where it ends before.
-fn fill(bytes: &mut [u8], n: usize) -> bool
+// Fills the first n bytes from the input: false where it ends before.
+fn fill<R: Read>(from: &mut R, bytes: &mut [u8], n: usize) -> io::Result<bool>
     requires { n ≤ length bytes.old }
 {
-    io::read_full(STDIN_FILENO, &mut bytes[0..n]) == n
+    let got = input::read_full(from, &mut bytes[0..n])?;
+    Ok(got == n)
 }
 
 // One frame: false where the input ends, or a frame asks for more than is lent.
-fn turn(
+fn turn<R: Read, W: Write>(
+    from: &mut R,
+    to: &mut W,
     bytes: &mut [u8],
     words: &mut [u32],
     work: &mut [u32],
     report: &mut [u32],
     out: &mut [u8],
-) -> bool
+) -> io::Result<bool>
     requires { LentByMain bytes.old words.old report.old out.old }
 {
-    if !fill(bytes, 16) {
-        return false;
+    if !fill(from, bytes, 16)? {
+        return Ok(false);
     }
     let f = frame_at_start(bytes, work.len());
     if FRAME_MOST < f.count {
-        return false;
+        return Ok(false);
     }
     if FRAME_MOST < f.report {
-        return false;
+        return Ok(false);
     }
-    if !fill(bytes, 4 * f.count) {
-        return false;
+    if !fill(from, bytes, 4 * f.count)? {
+        return Ok(false);
     }
     let z = answer(f, bytes, words, work, report, out);
-    io::write_all(STDOUT_FILENO, &out[0..z])
+    to.write_all(&out[0..z])?;
+    Ok(true)
 }
 
 // Frame after frame. A proved loop has to end, and nothing says that the input does: the turns are counted down from a number that no run
 // uses up.
-fn all(bytes: &mut [u8], words: &mut [u32], work: &mut [u32], report: &mut [u32], out: &mut [u8])
+fn all<R: Read, W: Write>(
+    from: &mut R,
+    to: &mut W,
+    bytes: &mut [u8],
+    words: &mut [u32],
+    work: &mut [u32],
+    report: &mut [u32],
+    out: &mut [u8],
+) -> io::Result<()>
     requires { LentByMain bytes.old words.old report.old out.old }
 {
     let mut turns = u64::MAX;
-    while turns > 0 && turn(bytes, words, work, report, out) {
+    while turns > 0 && turn(from, to, bytes, words, work, report, out)? {
         turns -= 1;
     }
+    Ok(())
 }
 
-fn main() {
+fn main(rt: HostRuntime) -> io::Result<()> {
+    let mut from = rt.stdin();
+    let mut to = rt.stdout();
     let mut bytes = [0u8; 4 * FRAME_MOST];
     let mut words = [0u32; FRAME_MOST];
     // what the largest budget needs, and some more
     let mut work = [0u32; 266496];
     let mut report = [0u32; FRAME_MOST];
     let mut out = [0u8; 16 + 4 * FRAME_MOST];
-    all(&mut bytes, &mut words, &mut work, &mut report, &mut out);
+    all(
+        &mut from,
+        &mut to,
+        &mut bytes,
+        &mut words,
+        &mut work,
+        &mut report,
+        &mut out,
+    )
 }

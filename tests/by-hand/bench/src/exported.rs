@@ -1,4 +1,4 @@
-// The exported function, from the archive that `rt staticlib host` writes. Its signature stands here alone.
+// The exported function, from the archive that `tests/host/build` writes. Its signature stands here alone.
 
 extern "C" {
     fn sporeflask_check(
