@@ -7,11 +7,10 @@ use Prim.Native.Nat.{ℕ, ◌-◌, ◌≤◌, ◌<◌}
 use native.Mathlib.Omega.{arith}
 use native.Mathlib.Nat.{lt_of_not-le, le_refl}
 use native.Mathlib.Decide.{dec_le}
-use mathlib.Core.Bool.{true, false}
 use mathlib.Core.List.{List}
 use lib.Dec.{leb}
 use mir.Facts.{yes_leb, no_leb}
-use Rattle.definition.specs.Syntax.{pick, Judgement}
+use Rattle.definition.specs.Syntax.{Judgement}
 use Rattle.definition.specs.Question.{Question}
 use Rattle.definition.specs.Run.{Out, done, fail, stop, M, and_then, ◌>>=◌, give, refuse, charge}
 use Rattle.definition.specs.Rules.{Result, Here, judge}

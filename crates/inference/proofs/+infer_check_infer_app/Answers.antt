@@ -1,44 +1,23 @@
--- The cycle meets its contracts.
+-- The cycle of infer, check and infer_app meets its contracts.
 use borrow.Author.Rules.{rules}
 use Prim.Native.Nat.{ℕ}
-use Rattle.inference.proofs.Applying.{arr_held, arr_done, arr_asks}
-use Rattle.inference.proofs.Premise.{unless, may_ask}
-use Rattle.inference.proofs.Applying.{etvar_held, etvar_part, etvar_done, etvar_asks}
-use Rattle.inference.proofs.Choosing.{app_held, app_arm, app_refuse}
+use Rattle.inference.proofs.Applying.{arr_held, arr_done, arr_asks, etvar_held, etvar_part, etvar_done, etvar_asks}
+use Rattle.inference.proofs.Premise.{unless, may_ask, space_back, RuleAsked}
+use Rattle.inference.proofs.Choosing.{app_held, app_arm, app_refuse, choices, check_within, check_held, check_arm, infer_within, infer_last}
 use Rattle.judging.proofs.Judgements.{may_enter}
 use Rattle.judging.proofs.Whole.{whole_spent, whole_rule, whole_less, whole_leave, whole_left}
 use native.Mathlib.Omega.{arith}
-use Rattle.inference.proofs.Checking.{all_pre, all_done, all_asks}
-use Rattle.inference.proofs.Premise.{may_ask, unless, space_back}
+use Rattle.inference.proofs.Checking.{all_pre, all_done, all_asks, lam_shaped, lam_held, lam_two, lam_end, lam_space, lam_done, lam_asks, Sub, SubInferred, sub_asks, sub_two, sub_else₂, sub_done}
 use Rattle.judging.proofs.Chain.{as_long}
-use Rattle.inference.proofs.Checking.{lam_shaped, lam_held, lam_two, lam_end, lam_space, lam_done, lam_asks}
-use Rattle.inference.proofs.Choosing.{choices, check_within, check_held, check_arm}
 use mathlib.Core.Path.{refl}
-use Rattle.inference.proofs.Checking.{Sub, SubInferred, sub_asks, sub_two, sub_else₂, sub_done}
-use Rattle.inference.proofs.Choosing.{infer_within, infer_last}
-use Rattle.expressions.specs.Forms.{AbsOf}
+use Rattle.expressions.specs.Forms.{AbsOf, TypedOf, AppOf, BinOpOf, IfOf, LetOf, TAbsOf}
 use Rattle.rules.proofs.Standing.{infer_shaped}
-use Rattle.inference.proofs.InferOne.{LamOpened, abs_lam, abs_done, abs_asks}
-use Rattle.inference.proofs.Premise.{RuleAsked, may_ask, unless, space_back}
-use Rattle.definition.specs.Syntax.{ann}
-use Rattle.expressions.specs.Forms.{TypedOf}
-use Rattle.inference.proofs.InferOne.{ann_done, ann_asks}
-use Rattle.inference.proofs.Premise.{RuleAsked, unless, may_ask}
-use Rattle.expressions.specs.Forms.{AppOf}
-use Rattle.inference.proofs.InferTwo.{Function, Headed, app_apply, app_spent, app_done, app_asks, app_asks₂}
+use Rattle.inference.proofs.InferOne.{LamOpened, abs_lam, abs_done, abs_asks, ann_done, ann_asks, TAbsOpened, TAbsInferred, TAbsApplied, tabs_space, tabs_apply, tabs_spent, tabs_pre, tabs_done, tabs_asks, TAppInferred, tapp_two, tapp_end, tapp_done, tapp_asks}
+use Rattle.definition.specs.Syntax.{ann, pick, tapp}
+use Rattle.inference.proofs.InferTwo.{Function, Headed, app_apply, app_spent, app_done, app_asks, app_asks₂, Operator, Sided, Aimed, op_done, op_asks, op_asks₂, Value, Bound, let_space, let_done, let_asks, let_asks₂}
 use mathlib.Core.Logic.{inl, inr}
-use Rattle.definition.specs.Syntax.{pick}
-use Rattle.expressions.specs.Forms.{BinOpOf}
-use Rattle.inference.proofs.InferTwo.{Operator, Sided, LeftBack, Aimed, op_done, op_asks, op_asks₂}
-use Rattle.expressions.specs.Forms.{IfOf}
 use Rattle.inference.proofs.InferIf.{ConditionChecked, Inferred, Both, asked, if_asks, if_asks₂, if_asks₃, if_two, if_else₄, if_done}
-use Rattle.expressions.specs.Forms.{LetOf}
-use Rattle.inference.proofs.InferTwo.{Value, Bound, let_space, let_done, let_asks, let_asks₂}
-use Rattle.expressions.specs.Forms.{TAbsOf}
-use Rattle.inference.proofs.InferOne.{TAbsOpened, TAbsInferred, TAbsApplied, tabs_space, tabs_apply, tabs_spent, tabs_pre, tabs_done, tabs_asks}
-use Rattle.definition.specs.Syntax.{tapp}
-use Rattle.inference.proofs.InferOne.{TAppInferred, tapp_two, tapp_end, tapp_done, tapp_asks}
-use Rattle.inference.proofs.+infer_check_infer_app.Goals.{infer_binop-then-infers-2, infer_binop-else-infers-2, chk_rule-in_default-via-then-rule-lt17, chk_rule-in_default-via-else-rule-lt17+else-rule-lt19, infer_binop-then-infers, infer_binop-else-infers, infer_ann-After-ann_of-p, chk_sub-In-Done, chk_sub-Start, infer_abs-After-abs_of-p, infer_abs-After-g1-1, infer_application-After-app_of-p, infer_application-In-Done, infer_application-In-Done-apply_ctx_type, infer_binop-After-binop_of-p, infer_binop-After-operator-infers, infer_binop-In-Done, infer_binop-Joined-infers, infer_binop-Joined-infers-2, infer_if-After-if_of-p, infer_if-In-Done, infer_if-In-Done-x, infer_if-In-Done-y, infer_let-After-g2-1, infer_let-After-let_of-p, infer_let-In-Done, infer_tabs-After-push-o, infer_tabs-After-tabs_of-p, infer_tabs-In-Done, infer_tabs-In-Done-apply_ctx_type, infer_tapp-After-tapp_of-p, infer_tapp-In-Done}
+use Rattle.inference.proofs.+infer_check_infer_app.Goals.{infer_binop-then-infers-2, infer_binop-else-infers-2, chk_rule-in_default-via-then-rule-lt17, chk_rule-in_default-via-else-rule-lt17+else-rule-lt19, infer_binop-then-infers, infer_binop-else-infers, infer_ann-After-ann_of-p, chk_sub-In-Done, chk_sub-Start, infer_abs-After-abs_of-p, infer_abs-After-g1-1, infer_application-After-app_of-p, infer_application-In-Done, infer_application-In-Done-apply_ctx_type, infer_binop-After-binop_of-p, infer_binop-After-operator-infers, infer_binop-Joined-infers, infer_binop-Joined-infers-2, infer_if-After-if_of-p, infer_if-In-Done, infer_if-In-Done-x, infer_if-In-Done-y, infer_let-After-g2-1, infer_let-After-let_of-p, infer_let-In-Done, infer_tabs-After-push-o, infer_tabs-After-tabs_of-p, infer_tabs-In-Done, infer_tabs-In-Done-apply_ctx_type, infer_tapp-After-tapp_of-p, infer_tapp-In-Done}
 use Rattle.inference.proofs.+infer_check_infer_app.Goals as goal
 
 -- ## `app_arr`: InfAppArr.
@@ -525,21 +504,7 @@ module _ (t : ℕ) where
     | infer_binop-else-infers w ↦ rw (w.if-infers.false, w.work-is, w.z-is) w.check-z.ensures
   ]
 
-  -- what is known past it, and where the right side is asked
-  abbrev infer_binop_left : infer_binop-In-Done t → LeftBack t
-  unfolding pick
-  infer_binop_left c = record {
-    on = record { on = record { m = c.args.h; q = _; w = _; s = _; g = _; ex = _; rule = c.requires.rule; falls = c.decreases; p = _; parts = c.binop_of-p.ensures }; o = _; by = c.operator-infers.ensures };
-    w = c.if-infers.work;
-    z = c.if-infers.z;
-    r = c.in-Done.r;
-    call = elim c.if-infers.branch [
-      | infer_binop-then-infers w ↦ rw (w.if-infers.true, w.work-is, w.z-is) w.infer-z.ensures
-      | infer_binop-else-infers w ↦ rw (w.if-infers.false, w.work-is, w.z-is) w.check-z.ensures
-    ];
-    done = c.in-Done.is;
-  }
-
+  -- what is known past it, where the right side is asked
   abbrev infer_binop_aimed : infer_binop-Joined-infers-2 t → Aimed t
   unfolding pick
   infer_binop_aimed c = record {

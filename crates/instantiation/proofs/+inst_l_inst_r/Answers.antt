@@ -1,4 +1,4 @@
--- The cycle meets its contracts.
+-- The cycle of inst_l and inst_r meets its contracts.
 use native.Mathlib.Omega.{arith}
 use borrow.Author.Rules.{rules}
 use Rattle.judging.proofs.Judgements.{may_enter}

@@ -1,12 +1,8 @@
 -- `copy` meets its contract.
-use borrow.Author.Rules.{rules}
-use native.Mathlib.Omega.{arith}
 use mathlib.Core.Path.{◌≡◌}
 use Prim.Native.Nat.{ℕ, ◌≤◌, ◌<◌, ◌-◌, ◌+◌}
 use lib.ListN.{get_or}
 use Rattle.layout.specs.Words.{Keep}
-use Rattle.layout.proofs.Words.{keep_trans, keep_set}
-use Rattle.layout.proofs.Words.{copy_more}
 use Rattle.layout.proofs.copy.Given as goal
 
 abbrev pub invariant-loop-i : goal.invariant-loop-i

@@ -1,7 +1,6 @@
 -- `mono` meets its contract.
 use mathlib.Core.Path.{ap}
 use lib.Dec.{leb}
-use borrow.Author.Rules.{rules}
 use Rattle.layout.specs.Sizes.{MONO}
 use Rattle.layout.proofs.mono.Goals as goal
 

@@ -1,6 +1,5 @@
 -- `put2` meets its contract.
 use Rattle.layout.proofs.Words.{put_two}
-use borrow.Author.Rules.{rules}
 use Rattle.layout.proofs.put2.Goals as goal
 
 pub returns : goal.returns

@@ -1,6 +1,5 @@
 -- `put4` meets its contract.
 use Rattle.layout.proofs.Words.{put_four}
-use borrow.Author.Rules.{rules}
 use Rattle.layout.proofs.put4.Goals as goal
 
 pub returns : goal.returns

@@ -2,7 +2,6 @@
 use native.Mathlib.Omega.{arith}
 use Rattle.layout.specs.Names.{key}
 use Rattle.layout.proofs.Denotes.{kind_small}
-use borrow.Author.Rules.{rules}
 use Rattle.layout.proofs.put_entry.Goals as goal
 
 pub put4-requires : goal.put4-requires

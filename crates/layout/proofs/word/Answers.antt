@@ -1,7 +1,6 @@
 -- `word` meets its contract.
 use native.Mathlib.Omega.{arith}
 use mathlib.Core.Path.{refl}
-use borrow.Author.Rules.{rules}
 use Rattle.layout.proofs.word.Goals as goal
 
 pub returns : goal.returns

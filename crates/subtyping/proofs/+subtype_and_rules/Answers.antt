@@ -1,4 +1,4 @@
--- The cycle meets its contracts.
+-- The cycle of subtype and its rules meets its contracts.
 use mathlib.Core.Path.{◌∙◌}
 use native.Mathlib.Omega.{arith}
 use borrow.Author.Rules.{rules}
