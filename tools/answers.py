@@ -9,7 +9,8 @@ NAME = re.compile(r"^ *(?:unfoldable |abbrev )*(?:pub )?(?:(?:record|data) ([^\s
 
 def proof_files(folder):
     """The proof files of functions below crates/ or one crate."""
-    return sorted(file for file in folder.glob("**/proofs/**/*.antt") if file.name in NAMES or file.parent.name == "Proof")
+    return sorted(file for file in folder.glob("**/proofs/**/*.antt")
+                  if (file.name in NAMES or file.parent.name == "Proof") and "out" not in file.relative_to(folder).parts)
 
 
 def declared(text):
