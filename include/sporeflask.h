@@ -181,7 +181,7 @@ enum sporeflask_code {
     SPOREFLASK_TYPE_APPLICATION_ERROR = 13, /* what was given a type is no Forall: its type; none */
     SPOREFLASK_OCCURS_CHECK = 14,           /* at: the name; the type that has it; none */
     SPOREFLASK_SUBTYPING_ERROR = 15,        /* the left type, which is there; the right one, which is wanted */
-                                            /* 16: no question draws it (never-16, docs/THEOREMS.md) */
+                                            /* 16: no question draws it (never_16, docs/THEOREMS.md) */
     SPOREFLASK_PARAMETER_MISMATCH = 17      /* strict mode: the parameter's type as written; the one wanted. Only
                                                the names that Forall binds may differ */
 };

@@ -4,7 +4,7 @@ from paper import PARTS, parts as read, section
 OPERATORS = [None, "+", "-", "*", "/", "&&", "||", "==", "!=", "<", "<=", ">", ">="]
 FORMS = {16: "{0}", 17: "{0} {1}", 18: "λ{0}:{1}. {2}", 19: "{0}[{1}]", 20: "Λ{0}. {1}", 21: "({0} : {1})", 24: "let {0} = {1} in {2}",
          25: "if {0} then {1} else {2}", 26: "{1} {operator} {2}"}
-# no question draws 16: never-16, docs/THEOREMS.md
+# no question draws 16: never_16, docs/THEOREMS.md
 CODES = {1: "BadBudget", 2: "ShortWork", 3: "BadLength", 4: "BadShape", 5: "ReservedName", 6: "Budget", 7: "NoRoom",
          11: "UnboundVariable", 12: "ApplicationTypeError", 13: "TypeApplicationError", 14: "OccursCheck", 15: "SubtypingError",
          17: "ParameterMismatch"}

@@ -22,7 +22,7 @@ static const char *const NAMES[] = {
     [SPOREFLASK_TYPE_APPLICATION_ERROR] = "TypeApplicationError",
     [SPOREFLASK_OCCURS_CHECK] = "OccursCheck",
     [SPOREFLASK_SUBTYPING_ERROR] = "SubtypingError",
-    /* 16 has no name: no question draws it (never-16, docs/THEOREMS.md) */
+    /* 16 has no name: no question draws it (never_16, docs/THEOREMS.md) */
     [SPOREFLASK_PARAMETER_MISMATCH] = "ParameterMismatch",
 };
 

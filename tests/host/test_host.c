@@ -303,7 +303,7 @@ static void numbers_of_kinds_and_codes(void) {
                                    SPOREFLASK_BUDGET,    SPOREFLASK_NO_ROOM,       SPOREFLASK_SHORT_REPLY};
     static const int ERRORS[] = {SPOREFLASK_UNBOUND_VARIABLE,       SPOREFLASK_APPLICATION_TYPE_ERROR,
                                  SPOREFLASK_TYPE_APPLICATION_ERROR, SPOREFLASK_OCCURS_CHECK,
-                                 SPOREFLASK_SUBTYPING_ERROR}; /* no question draws 16: never-16, docs/THEOREMS.md */
+                                 SPOREFLASK_SUBTYPING_ERROR}; /* no question draws 16: never_16, docs/THEOREMS.md */
     static const int SIZES[][2] = {
         {SPOREFLASK_MOST_WORDS, 2048},   {SPOREFLASK_MOST_BUDGET, 8192},        {SPOREFLASK_DESK_BUDGET, 384},
         {SPOREFLASK_DESK_WORK, 16384},   {SPOREFLASK_DESK_REPORT, 4096},        {SPOREFLASK_REPLY_BYTES, 16},

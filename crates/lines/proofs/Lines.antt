@@ -8,7 +8,7 @@ use native.Mathlib.Decide.{dec_le}
 use native.Mathlib.Numerals.{add-one, sub-one}
 use borrow.Author.Tests.{lt-ltb, le-ltb}
 use lib.ListN.{length, get_or, set, take, drop, length-append, drop_of_length-le}
-use lib.Seq.{length-take-le, take-suc-set, take_at, drop-cons}
+use lib.Seq.{length-take-le, take-length, take-suc-set, take_at, drop-cons}
 use Rattle.io.specs.Digits.{last_digits, IsDigitCount}
 use Rattle.lines.specs.Lines.{decimal_to, decimal, line_of, lines_compute, PutBytes}
 
@@ -71,14 +71,19 @@ pub wrote_byte : {s s' : List ℕ} {p z : ℕ} (bs : List ℕ) (b : ℕ) → Put
 wrote_byte {s' = s'} {z = z} bs b w h = wrote_then bs (b ∷ []) w (record { is = rw (add-one z) (take-suc-set s' z b h); next = omega arith })
 
 -- the first n bytes of t copied to the place p, then the byte b
-pub wrote_number : {s ys ds : List ℕ} {n : ℕ} (p b : ℕ) (t rest : List ℕ) → p ≤ length s → n ≡ length (take n t) → take n t ≡ ds
-    → ys ≡ take n t → p + n < length (take p s ++ (ys ++ rest))
+pub wrote_number : {s ys ds : List ℕ} {n : ℕ} (p b : ℕ) (t mid rest : List ℕ) → p ≤ length s → n ≡ length (take n t) → take n t ≡ ds
+    → ys ≡ take (length (take n t)) (take n t) ++ mid → p + n < length (take p s ++ (ys ++ rest))
     → PutBytes s (set (take p s ++ (ys ++ rest)) (p + n) b) p (ds ++ (b ∷ [])) (p + n + 1)
-wrote_number {s} {ys} {ds} {n} p b t rest h l d e i =
+wrote_number {s} {ys} {ds} {n} p b t mid rest h l d e i =
     let k : length ds ≡ n = rw d at (sym l) in
     let j : length (take p s ++ ds) ≡ p + n = length-append (take p s) ds ∙ omega (arith, length-take-le p s h) in
-    let c : take p s ++ (ys ++ rest) ≡ (take p s ++ ds) ++ rest = rw (e, d) (sym (append_assoc (take p s) ds rest)) in
-    wrote_byte ds b (record { is = ap (take (p + n)) c ∙ take_at (take p s ++ ds) rest (p + n) j; next = omega arith }) i
+    let c : take p s ++ (ys ++ rest) ≡ (take p s ++ ds) ++ (mid ++ rest) =
+    rw (e, take-length, d, append_assoc ds mid rest) (sym (append_assoc (take p s) ds (mid ++ rest))) in
+    wrote_byte ds b (record { is = ap (take (p + n)) c ∙ take_at (take p s ++ ds) (mid ++ rest) (p + n) j; next = omega arith }) i
+
+-- all that was copied
+pub all_copied : {ys u : List ℕ} → ys ≡ u → ys ≡ take (length u) u ++ []
+all_copied {u = u} e = e ∙ sym (append-nil u) ∙ ap (◌++ []) (sym (take-length u))
 
 -- ## Lines, written from the number i on
 

@@ -167,7 +167,7 @@ pub fn section_words(types: [Option<&Type>; 2]) -> Vec<u32> {
     out
 }
 
-/// What InstantiationError would have in the place of a code. No question draws it (never-16, crates/promises/proofs/Main.antt): one that did
+/// What InstantiationError would have in the place of a code. No question draws it (never_16, crates/promises/proofs/Main.antt): one that did
 /// would differ here from every reply.
 pub const UNDRAWN: u32 = u32::MAX;
 

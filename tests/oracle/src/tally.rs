@@ -7,7 +7,7 @@ use crate::decode::{report, rules};
 use crate::reading::read;
 use crate::report::RULES;
 
-/// Codes that a reply can have. 8 is the telephone host's; no question draws 16 (never-16, crates/promises/proofs/Main.antt).
+/// Codes that a reply can have. 8 is the telephone host's; no question draws 16 (never_16, crates/promises/proofs/Main.antt).
 pub const CODES: [u32; 14] = [0, 1, 2, 3, 4, 5, 6, 7, 11, 12, 13, 14, 15, 17];
 
 /// Counts in plain and in strict mode.
@@ -142,7 +142,7 @@ impl fmt::Display for Tally {
         for (code, count) in &self.codes {
             pair(f, &format!("code {code}"), *count)?;
         }
-        writeln!(f, "no question draws 16 (never-16); code 8 is the telephone host's")?;
+        writeln!(f, "no question draws 16 (never_16); code 8 is the telephone host's")?;
         for (index, name) in RULES.iter().enumerate() {
             let rule = index as u32 + 1;
             let count = self.rules.get(&rule).copied().unwrap_or_default();
