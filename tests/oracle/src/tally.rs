@@ -142,7 +142,7 @@ impl fmt::Display for Tally {
         for (code, count) in &self.codes {
             pair(f, &format!("code {code}"), *count)?;
         }
-        writeln!(f, "no question draws 16 (never_16); code 8 is the telephone host's")?;
+        writeln!(f, "no question draws 16 (never-16); code 8 is the telephone host's")?;
         for (index, name) in RULES.iter().enumerate() {
             let rule = index as u32 + 1;
             let count = self.rules.get(&rule).copied().unwrap_or_default();
