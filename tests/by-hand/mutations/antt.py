@@ -3,7 +3,9 @@ import re
 from typing import NamedTuple
 
 TOKEN = re.compile(r"--[^\n]*|[(){},;]|λ|\.\w*|[^\s(){},;]+")
-OPERATORS = {"∷", "++", "&&", "||", "+", "-", "*", "/", "%", "▹", "&", "orElse", "×", "→"}
+OPERATORS = {"∷", "++", "&&", "||", "+", "-", "*", "/", "%", "▹", "&", "or_else", "×", "→"}
+# a variable with its fields behind it, one token; before the dot of another module's name stands a capital
+FIELDS = re.compile(r"[a-z][\w']*(?:\.\w+)+")
 HEADS = {"use", "pub", "unfoldable", "abbrev", "infixl", "infixr", "unfolding", "mutual"}
 PAIRS = {"(": ")", "{": "}"}
 
@@ -153,7 +155,7 @@ def statements(found):
 
 
 def names_in(found):
-    return tuple(token for token in found if re.fullmatch(r"[^\W\d_][^\W_]*[′″₁-₉]*|\w+[′″]*", token.text))
+    return tuple(token for token in found if re.fullmatch(r"[^\W\d_][^\W_]*['₁-₉]*|\w+'*", token.text))
 
 
 def expression(found):
@@ -191,10 +193,19 @@ def call(found):
             kids.append(bracket(token, inside, found[j]))
             i = j + 1
             continue
-        kind = "part" if token.text.startswith(".") else "number" if token.text[0].isdigit() else "name"
-        kids.append(Node(kind, token.start, token.end))
+        kids.append(word(token))
         i += 1
     return kids[0] if len(kids) == 1 else Node("call", found[0].start, found[-1].end, tuple(kids))
+
+
+def word(token):
+    """A name, a number or a projection; a variable with its fields as a call."""
+    if not FIELDS.fullmatch(token.text):
+        kind = "part" if token.text.startswith(".") else "number" if token.text[0].isdigit() else "name"
+        return Node(kind, token.start, token.end)
+    kids = [Node("part" if each[0][0] == "." else "name", token.start + each.start(), token.start + each.end())
+            for each in re.finditer(r"\.?[^.]+", token.text)]
+    return Node("call", token.start, token.end, tuple(kids))
 
 
 def bracket(first, inside, last):

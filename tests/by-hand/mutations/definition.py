@@ -31,11 +31,11 @@ import tempfile
 import time
 
 from definition_edits import KINDS, edits
-from run import table
+from run import CHECK, forget, table
 
 ROOT = pathlib.Path(__file__).resolve().parents[3]
 sys.path[:0] = [str(ROOT / "tests"), str(ROOT / "tests/recorded")]
-from computed import HEAD, theorem  # noqa: E402
+from computed import HEAD, OUT, theorem  # noqa: E402
 from shared.recorded import ANSWERS, GUARDS, LETTERS, QUESTIONS, of  # noqa: E402
 from shared.script import number, ours, text  # noqa: E402
 
@@ -98,12 +98,11 @@ def recorded():
 
 # ---- Asking the prover
 
-def ask(command, folder, limit):
-    """Its status (None past the limit), its text, the seconds."""
+def ask(folder, limit):
+    """The status of `rt check` in a crate's folder (None past the limit), its text, the seconds."""
     start, log = time.time(), folder / "said"
     with log.open("w") as out:
-        child = subprocess.Popen(["nice", "-n", "5", *command], cwd=folder, stdout=out, stderr=subprocess.STDOUT, start_new_session=True,
-                                 env=dict(os.environ, RT_JOBS="1"))
+        child = subprocess.Popen(CHECK, cwd=folder, stdout=out, stderr=subprocess.STDOUT, start_new_session=True)
         while child.poll() is None:
             try:
                 child.wait(timeout=0.5)
@@ -115,13 +114,16 @@ def ask(command, folder, limit):
     return child.returncode, log.read_text(), time.time() - start
 
 
-def held(pid):
-    """What a process holds in memory, in KB."""
-    try:
-        found = re.search(r"VmRSS:\s*(\d+)", pathlib.Path(f"/proc/{pid}/status").read_text())
-    except OSError:
-        found = None
-    return int(found[1]) if found else 0
+def held(session):
+    """What the processes of a session hold in memory, in KB: rt is one, the prover another."""
+    pages = 0
+    for file in pathlib.Path("/proc").glob("[0-9]*/stat"):
+        try:
+            fields = file.read_text().rpartition(")")[2].split()
+        except OSError:
+            continue
+        pages += int(fields[21]) if int(fields[3]) == session else 0
+    return pages * os.sysconf("SC_PAGE_SIZE") // 1024
 
 
 class Judges:
@@ -130,8 +132,8 @@ class Judges:
     def __init__(self, scratch, texts, parts):
         self.texts, self.parts = texts, [list(part) for part in parts]
         self.by_name = {f"answer{line.number}": line for part in parts for line in part}
-        self.computed, self.laws, self.kept = scratch / "definition", scratch / "repository", scratch / "kept"
-        self.prepare()
+        self.computed, self.laws = scratch / "computed/crates/definition", scratch / "laws/crates"
+        self.prepare(scratch)
         self.cases = (ROOT / "crates/laws/proofs/Cases.antt").read_text()
         self.reached = self.used_by("Reply")
         for module in texts:
@@ -139,28 +141,29 @@ class Judges:
         self.stages = [0, "cases", *range(1, len(parts)), "laws"]
         self.limits = {stage: 20 * self.baseline(stage) for stage in self.stages}
 
-    def prepare(self):
-        for folder in (self.computed, self.laws, self.kept):
-            shutil.rmtree(folder, ignore_errors=True)
+    def prepare(self, scratch):
+        shutil.rmtree(scratch / "computed", ignore_errors=True)
+        shutil.rmtree(scratch / "laws", ignore_errors=True)
         for part in ("src", "specs"):
             shutil.copytree(ROOT / "crates/definition" / part, self.computed / part)
         for crate in ("definition", "laws", "alike"):
-            shutil.copytree(ROOT / "crates" / crate, self.laws / "crates" / crate)
-        (self.laws / "crates.txt").write_text("definition:\nlaws: definition\nalike: definition laws\n")
+            shutil.copytree(ROOT / "crates" / crate, self.laws / crate, ignore=OUT)
+        (scratch / "computed/crates.txt").write_text("definition:\n")
+        (scratch / "laws/crates.txt").write_text("definition:\nlaws: definition\nalike: definition laws\n")
         (self.computed / "proofs").mkdir()
-        self.kept.mkdir()
         (self.computed / "proofs/Lib.antt").write_text("pub mod Computed\n")
 
     def used_by(self, module):
-        used = re.findall(r"·specs\.specs\.(\w+)\.\{", self.texts[module])
+        used = set(re.findall(r"^use Rattle\.definition\.specs\.(\w+)", self.texts[module], re.MULTILINE))
         return {module}.union(*map(self.used_by, used))
 
     def put(self, module, text):
-        for folder in (self.computed, self.laws / "crates/definition"):
+        for folder in (self.computed, self.laws / "definition"):
             (folder / "specs" / f"{module}.antt").write_text(text)
 
     def baseline(self, stage):
-        """The seconds that a judge takes without an edit, which must pass."""
+        """The seconds that a judge takes from nothing without an edit, which must pass."""
+        forget(self.computed)
         status, text, seconds = self.ask(stage, 600)
         if status != 0:
             sys.exit(f"{text[-3000:]}\nnot proved without an edit")
@@ -169,12 +172,25 @@ class Judges:
     def ask(self, stage, limit):
         """The prover on one stage. What it kept of earlier runs it takes in the first alone; that is asked again with the second."""
         if stage == "laws":
-            return ask(["rt", "check", "laws", "alike"], self.laws, limit)
+            return self.ask_laws(limit)
+        if stage != 0:
+            forget(self.computed)
         lines = [] if stage == "cases" else self.parts[stage] + (self.parts[0] if stage == 1 else [])
         text = HEAD.format(first=1, last=len(lines)) + "".join(theorem(line.number, line.line) for line in lines) if lines else self.cases
         # what is computed stands in the definition's own crate
-        (self.computed / "proofs/Computed.antt").write_text(text.replace("Rattle·definition.specs", "Rattle·definition·specs.specs"))
-        return ask(["rt", "check", str(self.computed), *(["--incremental", str(self.kept)] if stage == 0 else [])], self.computed, limit)
+        (self.computed / "proofs/Computed.antt").write_text(text)
+        return ask(self.computed, limit)
+
+    def ask_laws(self, limit):
+        """Crate laws, and where it is proved, alike."""
+        seconds = 0
+        for crate in ("laws", "alike"):
+            forget(self.laws / crate)
+            status, text, more = ask(self.laws / crate, limit - seconds)
+            seconds += more
+            if status != 0:
+                break
+        return status, text, seconds
 
     def judge(self, edit):
         """The verdict, and what decided."""

@@ -8,10 +8,9 @@ TESTS = {"leb": ["ltb", "eqb"], "ltb": ["leb", "eqb"], "eqb": ["leb", "ltb"], "&
 SIGNS = {"+": "-", "-": "+", "*": "+", "/": "%", "%": "/"}
 TRUTH = {"true": "false", "false": "true"}
 # what an edit may bring in from a library that the file uses
-LIBRARY = {"lib.Dec": ["leb", "ltb", "eqb"], "mathlib.Core.Bool": ["true", "false", "_&&_", "_||_"],
-           "Prim.Native.Nat": ["_+_", "_-_", "_*_", "_/_", "_%_"]}
+LIBRARY = {"Rattle.std.specs.Prelude": ["leb", "ltb", "eqb", "true", "false", "◌&&◌", "◌||◌", "◌+◌", "◌-◌", "◌*◌", "◌/◌", "◌%◌"]}
 # an exchange of their arguments is the same text in another order
-SYMMETRIC = {"eqb", "min", "sameName"}
+SYMMETRIC = {"eqb", "min", "same_name"}
 # of a type with more constructors, only the next one takes a constructor's place
 MANY = 4
 
@@ -33,7 +32,7 @@ class Edit(NamedTuple):
 
 def family(name):
     """Bound names that by custom stand for things of one type."""
-    base = re.sub(r"[′″₀-₉]", "", name)
+    base = re.sub(r"['₀-₉]", "", name)
     if re.fullmatch(r"[Α-Ω]", base):
         return "context"
     if re.fullmatch(r"[A-Z]", base):
@@ -197,9 +196,9 @@ class Editor:
         rows = one.kind == two.kind == "group" and len(one.kids) == len(two.kids) == 2
         drop, swap = ((one.start, two.start, ""),), self.swap(one, two)
         different = self.show(one) != self.show(two)
-        if sign == "orElse":
+        if sign == "or_else":
             yield "arms", drop
-            if after == "orElse":
+            if after == "or_else":
                 yield "arms", swap
         elif sign in ("∷", "&"):
             table = one.kind == "group" and len(one.kids) == 2
@@ -246,7 +245,7 @@ def opened(text, module, files):
         other = path.split(".")[-1]
         more = LIBRARY.get(path, [])
         if other in files:
-            more = [name for name in files[other].types if name not in known.clash and not re.search(r"-compute", name)]
+            more = [name for name in files[other].types if name not in known.clash and not re.search(r"_computes?$", name)]
         more = [name for name in more if name not in names]
         text = text.replace("use " + path + ".{", "use " + path + ".{" + "".join(name + ", " for name in more))
     return text

@@ -46,8 +46,9 @@ def tables(sources):
                 calls[owner, name] = types_of(parts)
         for owner, inside in re.findall(r"\bstruct (\w+) \{([^}]*)\}", text):
             structs[owner] = dict(re.findall(r"(\w+): ([^,]+),", inside))
-        for owner, name in re.findall(r"^use (\w+)::([a-z]\w*);", text, re.MULTILINE):
-            calls[crate, name] = calls.get((owner, name), [])
+        for owner, names in re.findall(r"^use (\w+)::([^;]*);", text, re.MULTILINE):
+            for name in re.findall(r"\b[a-z]\w*", names):
+                calls[crate, name] = calls.get((owner, name), [])
     return Tables(calls, structs)
 
 

@@ -5,13 +5,13 @@ usage: run.py --count N --seed S [--crate NAME] [--automatic] [--scratch DIR] [-
        run.py --list                    counts all edits, by crate and kind
 
 The edits are made in a copy of the repository (DIR, which is new or was made here, and is kept; else a temporary one). Each is asked of
-`rt dev`, which looks only at what the edit changes; an edit that is accepted is asked again with nothing kept. The sample takes one edit of
+`rt check`, which looks only at what the edit changes; an edit that is accepted is asked again with nothing kept. The sample takes one edit of
 every kind from every crate in turn (of one kind from a slow crate), so that S fixes the order and N how far it goes, M at most. A refusal
 counts as
   compiler  the edit does not parse, type-check or borrow-check
   fact      something that was to be proved is not, or is another statement than the one that the proof proves
-  both      that, and the obligations are others than those that the proof names: a fact may fail only because a name means another
-  shape     the obligations are others, and nothing else is said: it tells nothing about the contract
+  both      that, and the goals are others than those that the proof names: a fact may fail only because a name means another
+  shape     the goals are others, and nothing else is said: it tells nothing about the contract
 With --automatic only functions without a proof by hand are edited: there the prover looks for one anew, and nothing is refused for shape.
 """
 import argparse
@@ -35,21 +35,23 @@ sys.path[:0] = [str(ROOT / "tests"), str(ROOT / "tools")]
 from answers import needs  # noqa: E402
 from shared.script import number, ours  # noqa: E402
 
+CHECK = ["nice", "-n", "5", "rt", "check", "--jobs", "1"]
 # what a folder has that was made here
 MADE_HERE = ".made-by-run.py"
-# each crate's obligations without an edit
+# each crate's goals without an edit
 KNOWN = {}
 # crates in which an edit costs the most time
 SLOW = {"inference", "instantiation", "subtyping", "entry", "reading", "report", "sized", "host", "desk"}
+CYCLE = re.compile(r"^#\[cycle\((\w+)\)\]\n(?:(?:#|//).*\n)*(?:pub )?fn (\w+)", re.MULTILINE)
 VERDICTS = ["compiler", "fact", "both", "shape", "accepted", "none"]
 # an error that only passes on another one
-PASSED_ON = re.compile(r"was not admitted \(")
-# an error about which obligations there are, not about whether one holds
+PASSED_ON = re.compile(r"error: \d+ declarations? that depends? on |was not admitted")
+# an error about which goals and names there are, not about whether one holds
 SHAPE = re.compile(r"that can be named from here|has no field|components but its type has|needs a function \(or path\) type to bind"
                    r"|is not a (field|function|record)|has no component|too (many|few) arguments"
                    r"|this λ is checked against|this λ has \d+ binders")
-# a theorem: an answer in it has no name of its own, so that one at another obligation's place fails like one that does not hold
-THEOREM = re.compile(r"error: `(?:[^`]*-)?(?:spec|closed)`: ")
+# an answer that fails: its function's folder below proofs/, and its goal
+ANSWER = re.compile(r"\./proofs/(\S+)/Answers\.antt:\d+:\d+: error: `([^`]+)`")
 
 
 def sample(found, count, seed):
@@ -71,19 +73,21 @@ def sample(found, count, seed):
 
 
 def by_hand():
-    """The functions that have a proof by hand, with their crates: a folder of proofs/ is named after one, or after all of a cycle."""
+    """The functions that have a proof by hand, with their crates: a folder of proofs/ is named after one, or, behind a +, after a cycle."""
     folders = (ROOT / "crates").glob("*/proofs/**/")
-    return {(folder.relative_to(ROOT / "crates").parts[0], name) for folder in folders for name in folder.name.split("+")}
+    named = {(folder.relative_to(ROOT / "crates").parts[0], folder.name.removeprefix("+")) for folder in folders}
+    sources = [(file.relative_to(ROOT / "crates").parts[0], file.read_text()) for file in (ROOT / "crates").glob("*/src/**/*.rt")]
+    cycles = [(crate, *found) for crate, text in sources for found in CYCLE.findall(text)]
+    return named | {(crate, name) for crate, cycle, name in cycles if (crate, cycle) in named}
 
 
 # ---- One edit
 
 def ask(scratch, crate, limit):
-    """What `rt dev` says: its status (None past the limit), its text, the seconds."""
+    """What `rt check` says: its status (None past the limit), its text, the seconds."""
     start = time.time()
-    command = ["nice", "-n", "5", "rt", "dev", crate]
-    child = subprocess.Popen(command, cwd=scratch, stdout=subprocess.PIPE, stderr=subprocess.STDOUT, text=True, start_new_session=True,
-                             env=dict(os.environ, RT_JOBS="1"))
+    child = subprocess.Popen(CHECK, cwd=scratch / "crates" / crate, stdout=subprocess.PIPE, stderr=subprocess.STDOUT, text=True,
+                             start_new_session=True)
     try:
         text, status = child.communicate(timeout=limit)[0], child.returncode
     except subprocess.TimeoutExpired:
@@ -92,8 +96,8 @@ def ask(scratch, crate, limit):
     return status, text, time.time() - start
 
 
-def verdict(status, text, others):
-    """One of VERDICTS, and the line that decides it; `others` says whether the obligations are others."""
+def verdict(status, text, known, now):
+    """One of VERDICTS, and the line that decides it; `known` are the goals without the edit, `now` gives those with it."""
     if status == 0 and "\nlogic=proved" in text:
         return "accepted", ""
     lines = text.splitlines()
@@ -105,18 +109,28 @@ def verdict(status, text, others):
     said = [line for line in lines if re.search(r"\.antt:\d+:\d+: error: |: it is not proved that ", line) and not PASSED_ON.search(line)]
     if not said:
         return "none", (lines or [""])[-1]
-    moved = others() if any(THEOREM.search(line) for line in said) else False
-    shape = [line for line in said if SHAPE.search(line) or moved and THEOREM.search(line)]
+    changed = now() if any(ANSWER.search(line) and not SHAPE.search(line) for line in said) else known
+    shape = [line for line in said if SHAPE.search(line) or namesakes(line, changed) != namesakes(line, known)]
     facts = [line for line in said if line not in shape]
     return ("both" if shape else "fact", facts[0]) if facts else ("shape", shape[0])
 
 
-def obligations(scratch, crate):
-    """The needs of each function, by name."""
-    run = subprocess.run(["nice", "-n", "5", "rt", "goals", crate], cwd=scratch, stdout=subprocess.DEVNULL, stderr=subprocess.DEVNULL)
-    if run.returncode not in (0, 1):  # 1: they are written, and not proved
-        sys.exit(f"`rt goals {crate}` fails")
-    return {file: needs(file) for file in (scratch / "target/goals" / crate).rglob("Lts*.antt")}
+def namesakes(line, found):
+    """The goals whose names differ from a failed answer's at most by the number behind: it counts them, so with one more a name means another."""
+    answer = ANSWER.search(line)
+    names = found.get(answer[1], []) if answer else []
+    return [name for name in names if re.sub(r"-\d+$", "", name) == re.sub(r"-\d+$", "", answer[2])]
+
+
+def goals(scratch, crate):
+    """The names of each function's goals, by its folder below proofs/."""
+    folder = scratch / "goals"
+    shutil.rmtree(folder, ignore_errors=True)
+    run = subprocess.run([*CHECK, "--generated", str(folder)], cwd=scratch / "crates" / crate, stdout=subprocess.DEVNULL, stderr=subprocess.DEVNULL)
+    if run.returncode not in (0, 1, 3):  # 1 and 3: they are written, and not proved
+        sys.exit(f"`rt check --generated` fails in crates/{crate}")
+    proofs = folder / f"Rattle-{crate}-proofs"
+    return {str(file.parent.relative_to(proofs)): needs(file) for file in proofs.rglob("Goals.antt")}
 
 
 def try_edit(scratch, mutant, limit):
@@ -124,20 +138,27 @@ def try_edit(scratch, mutant, limit):
     path = scratch / mutant.path
     before = path.read_text()
     if mutant.crate not in KNOWN:
-        KNOWN[mutant.crate] = obligations(scratch, mutant.crate)
-    others = lambda: obligations(scratch, mutant.crate) != KNOWN[mutant.crate]
+        KNOWN[mutant.crate] = goals(scratch, mutant.crate)
+    known, now = KNOWN[mutant.crate], lambda: goals(scratch, mutant.crate)
     path.write_text("\n".join(edited(before, mutant)) + "\n")
     try:
         status, text, seconds = ask(scratch, mutant.crate, limit)
-        found, reason = verdict(status, text, others)
+        found, reason = verdict(status, text, known, now)
         if found == "accepted":
-            shutil.rmtree(scratch / "target/inc" / mutant.crate)
+            forget(scratch / "crates" / mutant.crate)
             status, text, more = ask(scratch, mutant.crate, limit)
-            found, reason = verdict(status, text, others)
+            found, reason = verdict(status, text, known, now)
             seconds += more
     finally:
         path.write_text(before)
     return found, reason, seconds, text
+
+
+def forget(crate):
+    """Drops what checks in a crate's folder kept. An empty folder stays, so that rt takes none from another copy."""
+    kept = crate / "out/incremental"
+    shutil.rmtree(kept, ignore_errors=True)
+    kept.mkdir(parents=True)
 
 
 def edited(text, mutant):
@@ -154,21 +175,22 @@ def diff(mutant):
 # ---- All
 
 def prepare(scratch):
-    """A copy of the repository in which rt may write, with the proofs that target/ keeps."""
+    """A copy of the crates in which rt may write; what rt keeps in their out/ stays from run to run."""
     scratch.mkdir(parents=True, exist_ok=True)
     (scratch / MADE_HERE).touch()
-    if not (scratch / "crates.txt").exists():
-        shutil.copytree(ROOT, scratch, symlinks=True, dirs_exist_ok=True, ignore=shutil.ignore_patterns(".git"))
-    shutil.rmtree(scratch / "crates")
-    shutil.copytree(ROOT / "crates", scratch / "crates")
+    for part in (scratch / "crates").glob("*/*"):
+        if part.name != "out":
+            shutil.rmtree(part) if part.is_dir() else part.unlink()
+    shutil.copytree(ROOT / "crates", scratch / "crates", symlinks=True, dirs_exist_ok=True, ignore=shutil.ignore_patterns("out"))
+    shutil.copy(ROOT / "crates.txt", scratch)
     (scratch / "mutants").mkdir(exist_ok=True)
 
 
 def run(scratch, chosen, limit, minutes):
     """The edits whose turn comes in time, each with its verdict. Without an edit everything must be proved."""
-    crates = sorted({mutant.crate for mutant in chosen})
-    if subprocess.run(["nice", "-n", "5", "rt", "check", *crates], cwd=scratch).returncode != 0:
-        sys.exit("not proved without an edit")
+    for crate in sorted({mutant.crate for mutant in chosen}):
+        if subprocess.run(CHECK, cwd=scratch / "crates" / crate).returncode != 0:
+            sys.exit("not proved without an edit")
     results, start = [], time.time()
     for number, mutant in enumerate(chosen, 1):
         if time.time() - start > 60 * minutes:
