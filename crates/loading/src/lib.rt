@@ -22,13 +22,10 @@ fn rest_of(work: &[u32], kind: usize, p: usize) -> Rest
 {
     let first = p + 2;
     match kind {
-        32 | 35 => {
-            let next = past(work, first);
-            Rest {
-                ty: first,
-                next: next,
-            }
-        }
+        32 | 35 => Rest {
+            ty: first,
+            next: past(work, first),
+        },
         _ => Rest {
             ty: INT,
             next: first,
@@ -47,10 +44,8 @@ fn load_from(q: &[u32], work: &mut [u32], p: usize, at: usize, n: usize)
     let kind = word(q, p);
     let name = word(q, p + 1);
     let r = rest_of(work, kind, p);
-    let ty = r.ty;
-    let next = r.next;
-    put4(work, at, kind, name, ty, 0);
-    load_from(q, work, next, at + 4, n - 1);
+    put4(work, at, kind, name, r.ty, 0);
+    load_from(q, work, r.next, at + 4, n - 1);
 }
 
 // The context that stands from place p of the question on, n entries, as a run at top.
@@ -58,11 +53,9 @@ pub fn load_context(q: &[u32], work: &mut [u32], st: State, p: usize, n: usize) 
     requires { Loading q.now work.old st p n }
     ensures { Loaded q.now work.old work.new st p n result }
 {
-    let top = st.top;
-    let end = st.raise(4 * n);
-    load_from(q, work, p, top, n);
+    load_from(q, work, p, st.top, n);
     Opened {
-        st: end,
-        g: Span { at: top, n: n },
+        st: st.raise(4 * n),
+        g: Span { at: st.top, n },
     }
 }

@@ -1,6 +1,6 @@
 -- `is_mono` meets its contract.
 use Rattle.types.proofs.Reading.{code_in_work, mono_written, mono_made}
-use Rattle.types.proofs.is_mono.Goals as goal
+use Rattle.types.proofs.Store.is_mono.Goals as goal
 
 pub mono-requires-else-r-lt-BASE : goal.mono-requires-else-r-lt-BASE
 mono-requires-else-r-lt-BASE c = search code_in_work

@@ -1,7 +1,7 @@
 -- `name_of` meets its contract.
 use native.Mathlib.Omega.{arith}
 use Rattle.types.proofs.Reading.{name_in_question, name_in_work, named_written, named_made}
-use Rattle.types.proofs.name_of.Goals as goal
+use Rattle.types.proofs.Store.name_of.Goals as goal
 
 pub bounds-q-i : goal.bounds-q-i
 bounds-q-i c = name_in_question c.requires.held c.if-r-lt-BASE.true c.requires.low

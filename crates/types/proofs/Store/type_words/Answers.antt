@@ -1,7 +1,7 @@
 -- `type_words` meets its contract.
 use native.Mathlib.Omega.{arith}
 use Rattle.types.proofs.Reading.{record_in_work, end_in_question, end_in_work, words_written, words_made}
-use Rattle.types.proofs.type_words.Goals as goal
+use Rattle.types.proofs.Store.type_words.Goals as goal
 
 pub slice_bounds-result-count : goal.slice_bounds-result-count
 slice_bounds-result-count c = (end_in_question c.requires c.if-r-lt-BASE.true c.past-end.ensures).0

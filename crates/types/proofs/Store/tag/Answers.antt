@@ -1,6 +1,6 @@
 -- `tag` meets its contract.
 use Rattle.types.proofs.Reading.{code_in_question, code_in_work, tagged_written, tagged_made}
-use Rattle.types.proofs.tag.Goals as goal
+use Rattle.types.proofs.Store.tag.Goals as goal
 
 pub word-requires : goal.word-requires
 word-requires c = search code_in_question

@@ -1,7 +1,7 @@
 -- `right_of` meets its contract.
 use native.Mathlib.Omega.{arith}
 use Rattle.types.proofs.Reading.{four_in_work, left_in_table, right_written, right_made}
-use Rattle.types.proofs.right_of.Goals as goal
+use Rattle.types.proofs.Store.right_of.Goals as goal
 
 pub past-requires : goal.past-requires
 past-requires c = search left_in_table

@@ -1,7 +1,7 @@
 -- `type_length` meets its contract.
 use native.Mathlib.Omega.{arith}
 use Rattle.types.proofs.Reading.{four_in_work, end_in_question, length_written, length_leaf, length_made}
-use Rattle.types.proofs.type_length.Goals as goal
+use Rattle.types.proofs.Store.type_length.Goals as goal
 
 pub overflow_sub-result : goal.overflow_sub-result
 overflow_sub-result c = (end_in_question c.requires c.if-r-lt-BASE.true c.past-end.ensures).0
