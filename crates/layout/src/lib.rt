@@ -6,7 +6,7 @@ ghost use Rattle.definition.specs.Contexts.{kind_of, name_of};
 ghost use Rattle.layout.specs.Sizes.{ENDS, MONO, CAP};
 ghost use Rattle.layout.specs.Monotypes.{with_mono, number_at, mono_at, past};
 ghost use Rattle.layout.specs.Names.{key};
-ghost use Rattle.layout.specs.Kinds.{kind_number};
+ghost use Rattle.layout.specs.Kinds.{kind_number, OfNumber};
 ghost use Rattle.layout.specs.Words.{Put2, Put4, Copied};
 ghost use Rattle.layout.specs.Denotes.{SmallEntry, PutEntry};
 ghost use Rattle.layout.specs.States.{started, raised, lowered, Draws, Charges};
@@ -55,6 +55,29 @@ impl Kind {
         ensures { result ≡ kind_number self }
     {
         self as usize
+    }
+}
+
+// A word that is no kind's number.
+#[derive(Clone, Copy)]
+pub struct NoKind;
+
+impl TryFrom<u32> for Kind {
+    type Error = NoKind;
+
+    ghost try_from_gives = { OfNumber };
+
+    fn try_from(number: u32) -> Result<Kind, NoKind> {
+        match number {
+            1 => Ok(Kind::Infer),
+            2 => Ok(Kind::Check),
+            3 => Ok(Kind::InferApp),
+            4 => Ok(Kind::Subtype),
+            5 => Ok(Kind::InstL),
+            6 => Ok(Kind::InstR),
+            7 => Ok(Kind::Resolve),
+            _ => Err(NoKind),
+        }
     }
 }
 

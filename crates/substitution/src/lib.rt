@@ -56,7 +56,11 @@ pub fn subst_type(
     ensures { Substed q.now work.old work.new st a by r result }
 {
     let paid = st.charge(1)?;
-    let store = Store { q, work, top: st.top };
+    let store = Store {
+        q,
+        work,
+        top: st.top,
+    };
     match store.form(r) {
         Form::Int | Form::Bool => Ok(Made { st: paid, ty: r }),
         Form::Var | Form::ETVar => Ok(Made {
@@ -74,7 +78,8 @@ pub fn subst_type(
             if b == a {
                 return Ok(Made { st: paid, ty: r });
             }
-            let body = subst_type(q, work, paid, a, by, store.body_of(r))?;
+            let body = store.body_of(r);
+            let body = subst_type(q, work, paid, a, by, body)?;
             Ok(forall_made(q, work, body.st, b, body.ty))
         }
     }
@@ -92,7 +97,11 @@ pub fn apply_ctx_type(
     ensures { Applied q.now work.old work.new st g r result }
 {
     let paid = st.charge(1)?;
-    let store = Store { q, work, top: st.top };
+    let store = Store {
+        q,
+        work,
+        top: st.top,
+    };
     match store.form(r) {
         Form::Int | Form::Bool | Form::Var => Ok(Made { st: paid, ty: r }),
         Form::ETVar => match contexts::lookup(work, g, Key::SETVar(store.name_of(r))) {
@@ -107,7 +116,8 @@ pub fn apply_ctx_type(
         }
         Form::Forall => {
             let a = store.name_of(r);
-            let body = apply_ctx_type(q, work, paid, g, store.body_of(r))?;
+            let body = store.body_of(r);
+            let body = apply_ctx_type(q, work, paid, g, body)?;
             Ok(forall_made(q, work, body.st, a, body.ty))
         }
     }

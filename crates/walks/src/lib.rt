@@ -8,7 +8,7 @@ ghost use Rattle.types.specs.Reading.{Held};
 ghost use Rattle.walks.specs.Walks.{Occurs};
 ghost use Rattle.walks.specs.Letters.{BothNamed, BothNames, letters_at, Comparing, Same};
 
-use layout::{TyVar, put2, word};
+use layout::{TyVar, put2};
 use types::{Form, Store};
 
 // Whether a occurs free in the type, as a Var or as an ETVar: what 000 asks of occurs_check, and of free_vars by `contains`.

@@ -34,7 +34,6 @@ returns c =
       long = long_as (node_parts c.node_at-n.ensures) (long_then (long_just (c.node_at-n.result.rule ∷ c.node_at-n.result.kids ∷
           c.node_at-n.result.place ∷ []) (omega arith)) (long_then c.length_after-input.ensures.long (long_then c.section_length-left.ensures
           (long_then c.section_length-right.ensures (long_then c.length_after-output.ensures.long c.section_length-result.ensures
-          c.sum-end.ensures) c.sum-types.ensures) c.sum-rest.ensures) c.sum-sections.ensures) c.sum-length.ensures);
-      output = rw (output_read
-          c.node_at-n.ensures) at c.length_after-output.ensures;
+          c.sum.ensures) c.sum-2.ensures) c.sum-types.ensures) c.sum-3.ensures) c.sum-length.ensures);
+      output = rw (output_read c.node_at-n.ensures) at c.length_after-output.ensures;
     }

@@ -6,8 +6,8 @@ use Rattle.report.proofs.tree_length.Given as goal
 
 abbrev pub invariant-loop-m : goal.invariant-loop-m
 invariant-loop-m l =
-    Summing l.q l.work l.top (OfNodes l.q l.work l.top l.low l.high) (OfNodes l.q l.work l.top l.low l.m) l.total × Measures l.q l.work
-    l.top l.last.g l.last
+    Summing l.store.q.now l.store.work.now l.store.top (OfNodes l.store.q.now l.store.work.now l.store.top l.low l.high) (OfNodes l.store.q.now l.store.work.now l.store.top l.low l.m) l.total × Measures l.store.q.now l.store.work.now
+    l.store.top l.last.g l.last
 
 abbrev pub decreases-loop-m : goal.decreases-loop-m
 decreases-loop-m l = l.m

@@ -9,7 +9,7 @@ use Rattle.report.proofs.Nodes.{nodes_room, nodes_first, nodes_none}
 use Rattle.report.proofs.write_tree.Goals as goal
 
 pub loop-m-init : goal.loop-m-init
-loop-m-init c = (put_first (writable_inner c.requires.0), stands_before (omega arith) c.requires.1)
+loop-m-init c = (put_first (λ ws x. x) (writable_inner c.requires.0), stands_before (omega arith) c.requires.1)
 
 pub overflow_sub-m : goal.overflow_sub-m
 overflow_sub-m c = search nodes_room
@@ -20,8 +20,8 @@ write_node-z-requires c = (writable_first (writable_as (nodes_first c.loop-m-tes
 pub loop-m-preserved : goal.loop-m-preserved
 loop-m-preserved c = search (put_next, nodes_first)
 
-pub overflow_sub-count : goal.overflow_sub-count
-overflow_sub-count c = omega (arith, (counted c.requires.0 (put_end (nodes_none c.loop-m-test.false) c.loop-m.invariant.0)).first)
+pub overflow_sub-next : goal.overflow_sub-next
+overflow_sub-next c = omega (arith, (counted c.requires.0 (put_end (nodes_none c.loop-m-test.false) c.loop-m.invariant.0)).first)
 
 pub put-requires : goal.put-requires
 put-requires c =

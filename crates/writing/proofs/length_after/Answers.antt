@@ -2,5 +2,5 @@
 use Rattle.writing.proofs.After.{same_span, measures_same}
 use Rattle.writing.proofs.length_after.Goals as goal
 
-pub returns-then-again : goal.returns-then-again
-returns-then-again c = search (measures_same, same_span)
+pub returns-then-eq : goal.returns-then-eq
+returns-then-eq c = measures_same (same_span c.eq.ensures c.if-eq.true) c.requires.1

@@ -1,9 +1,6 @@
 -- `is_mono` meets its contract.
-use Rattle.types.proofs.Reading.{code_in_work, mono_written, mono_made}
+use Rattle.types.proofs.Reading.{mono_written, mono_made}
 use Rattle.types.proofs.Store.is_mono.Goals as goal
-
-pub mono-requires-else-r-lt-BASE : goal.mono-requires-else-r-lt-BASE
-mono-requires-else-r-lt-BASE c = search code_in_work
 
 pub returns-then-r-lt-BASE : goal.returns-then-r-lt-BASE
 returns-then-r-lt-BASE c = search mono_written

@@ -1,16 +1,12 @@
 -- `name_of` meets its contract.
-use native.Mathlib.Omega.{arith}
 use Rattle.types.proofs.Reading.{name_in_question, name_in_work, named_written, named_made}
 use Rattle.types.proofs.Store.name_of.Goals as goal
 
-pub bounds-q-i : goal.bounds-q-i
-bounds-q-i c = name_in_question c.requires.held c.if-r-lt-BASE.true c.requires.low
+pub bounds-self-r : goal.bounds-self-r
+bounds-self-r c = name_in_question c.requires.held c.if-r-lt-BASE.true c.requires.low
 
-pub offset_bounds-work-i : goal.offset_bounds-work-i
-offset_bounds-work-i c = omega (arith, name_in_work c.requires.held c.if-r-lt-BASE.false c.requires.low)
-
-pub bounds-work-i : goal.bounds-work-i
-bounds-work-i c = name_in_work c.requires.held c.if-r-lt-BASE.false c.requires.low
+pub bounds-self-r-else-r-lt-BASE : goal.bounds-self-r-else-r-lt-BASE
+bounds-self-r-else-r-lt-BASE c = name_in_work c.requires.held c.if-r-lt-BASE.false c.requires.low
 
 pub returns-then-r-lt-BASE : goal.returns-then-r-lt-BASE
 returns-then-r-lt-BASE c = search named_written
