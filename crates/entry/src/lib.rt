@@ -145,7 +145,7 @@ fn finish<'a>(
 fn outside(mode: reading::Mode) -> Here
     ensures { OutsideOf mode result }
 {
-    let strict = mode == reading::Mode::Strict;
+    let strict = matches!(mode, reading::Mode::Strict);
     judging::outside(Mode {
         compares_parameter: strict,
         applies_branches: strict,
