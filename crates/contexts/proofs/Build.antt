@@ -104,12 +104,11 @@ put_last {w} {w₁} {w₂} {at} ps p x y = record { keep = rw end kp; stand = λ
         (subst (λ (i : ℕ). CtxAt q w₂ (at + 4 * length ps + 4) i (h.e ∷ [])) a one))
 
 -- one more of them
-pub put_more : {w w₁ w₂ : List ℕ} {at i p : ℕ} (ps : List program.Entry) (d : program.Entry) → i < length ps → p ≡ at + 4 * i
-    → Put w w₁ at (take i ps) → PutEntry w₁ w₂ p (get_or ps i d) → Put w w₂ at (take (i + 1) ps)
-put_more {w₁ = w₁} {w₂ = w₂} {at = at} {i = i} {p = p} ps d l e x y =
-    let n = length-take-le i ps (omega arith) in
-    let place : p ≡ at + 4 * length (take i ps) = omega arith in
-    rw (take_more ps i d l) (put_last (take i ps) _ x (subst (λ (j : ℕ). PutEntry w₁ w₂ j (get_or ps i d)) place y))
+pub put_more : {w w₁ w₂ : List ℕ} {at i : ℕ} (ps : List program.Entry) (d : program.Entry) → i < length ps → Put w w₁ at (take i ps)
+    → PutEntry w₁ w₂ (at + 4 * i) (get_or ps i d) → Put w w₂ at (take (i + 1) ps)
+put_more {w₁ = w₁} {w₂ = w₂} {at = at} {i = i} ps d l x y =
+    let n : i ≡ length (take i ps) = sym (length-take-le i ps (omega arith)) in
+    rw (take_more ps i d l) (put_last (take i ps) _ x (subst (λ (j : ℕ). PutEntry w₁ w₂ (at + 4 * j) (get_or ps i d)) n y))
 
 -- ## Filling the gap
 

@@ -9,7 +9,7 @@ ghost use Rattle.contexts.specs.Build.{Space, SmallEntries, Past, CopiedRight, S
 
 use layout::{Entry, Key, Span, State, TyVar, copy, put_entry, word};
 
-// The kind of a solved entry.
+// The kind of a solved entry, as a word says it.
 const SETVAR: usize = 35;
 
 // A context that was built at top, and the state past it.
@@ -20,17 +20,17 @@ pub struct Opened {
 }
 
 // The index of the earliest entry of that kind and name, or n.
-fn first(work: &[u32], at: usize, n: usize, kind: usize, name: usize) -> usize
-    requires { at + 4 * n ≤ length work.now }
-    ensures { First work.now at n kind name result }
+fn first(work: &[u32], g: Span, kind: usize, name: usize) -> usize
+    requires { g.at + 4 * g.n ≤ length work.now }
+    ensures { First work.now g.at g.n kind name result }
 {
-    for i in 0..n {
-        let k = word(work, at + 4 * i);
-        if k == kind && word(work, at + 4 * i + 1) == name {
+    for i in 0..g.n {
+        let p = g.at + 4 * i;
+        if word(work, p) == kind && word(work, p + 1) == name {
             return i;
         }
     }
-    n
+    g.n
 }
 
 // find and break3 at once: the index of the earliest entry with the key, or n. Left of it is break3's left, right of it its right. No Option:
@@ -39,7 +39,7 @@ pub fn find(work: &[u32], g: Span, k: Key) -> usize
     requires { g.at + 4 * g.n ≤ length work.now }
     ensures { Split work.now g (key k) result }
 {
-    first(work, g.at, g.n, k.kind(), k.name())
+    first(work, g, k.kind(), k.name())
 }
 
 // The type reference that entry i holds.
@@ -67,9 +67,8 @@ pub fn before(work: &[u32], g: Span, a: TyVar, b: TyVar) -> bool
     requires { g.at + 4 * g.n ≤ length work.now }
     ensures { Before work.now g (ty a) (ty b) result }
 {
-    let n = g.n;
     let i = find(work, g, Key::ETVar(a));
-    if i == n {
+    if i == g.n {
         return false;
     }
     let left = Span { at: g.at, n: i };
@@ -131,10 +130,8 @@ fn put_entries<const N: usize>(work: &mut [u32], at: usize, es: [Entry; N])
     requires { (at + 4 * N ≤ length work.old) × (SmallEntries es) }
     ensures { Put work.old work.new at es.entry }
 {
-    let mut p = at;
-    for e in es {
-        put_entry(work, p, e);
-        p += 4;
+    for (i, e) in es.iter().enumerate() {
+        put_entry(work, at + 4 * i, *e);
     }
 }
 
@@ -178,14 +175,14 @@ fn keep_solved(work: &mut [u32], from: usize, to: usize) -> usize
     0
 }
 
-// Copies the solved ones of n entries; how many they are.
-fn solved(work: &mut [u32], at: usize, n: usize, to: usize) -> usize
-    requires { (at + 4 * n ≤ to) × (to + 4 * n ≤ length work.old) }
-    ensures { Kept work.old work.new at n to result }
+// Copies the solved ones of a run of entries; how many they are.
+fn solved(work: &mut [u32], g: Span, to: usize) -> usize
+    requires { (g.at + 4 * g.n ≤ to) × (to + 4 * g.n ≤ length work.old) }
+    ensures { Kept work.old work.new g.at g.n to result }
 {
     let mut m = 0;
-    for i in 0..n {
-        m += keep_solved(work, at + 4 * i, to + 4 * m);
+    for i in 0..g.n {
+        m += keep_solved(work, g.at + 4 * i, to + 4 * m);
     }
     m
 }
@@ -196,7 +193,7 @@ pub fn solved_and_right(work: &mut [u32], st: State, g: Span, k: Key) -> Opened
     ensures { KeptBoth work.old work.new st g (key k) result }
 {
     let i = find(work, g, k);
-    let m = solved(work, g.at, i, st.top);
+    let m = solved(work, Span { at: g.at, n: i }, st.top);
     let rest = copy_right(work, g, i, st.top + 4 * m);
     past(st, m + rest)
 }

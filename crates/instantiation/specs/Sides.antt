@@ -1,6 +1,6 @@
 -- What the rules of instantiation require and ensure, on either side.
 use Rattle.std.specs.Prelude.{◌≡◌, Bool, true, false, List, [], ◌∷◌, ℕ, ◌<◌, Ok}
-use Rattle.definition.specs.Syntax.{TyVar, Ty, etvar, Ctx, Side}
+use Rattle.definition.specs.Syntax.{TyVar, Ty, etvar, Ctx, Side, on_l, on_r}
 use Rattle.definition.specs.Contexts.{before}
 use Rattle.definition.specs.Rules.{ty_code}
 use Rattle.layout.specs.Sizes.{INT}
@@ -20,12 +20,12 @@ use Rattle.contexts.specs.declared.Opened.{Opened}
 use Rattle.rules.specs.declared.Side as program
 use Rattle.rules.specs.declared.Side.TheVariants.{L, R}
 
--- the one of two rules that is for the side
-abbrev pub rule_on : program.Side → Rule → Rule → Rule
-rule_on L l r = l
-rule_on R l r = r
+-- the one of the two that stands on it
+abbrev pub on_side : {X : Type 0} → Side → X → X → X
+on_side on_l x y = x
+on_side on_r x y = y
 
--- the other one
+-- the other side
 abbrev pub other_of : program.Side → program.Side
 other_of L = R
 other_of R = L

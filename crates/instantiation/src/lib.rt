@@ -7,9 +7,9 @@ ghost use Rattle.contexts.specs.Build.{Space};
 ghost use Rattle.judging.specs.Asking.{inst_ask, JudgePre, RulePre};
 ghost use Rattle.judging.specs.Ending.{Judged, Fires};
 ghost use Rattle.rules.specs.Sides.{side};
-ghost use Rattle.instantiation.specs.Sides.{rule_on, other_of, FormPre, SolvedBy, SolvePre, ReachPre};
+ghost use Rattle.instantiation.specs.Sides.{on_side, other_of, FormPre, SolvedBy, SolvePre, ReachPre};
 
-use judging::{Ask, Here, Rule, Shown, Step, Stop, TypeError};
+use judging::{Answer, Ask, Here, Rule, Shown, Step, Stop, TypeError};
 use layout::{INT, Key, Kind, Span, State, TyVar};
 use rules::Side;
 use types::{Form, Store};
@@ -24,9 +24,9 @@ fn other(s: Side) -> Side
     }
 }
 
-// The one of two rules that is for the side.
-fn on(s: Side, left: Rule, right: Rule) -> Rule
-    ensures { result ≡ rule_on s left right }
+// The one of the two that stands on side s.
+pub fn one<T: Copy>(s: Side, left: T, right: T) -> T
+    ensures { result ≡ on_side (side s) left right }
 {
     match s {
         Side::L => left,
@@ -61,7 +61,14 @@ fn solved(work: &mut [u32], h: Here, st: State, g: Span, a: TyVar, r: usize, rul
 {
     let e = judging::entry(h, Key::SETVar(a), r);
     let o = contexts::replace(work, st, g, a, [e]);
-    Ok(rules::plain_out(o.st, o.g, INT, rule, 0))
+    Ok(Answer {
+        st: o.st,
+        g: o.g,
+        ty: INT,
+        rule,
+        kids: 0,
+        charge: 0,
+    })
 }
 
 // InstLSolve, InstRSolve. Arrow and Forall have rules of their own, so that only monotypes come here: the monotype mark never says no, and
@@ -79,25 +86,16 @@ fn solve(
     requires { SolvePre (side s) q.now work.old st g a ty }
     ensures { Fires h q.now work.old work.new st g (inst_ask (side s) a ty) result }
 {
-    let store = Store { q, work, top: st.top };
+    let top = st.top;
+    let store = Store { q, work, top };
     let x = store.name_of(a);
     if !store.is_mono(ty) {
-        return Err(Stop::fail(
-            st,
-            TypeError::InstantiationError,
-            x.0,
-            Shown::OneType(ty),
-        ));
+        return Err(Stop::fail(st, TypeError::InstantiationError, x.0, Shown::OneType(ty)));
     }
     if walks::occurs_check(store, x, ty) {
-        return Err(Stop::fail(
-            st,
-            TypeError::OccursCheck,
-            x.0,
-            Shown::OneType(ty),
-        ));
+        return Err(Stop::fail(st, TypeError::OccursCheck, x.0, Shown::OneType(ty)));
     }
-    let rule = on(s, Rule::InstLSolve, Rule::InstRSolve);
+    let rule = one(s, Rule::InstLSolve, Rule::InstRSolve);
     solved(work, h, st, g, x, ty, rule)
 }
 
@@ -115,8 +113,9 @@ fn reach(
     requires { ReachPre (side s) q.now work.old st g a ty }
     ensures { Fires h q.now work.old work.new st g (inst_ask (side s) a ty) result }
 {
-    let y = Store { q, work, top: st.top }.name_of(ty);
-    let rule = on(s, Rule::InstLReach, Rule::InstRReach);
+    let top = st.top;
+    let y = Store { q, work, top }.name_of(ty);
+    let rule = one(s, Rule::InstLReach, Rule::InstRReach);
     solved(work, h, st, g, y, a, rule)
 }
 
@@ -134,7 +133,8 @@ fn meet(
     requires { FormPre (side s) q.now work.old st g a ty 4 }
     ensures { Fires h q.now work.old work.new st g (inst_ask (side s) a ty) result }
 {
-    let store = Store { q, work, top: st.top };
+    let top = st.top;
+    let store = Store { q, work, top };
     let reaches = contexts::before(work, g, store.name_of(a), store.name_of(ty));
     if reaches {
         return reach(q, work, h, st, g, s, a, ty);
@@ -162,7 +162,7 @@ pub fn inst_r(q: &[u32], work: &mut [u32], h: Here, st: State, g: Span, ty: usiz
 
 // The one of the two that has the unknown on side s.
 #[cycle(inst_l_inst_r)]
-fn on_side(
+fn inst_on(
     q: &[u32],
     work: &mut [u32],
     h: Here,
@@ -216,7 +216,8 @@ fn inst_rule(
     requires { RulePre q.now work.old st g (inst_ask (side s) a ty) }
     ensures { Fires h q.now work.old work.new st g (inst_ask (side s) a ty) result }
 {
-    match (Store { q, work, top: st.top }).form(ty) {
+    let top = st.top;
+    match (Store { q, work, top }).form(ty) {
         Form::Int | Form::Bool | Form::Var => solve(q, work, h, st, g, s, a, ty),
         Form::ETVar => meet(q, work, h, st, g, s, a, ty),
         Form::Arrow => inst_arr(q, work, h, st, g, s, a, ty),
@@ -240,13 +241,14 @@ fn inst_arr(
     requires { FormPre (side s) q.now work.old st g a ty 5 }
     ensures { Fires h q.now work.old work.new st g (inst_ask (side s) a ty) result }
 {
-    let store = Store { q, work, top: st.top };
-    let (left, right) = (store.left_of(ty), store.right_of(ty));
-    let o = rules::part(q, work, h, st, g, store.name_of(a));
-    let r = on_side(q, work, h, o.st, o.g, other(s), o.b, left)?;
+    let top = st.top;
+    let store = Store { q, work, top };
+    let (left, right, x) = (store.left_of(ty), store.right_of(ty), store.name_of(a));
+    let o = rules::part(q, work, h, st, g, x);
+    let r = inst_on(q, work, h, o.st, o.g, other(s), o.b, left)?;
     let applied = substitution::apply_ctx_type(q, work, r.st, r.g, right)?;
-    let u = on_side(q, work, h, applied.st, r.g, s, o.c, applied.ty)?;
-    let rule = on(s, Rule::InstLArr, Rule::InstRArr);
+    let u = inst_on(q, work, h, applied.st, r.g, s, o.c, applied.ty)?;
+    let rule = one(s, Rule::InstLArr, Rule::InstRArr);
     Ok(rules::plain_out(u.st, u.g, INT, rule, 2))
 }
 
@@ -267,8 +269,8 @@ fn inst_all(
 {
     let back = other(s);
     let o = rules::open_on(q, work, h, st, g, back, ty)?;
-    let r = on_side(q, work, h, o.st, o.g, s, a, o.ty)?;
-    let rule = on(s, Rule::InstLAllR, Rule::InstRAllL);
+    let r = inst_on(q, work, h, o.st, o.g, s, a, o.ty)?;
+    let rule = one(s, Rule::InstLAllR, Rule::InstRAllL);
     let k = rules::pushed(back, o.b);
     Ok(rules::keep_out(work, false, r, k, INT, rule, 1))
 }

@@ -1,10 +1,11 @@
 -- A judgement's steps in the definition: entering, its rule, leaving; and how a run that did not end well ends what asked it.
-use mathlib.Core.Path.{◌≡◌, refl, ◌∙◌}
+use mathlib.Core.Path.{◌≡◌, refl, ◌∙◌, ap}
 use mathlib.Core.List.{List}
 use Prim.Native.Nat.{ℕ, ◌+◌, ◌-◌, ◌*◌, ◌≤◌, ◌<◌}
 use native.Mathlib.Omega.{arith}
 use lib.ListN.{length}
-use Rattle.std.specs.Prelude.{Ok, Err}
+use Rattle.std.specs.Prelude.{Result as Outcome, Ok, Err, IsErrAnd}
+use Rattle.std.proofs.lemmas.Result.{err_from_is_err_and}
 use Rattle.definition.specs.Syntax.{Ty, Ctx, Judgement, given, Rule, Tree, node, Trees, leaf, ◌&◌, children, TypeError}
 use Rattle.definition.specs.Run.{Out, done, fail, stop, M, and_then, ◌>>=◌, give, charge}
 use Rattle.definition.specs.Rules.{Fired, Result, Here, rule, judge_step, judge}
@@ -29,6 +30,10 @@ no_done a h = h a refl
 -- what `?` knows of it
 pub not_done : {z : Step} {e : Stop} → z ≡ Err e → NotDone z
 not_done e a d = let x : ◌≡◌ {A = ℕ} 0 1 = cc in absurd (omega arith)
+
+-- where layout's Spent left by `?`
+pub spent_is : {Y : Type 0} (r : Outcome Y Stop) → IsErrAnd r (λ e. e ≡ Spent) → r ≡ Err Spent
+spent_is r h = let p = err_from_is_err_and r h in p.1 ∙ ap Err p.2
 
 -- a judgement that does not end well ends its rule
 pub else_ends : {q w' : List ℕ} {s s₁ : State} {z : Step} {R : Out Result} (k : Result → M Fired) → EndsJ q w' s₁ z R → NotDone z

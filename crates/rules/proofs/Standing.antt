@@ -19,6 +19,7 @@ use Rattle.types.specs.Reading.{HeldAs, HeldNamed}
 use Rattle.expressions.specs.Forms.{Shaped}
 use Rattle.contexts.specs.Build.{Space}
 use Rattle.substitution.specs.Passing.{Passed}
+use Rattle.judging.specs.declared.Rule.{Rule}
 use Rattle.judging.proofs.Asking.{infer_asked, check_asked}
 use Rattle.judging.proofs.Chain.{room_on, Sofar, built}
 use Rattle.rules.specs.Built.{Built}
@@ -68,7 +69,7 @@ module _ {q w : List ℕ} {s : State} {g : Span} {ex : ℕ} where
   pub infer_shaped : {k : ℕ} → InferPre q w s g ex k → Shaped q w ex k
   infer_shaped pre = room_shaped pre.rule.room (infer_asked ex pre.rule.asks).at pre.code
 
-  pub check_shaped : {ty r k : ℕ} (pre : CheckPre q w s g ex ty r) → pre.k ≡ k → Shaped q w ex k
+  pub check_shaped : {ty k : ℕ} {r : Rule} (pre : CheckPre q w s g ex ty r) → pre.k ≡ k → Shaped q w ex k
   check_shaped {ty} pre e = room_shaped pre.rule.room (check_asked ex ty pre.rule.asks).at (pre.code ∙ e)
 
 -- a rule may open a Forall

@@ -118,6 +118,7 @@ pub record Finished (q w w' : List ℕ) (s : State) (g : Span) (ty more : ℕ) (
 
 -- the context and the type as they are
 pub record PlainOut (s : State) (g : Span) (ty : ℕ) (rule : Rule) (kids : ℕ) (z : Step) : Type 0 where
+  pub is : z ≡ Ok (record { st = s; g = g; ty = ty; rule = rule; kids = kids; charge = 0 })
   pub finished : (q w : List ℕ) → Finished q w w s g ty 0 (λ (Γ : Ctx). Γ) (λ (A : Ty). A) rule kids z
 
 -- break3's right, and before it the solved entries of its left where these are kept

@@ -71,16 +71,11 @@ pub fn infer_var(q: &[u32], work: &[u32], h: Here, st: State, g: Span, ex: usize
     let x = expressions::var_of(q, work, ex);
     match contexts::lookup(work, g, Key::Var(x)) {
         Some(ty) => Ok(plain_out(st, g, ty, Rule::InfVar, 0)),
-        None => Err(Stop::fail(
-            st,
-            TypeError::UnboundVariable,
-            x.0,
-            Shown::NoType,
-        )),
+        None => Err(Stop::fail(st, TypeError::UnboundVariable, x.0, Shown::NoType)),
     }
 }
 
-// InfLitInt.
+// InfLitInt. One function for this and InfLitBool would take the type and the rule besides, and ask that they fit the literal: no plainer.
 pub fn infer_lit_int(q: &[u32], work: &[u32], h: Here, st: State, g: Span, ex: usize) -> Step
     requires { InferPre q.now work.now st g ex 22 }
     ensures { Fires h q.now work.now work.now st g (infer_ask ex) result }
@@ -139,12 +134,7 @@ pub fn refuse_app(
     requires { RefusePre q.now work.now st g ty ex }
     ensures { Fires h q.now work.now work.now st g (app_ask ty ex) result }
 {
-    Err(Stop::fail(
-        st,
-        TypeError::ApplicationTypeError,
-        0,
-        Shown::OneType(ty),
-    ))
+    Err(Stop::fail(st, TypeError::ApplicationTypeError, 0, Shown::OneType(ty)))
 }
 
 // ---- Before a judgement
@@ -195,7 +185,11 @@ pub fn open_right(q: &[u32], work: &mut [u32], h: Here, st: State, g: Span, r: u
     requires { ForallPre q.now work.old st g r }
     ensures { OpensOn h q.now work.old work.new st g r on_r (Ok result) }
 {
-    let store = Store { q, work, top: st.top };
+    let store = Store {
+        q,
+        work,
+        top: st.top,
+    };
     let (b, ty) = (store.name_of(r), store.body_of(r));
     let o = contexts::push(work, st, g, [judging::entry(h, Key::TVar(b), INT)]);
     Body {
@@ -218,7 +212,11 @@ fn open_left(
     requires { ForallPre q.now work.old st g r }
     ensures { OpensOn h q.now work.old work.new st g r on_l result }
 {
-    let store = Store { q, work, top: st.top };
+    let store = Store {
+        q,
+        work,
+        top: st.top,
+    };
     let (b, body) = (store.name_of(r), store.body_of(r));
     let unknown = types::put_etvar(work, st.top, b);
     let made = substitution::subst_type(q, work, st.raise(2), b, unknown, body)?;
@@ -331,14 +329,13 @@ pub fn instantiate(
     requires { Two q.now work.old st ty by }
     ensures { Instantiated q.now work.old work.new st ty by result }
 {
-    let store = Store { q, work, top: st.top };
+    let store = Store {
+        q,
+        work,
+        top: st.top,
+    };
     if store.form(ty) != Form::Forall {
-        return Err(Stop::fail(
-            st,
-            TypeError::TypeApplicationError,
-            0,
-            Shown::OneType(ty),
-        ));
+        return Err(Stop::fail(st, TypeError::TypeApplicationError, 0, Shown::OneType(ty)));
     }
     let (a, body) = (store.name_of(ty), store.body_of(ty));
     Ok(substitution::subst_type(q, work, st, a, by, body)?)
@@ -377,13 +374,7 @@ pub fn keep_out(
         let o = contexts::solved_and_right(work, r.st, r.g, k);
         return plain_out(o.st, o.g, ty, rule, kids);
     }
-    plain_out(
-        r.st,
-        contexts::right_of(work, r.g, k),
-        ty,
-        rule,
-        kids,
-    )
+    plain_out(r.st, contexts::right_of(work, r.g, k), ty, rule, kids)
 }
 
 // InfTAbs: the Forall of the applied body type; the solved entries of break3's left, then its right.

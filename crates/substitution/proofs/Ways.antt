@@ -102,9 +102,6 @@ forall_substed n a h B A = subst_forall (ty a) B (ty n) A (sym h)
 
 -- ## Application
 
-low_form : {f : Form} → (f ≡ Form.Int) ⊎ ((f ≡ Form.Bool) ⊎ (f ≡ Form.Var)) → form_number f < 4
-low_form = ⊎_elim (λ e. omega (arith, ap form_number e)) (⊎_elim (λ e. omega (arith, ap form_number e)) (λ e. omega (arith, ap form_number e)))
-
 -- the entries g are the context Γ
 abbrev pub InRun : List ℕ → Span → Ctx → List ℕ → ℕ → Type 0
 InRun q g Γ w t = Run q w t g.at g.n Γ
@@ -135,6 +132,10 @@ apply_way q g = record {
 abbrev pub apply_call : {q w : List ℕ} {s p : State} {r n : ℕ} (g : Span) (f : Form) → ApplyPre q w s g r → s.left ≡ n → Charges s 1 (Ok p)
     → FormOf q w s.top r f → PaidCall Ctx n
 apply_call {q} g f h = begin f (apply_way q g) (apply_asks h)
+
+-- a form before ETVar
+low_form : {f : Form} → (f ≡ Form.Int) ⊎ ((f ≡ Form.Bool) ⊎ (f ≡ Form.Var)) → form_number f < 4
+low_form = ⊎_elim (λ e. omega (arith, ap form_number e)) (⊎_elim (λ e. omega (arith, ap form_number e)) (λ e. omega (arith, ap form_number e)))
 
 module _ {q w : List ℕ} {t r : ℕ} {f : Form} (c : FormOf q w t r f) where
   -- Int, Bool and Var stay

@@ -3,4 +3,4 @@ use Rattle.contexts.specs.Build.{Kept}
 use Rattle.contexts.proofs.solved.Given as goal
 
 abbrev pub invariant-loop-i : goal.invariant-loop-i
-invariant-loop-i l = Kept l.initial.work l.work l.at l.i l.to l.m
+invariant-loop-i l = Kept l.initial.work l.work l.fn.g.at l.i l.to l.m
