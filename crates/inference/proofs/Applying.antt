@@ -1,7 +1,7 @@
 -- The rules of infer_app that ask a judgement: InfAppArr, InfAppETVar.
 use mathlib.Core.Path.{◌≡◌, refl, sym}
 use mathlib.Core.List.{List}
-use Prim.Native.Nat.{ℕ, suc, ◌+◌, ◌*◌}
+use Prim.Native.Nat.{ℕ, suc, ◌+◌}
 use native.Mathlib.Omega.{arith}
 use Rattle.std.specs.Prelude.{Ok}
 use Rattle.definition.specs.Syntax
@@ -23,7 +23,7 @@ use Rattle.judging.specs.Ending.{Step, Judged, Fires}
 use Rattle.judging.proofs.Asking.{app_asked}
 use Rattle.rules.specs.declared.Parted.{Parted}
 use Rattle.layout.specs.States.{fresh_name}
-use Rattle.rules.specs.Parting.{PartPre, Parts}
+use Rattle.rules.specs.Parting.{Parts}
 use Rattle.rules.proofs.TypeForms.{IsArrow, is_arrow, IsETVar, is_etvar}
 use Rattle.rules.proofs.Standing.{unknown_named}
 use Rattle.rules.specs.Taking.{AppPre}
@@ -75,18 +75,6 @@ module _ (m : Here) {q w : List ℕ} {s : State} {g : Span} {r ex : ℕ} (pre : 
 
   pub etvar_held : HeldNamed q w s.top r
   etvar_held = unknown_named pre.rule.room (unknown_den pre.rule.asks)
-
-  pub etvar_part : PartPre q w s g
-  etvar_part =
-      let x = pre.rule.room in
-      record {
-        base = x.base;
-        below = (app_asked r ex pre.rule.asks).run.below;
-        room = omega (arith, x.fits);
-        low = x.low;
-        cap = x.cap;
-        names = omega (arith, pre.rule.names);
-      }
 
   module _ {a : tyvar.TyVar} (n : Named q w s.top r a) {w₁ : List ℕ} {o : Parted} (i : Parts m q w w₁ s g a o) where
     etvar_name : {j : Judgement} (k : At pre.rule j) → ty a ≡ (unknown k).a

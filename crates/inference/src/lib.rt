@@ -211,8 +211,12 @@ fn chk_rule(q: &[u32], work: &mut [u32], h: Here, st: State, g: Span, ex: usize,
     requires { RulePre q.now work.old st g (check_ask ex ty) }
     ensures { Fires h q.now work.old work.new st g (check_ask ex ty) result }
 {
-    let form = Store { q, work, top: st.top }.form(ty);
-    let rule = rules::check_choice(expressions::form_of(q, ex), form);
+    let store = Store {
+        q,
+        work,
+        top: st.top,
+    };
+    let rule = rules::check_choice(expressions::form_of(q, ex), store.form(ty));
     match rule {
         Rule::ChkLitInt | Rule::ChkLitBool => rules::check_lit(q, work, h, st, g, ex, ty, rule),
         Rule::ChkLam => chk_lam(q, work, h, st, g, ex, ty),
@@ -227,7 +231,11 @@ fn chk_lam(q: &[u32], work: &mut [u32], h: Here, st: State, g: Span, ex: usize, 
     requires { CheckPre q.now work.old st g ex ty rule.ChkLam }
     ensures { Fires h q.now work.old work.new st g (check_ask ex ty) result }
 {
-    let store = Store { q, work, top: st.top };
+    let store = Store {
+        q,
+        work,
+        top: st.top,
+    };
     let l = expressions::abs_of(q, work, ex);
     let (p, c) = (store.left_of(ty), store.right_of(ty));
     let compared = rules::parameter(q, work, h, st, g, l.ty, p)?;
@@ -310,7 +318,12 @@ fn app_rule(q: &[u32], work: &mut [u32], h: Here, st: State, g: Span, ty: usize,
     requires { RulePre q.now work.old st g (app_ask ty ex) }
     ensures { Fires h q.now work.old work.new st g (app_ask ty ex) result }
 {
-    match (Store { q, work, top: st.top }).form(ty) {
+    let store = Store {
+        q,
+        work,
+        top: st.top,
+    };
+    match store.form(ty) {
         Form::Arrow => app_arr(q, work, h, st, g, ty, ex),
         Form::ETVar => app_etvar(q, work, h, st, g, ty, ex),
         _ => rules::refuse_app(q, work, h, st, g, ty, ex),
@@ -323,7 +336,11 @@ fn app_arr(q: &[u32], work: &mut [u32], h: Here, st: State, g: Span, ty: usize, 
     requires { AppPre q.now work.old st g ty ex 5 }
     ensures { Fires h q.now work.old work.new st g (app_ask ty ex) result }
 {
-    let store = Store { q, work, top: st.top };
+    let store = Store {
+        q,
+        work,
+        top: st.top,
+    };
     let (a, c) = (store.left_of(ty), store.right_of(ty));
     let r = check(q, work, h, st, g, ex, a)?;
     Ok(rules::plain_out(r.st, r.g, c, Rule::InfAppArr, 1))
@@ -335,7 +352,12 @@ fn app_etvar(q: &[u32], work: &mut [u32], h: Here, st: State, g: Span, ty: usize
     requires { AppPre q.now work.old st g ty ex 4 }
     ensures { Fires h q.now work.old work.new st g (app_ask ty ex) result }
 {
-    let a = Store { q, work, top: st.top }.name_of(ty);
+    let store = Store {
+        q,
+        work,
+        top: st.top,
+    };
+    let a = store.name_of(ty);
     let o = rules::part(q, work, h, st, g, a);
     let r = check(q, work, h, o.st, o.g, ex, o.b)?;
     Ok(rules::plain_out(r.st, r.g, o.c, Rule::InfAppETVar, 1))

@@ -13,7 +13,7 @@ use Rattle.layout.specs.declared.Span.{Span}
 use Rattle.layout.specs.declared.State.{State}
 use Rattle.layout.proofs.States.{is_paid, not_paid}
 use Rattle.layout.proofs.Words.{keep_less}
-use Rattle.judging.specs.Leaving.{Entering, EnteredBy, entered, unpaid, ConcludePre, Concludes, unpaid_out, wrote, Left, concluded, failed_on, ran_out_on}
+use Rattle.judging.specs.Leaving.{EnteredBy, entered, unpaid, ConcludePre, Concludes, unpaid_out, wrote, Left, concluded, failed_on, ran_out_on}
 use Rattle.judging.specs.Nodes.{NodeWords}
 use Rattle.judging.specs.declared.Answer.{Answer}
 use Rattle.judging.specs.declared.Ask.{Ask}
@@ -27,12 +27,8 @@ module _ {s : State} {g : Span} {z : Result State layout.Spent} (c : Charges s (
   pub enter_spent : {x : layout.Spent} → z ≡ Err x → EnteredBy s g (Err x)
   enter_spent e = let l = not_paid c e in unpaid (omega arith)
 
-  module _ {p : State} (e : z ≡ Ok p) where
-    pub enter_lower : Entering s g → 12 ≤ p.low
-    enter_lower h = let x = is_paid c e in let l = x.enough in rw x.is (h.node (omega arith))
-
-    pub enter_in : {i : State} → i ≡ lowered p 12 → EnteredBy s g (Ok i)
-    enter_in f = let x = is_paid c e in let l = x.enough in rw (f, x.is) (entered (omega arith))
+  pub enter_in : {p i : State} → z ≡ Ok p → i ≡ lowered p 12 → EnteredBy s g (Ok i)
+  enter_in e f = let x = is_paid c e in let l = x.enough in rw (f, x.is) (entered (omega arith))
 
 module _ {w : List ℕ} {s : State} {g : Span} {k : Ask} {a : Answer} {z : Result State layout.Spent} (c : Charges a.st a.g.n z) where
   pub conclude_spent : {x : layout.Spent} → z ≡ Err x → Concludes w w s g k a (Err Spent)

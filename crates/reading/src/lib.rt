@@ -5,7 +5,7 @@
 ghost use Rattle.std.specs.Prelude.{◌≡◌, ◌≤◌, length};
 ghost use Rattle.layout.specs.Kinds.{kind_number};
 ghost use Rattle.reading.specs.Faults.{refusal_code, bad_shape};
-ghost use Rattle.reading.specs.Items.{Inside, WordRead, NameRead, WithinRead, TypeRead, ExprRead};
+ghost use Rattle.reading.specs.Items.{Inside, WordRead, NameRead, WithinRead, TypeRead, ExprRead, Onward, ExprThen};
 ghost use Rattle.reading.specs.Contexts.{EntryRead, ContextRead};
 ghost use Rattle.reading.specs.Sections.{UnknownRead, Whole, SectionRead};
 ghost use Rattle.reading.specs.Questions.{Planned, SectionsRead, ReadIs};
@@ -141,6 +141,7 @@ fn read_type(q: &[u32], p: usize, end: usize) -> Result<usize, Fault>
 }
 
 // Reads an expression at p.
+#[cycle(read_expr_then_expr)]
 fn read_expr(q: &[u32], p: usize, end: usize) -> Result<usize, Fault>
     requires { Inside q.now p end }
     ensures { ExprRead q.now p end result }
@@ -151,13 +152,13 @@ fn read_expr(q: &[u32], p: usize, end: usize) -> Result<usize, Fault>
         // Var
         16 => Ok(read_name(q, next, end)?),
         // App
-        17 => Ok(read_expr(q, read_expr(q, next, end)?, end)?),
+        17 => then_expr(q, read_expr(q, next, end), end),
         // Abs
-        18 => Ok(read_expr(q, read_type(q, read_name(q, next, end)?, end)?, end)?),
+        18 => then_expr(q, read_type(q, read_name(q, next, end)?, end), end),
         // TApp, Ann
         19 | 21 => Ok(read_type(q, read_expr(q, next, end)?, end)?),
         // TAbs
-        20 => Ok(read_expr(q, read_name(q, next, end)?, end)?),
+        20 => then_expr(q, read_name(q, next, end), end),
         // LitInt: two words, any
         22 => {
             let past = p + 3;
@@ -169,17 +170,24 @@ fn read_expr(q: &[u32], p: usize, end: usize) -> Result<usize, Fault>
         // LitBool
         23 => Ok(read_within(q, next, end, 0, 1)?),
         // Let
-        24 => Ok(read_expr(q, read_expr(q, read_name(q, next, end)?, end)?, end)?),
+        24 => then_expr(q, then_expr(q, read_name(q, next, end), end), end),
         // If
-        25 => Ok(read_expr(q, read_expr(q, read_expr(q, next, end)?, end)?, end)?),
+        25 => then_expr(q, then_expr(q, read_expr(q, next, end), end), end),
         // BinOp
-        26 => Ok(read_expr(
-            q,
-            read_expr(q, read_within(q, next, end, 1, 12)?, end)?,
-            end,
-        )?),
+        26 => then_expr(q, then_expr(q, read_within(q, next, end, 1, 12), end), end),
         _ => Err(Fault::bad_shape(p)),
     }
+}
+
+// Goes on to an expression where the item before it was read. With ? in its place each call in read_expr would keep its result at a place
+// of its own: tried, 368 bytes of stack a level, where docs/STACK.md allows 224.
+#[cycle(read_expr_then_expr)]
+#[inline(always)]
+fn then_expr(q: &[u32], before: Result<usize, Fault>, end: usize) -> Result<usize, Fault>
+    requires { Onward q.now end before }
+    ensures { ExprThen q.now end before result }
+{
+    Ok(read_expr(q, before?, end)?)
 }
 
 // Reads an entry at p.

@@ -1,5 +1,5 @@
 -- A frame's reply: the definition's, as bytes.
-use Rattle.std.specs.Prelude.{◌≡◌, List, ◌++◌, ℕ, ◌*◌, ◌≤◌, min, length, take}
+use Rattle.std.specs.Prelude.{◌≡◌, List, ◌++◌, ℕ, ◌≤◌, min, length, take}
 use Rattle.definition.specs.Reply as definition
 use Rattle.definition.specs.Reply.{reply}
 use Rattle.definition.specs.Host.{word_at, words_of, bytes_of, numbers}

@@ -17,7 +17,7 @@ use Rattle.layout.specs.declared.TyVar.{TyVar}
 use Rattle.layout.proofs.Words.{keep_refl, keep_less, keep_trans}
 use Rattle.layout.proofs.Denotes.{den_frame, run_frame}
 use Rattle.types.specs.Making.{PutForall}
-use Rattle.contexts.specs.Build.{Space, KeptBoth}
+use Rattle.contexts.specs.Build.{KeptBoth}
 use Rattle.contexts.specs.declared.Opened.{Opened}
 use Rattle.judging.specs.declared.Rule.{Rule}
 use Rattle.judging.specs.declared.Rule.TheVariants as rules

@@ -1,9 +1,8 @@
 -- The rules without recursive calls.
 use mathlib.Core.Path.{◌≡◌, refl, sym, ◌∙◌}
 use mathlib.Core.List.{List}
-use Prim.Native.Nat.{ℕ, ◌+◌, ◌*◌, ◌≤◌}
+use Prim.Native.Nat.{ℕ}
 use native.Mathlib.Omega.{arith}
-use lib.ListN.{length}
 use Rattle.std.specs.Prelude.{Some, None, Err}
 use Rattle.definition.specs.Syntax
 use Rattle.definition.specs.Syntax.{Ty, int, bool, lit_int, lit_bool, Ctx, Judgement, leaf, children, TypeError, unbound_variable, application_type_error}
@@ -34,7 +33,6 @@ use Rattle.judging.specs.Names.{rule_of}
 use Rattle.judging.specs.Asking.{here, Asks, infer_ask, check_ask, app_ask, RulePre}
 use Rattle.judging.specs.Ending.{Step, Failed, shown_none, shown_one, Fires}
 use Rattle.judging.proofs.Asking.{infer_asked, check_asked, app_asked}
-use Rattle.judging.proofs.Nodes.{asks_run}
 use Rattle.judging.proofs.Chain.{room_within, begin, refuses}
 use Rattle.rules.specs.Going.{PlainOut}
 use Rattle.rules.specs.Taking.{InferPre, Choice, OfLiteral, lit_int_lem, lit_bool_lem, lam, all, sub, CheckPre, RefusePre}

@@ -1,7 +1,6 @@
 // Substitution and context application, by reference: each call pays one unit, and builds one record of four words at most.
 #![tactic(auto)]
 
-ghost use Rattle.std.specs.Prelude.{◌≡◌};
 ghost use Rattle.types.specs.Reading.{HeldNamed};
 ghost use Rattle.types.specs.Making.{ArrowRoom, ForallRoom};
 ghost use Rattle.substitution.specs.Passing.{Chosen, ArrowMade, ForallMade};

@@ -9,21 +9,18 @@ use Rattle.layout.specs.Denotes.{Den}
 use Rattle.layout.specs.declared.Span.{Span}
 use Rattle.layout.specs.declared.State.{State}
 use Rattle.types.specs.Reading.{Held}
+use Rattle.types.specs.declared.Form.{Form}
 use Rattle.judging.specs.Names.{rule_of}
 use Rattle.judging.specs.declared.Rule as declared
 use Rattle.judging.specs.Asking.{sub_ask, RulePre}
 use Rattle.rules.specs.Sides.{side}
+use Rattle.instantiation.specs.Sides.{on_side}
 use Rattle.rules.specs.declared.Side as program
 use Rattle.rules.specs.declared.Side.TheVariants.{L, R}
 use Rattle.subtyping.specs.declared.Arm.{Arm}
 use Rattle.subtyping.specs.declared.Arm.TheVariants as arm
 
 -- ## By the side
-
--- the one of the two that stands on it
-abbrev pub on_side : {X : Type 0} → Side → X → X → X
-on_side on_l x y = x
-on_side on_r x y = y
 
 -- SubAllL or SubAllR, SubInstL or SubInstR
 abbrev pub sub_all : Side → Here → Judge → Ctx → Ty → TyVar × Ty → M Fired
@@ -69,12 +66,12 @@ pub record Absent (q w : List ℕ) (t a b : ℕ) (r : Bool) : Type 0 where
   pub yes : r ≡ true → (A B : Ty) → Den q w t a A → Den q w t b B → AbsentFrom A B
   pub no : r ≡ false → (A B : Ty) → Den q w t a A → Den q w t b B → not_in B (as_etvar A) ≡ none
 
--- the arm that two codes tell
-pub data Formed (k m : ℕ) : Arm → Type 0 where
-  both_arrows : k ≡ 5 → m ≡ 5 → Formed k m arm.Arr
-  right_forall : m ≡ 6 → Formed k m (arm.All R)
-  left_forall : (m ≡ 6 → ⊥) → k ≡ 6 → Formed k m (arm.All L)
-  no_form : (k ≡ 5 → m ≡ 5 → ⊥) → (m ≡ 6 → ⊥) → (k ≡ 6 → ⊥) → Formed k m arm.Neither
+-- the arm that two forms tell
+pub data Formed (k m : Form) : Arm → Type 0 where
+  both_arrows : k ≡ Form.Arrow → m ≡ Form.Arrow → Formed k m arm.Arr
+  right_forall : m ≡ Form.Forall → Formed k m (arm.All R)
+  left_forall : (m ≡ Form.Forall → ⊥) → k ≡ Form.Forall → Formed k m (arm.All L)
+  no_form : (k ≡ Form.Arrow → m ≡ Form.Arrow → ⊥) → (m ≡ Form.Forall → ⊥) → (k ≡ Form.Forall → ⊥) → Formed k m arm.Neither
 
 -- the arm that an unknown on a side tells
 pub data ByUnknown (q w : List ℕ) (t a b : ℕ) : Arm → Type 0 where

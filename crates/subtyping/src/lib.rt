@@ -4,11 +4,10 @@
 ghost use Rattle.std.specs.Prelude.{◌≡◌};
 ghost use Rattle.judging.specs.Asking.{sub_ask, JudgePre, RulePre};
 ghost use Rattle.judging.specs.Ending.{Judged, Fires};
-ghost use Rattle.types.specs.Reading.{form_number};
-ghost use Rattle.rules.specs.Sides.{side};
-ghost use Rattle.subtyping.specs.Arms.{on_side, BothHeld, AlikeTypes, Absent, Formed, ByUnknown, ArmChosen, ArmPre};
+ghost use Rattle.subtyping.specs.Arms.{BothHeld, AlikeTypes, Absent, Formed, ByUnknown, ArmChosen, ArmPre};
 ghost use Rattle.subtyping.specs.declared.Arm.TheVariants as arm;
 
+use instantiation::one;
 use judging::{Ask, Here, Rule, Shown, Step, Stop, TypeError};
 use layout::{INT, Kind, Span, State};
 use rules::Side;
@@ -25,16 +24,6 @@ pub enum Arm {
     Neither,
 }
 
-// The one of the two that stands on side s.
-fn one<T: Copy>(s: Side, left: T, right: T) -> T
-    ensures { result ≡ on_side (side s) left right }
-{
-    match s {
-        Side::L => left,
-        Side::R => right,
-    }
-}
-
 // SubRefl, SubReflTVar, SubReflETVar: the rule by which two types without parts are the same.
 fn alike(store: Store, a: usize, b: usize) -> Option<Rule>
     requires { BothHeld store.q.now store.work.now store.top a b }
@@ -46,6 +35,7 @@ fn alike(store: Store, a: usize, b: usize) -> Option<Rule>
     }
     match form {
         Form::Int | Form::Bool => Some(Rule::SubRefl),
+        Form::Arrow | Form::Forall => None,
         Form::Var if store.name_of(a) == store.name_of(b) => Some(Rule::SubReflTVar),
         Form::ETVar if store.name_of(a) == store.name_of(b) => Some(Rule::SubReflETVar),
         _ => None,
@@ -61,8 +51,9 @@ fn absent(store: Store, a: usize, b: usize) -> bool
 }
 
 // The arm that the forms of the two types tell, in 000's order; Neither where none does.
+#[tactic(auto, using(crate::specs::Arms::both_arrows, crate::specs::Arms::right_forall, crate::specs::Arms::left_forall, crate::specs::Arms::no_form))]
 fn by_form(k: Form, m: Form) -> Arm
-    ensures { Formed (form_number k) (form_number m) result }
+    ensures { Formed k m result }
 {
     match (k, m) {
         (Form::Arrow, Form::Arrow) => Arm::Arr,
@@ -143,18 +134,14 @@ fn sub_rule(q: &[u32], work: &mut [u32], h: Here, st: State, g: Span, a: usize, 
     requires { RulePre q.now work.old st g (sub_ask a b) }
     ensures { Fires h q.now work.old work.new st g (sub_ask a b) result }
 {
-    let store = Store { q, work, top: st.top };
+    let top = st.top;
+    let store = Store { q, work, top };
     match choose(store, a, b) {
         Arm::Refl(rule) => Ok(rules::plain_out(st, g, INT, rule, 0)),
         Arm::Arr => sub_arr(q, work, h, st, g, a, b),
         Arm::All(s) => sub_all(q, work, h, st, g, s, a, b),
         Arm::Inst(s) => sub_inst(q, work, h, st, g, s, a, b),
-        Arm::Neither => Err(Stop::fail(
-            st,
-            TypeError::SubtypingError,
-            0,
-            Shown::TwoTypes(a, b),
-        )),
+        Arm::Neither => Err(Stop::fail(st, TypeError::SubtypingError, 0, Shown::TwoTypes(a, b))),
     }
 }
 
@@ -164,7 +151,8 @@ fn sub_arr(q: &[u32], work: &mut [u32], h: Here, st: State, g: Span, a: usize, b
     requires { ArmPre q.now work.old st g a b arm.Arr }
     ensures { Fires h q.now work.old work.new st g (sub_ask a b) result }
 {
-    let store = Store { q, work, top: st.top };
+    let top = st.top;
+    let store = Store { q, work, top };
     let (a1, a2) = (store.left_of(a), store.right_of(a));
     let (b1, b2) = (store.left_of(b), store.right_of(b));
     let r = subtype(q, work, h, st, g, b1, a1)?;

@@ -47,9 +47,6 @@ module _ {q w : List ℕ} {t : ℕ} (g : Span) where
       rw (i, n) x
 
   module _ {k : ℕ} where
-    pub entries_below : {ws : List ℕ} → k < g.n → EntriesFrom q w t g k ws → g.at + 4 * k ≤ t
-    entries_below l x = omega (arith, x.stands.below)
-
     pub entries_first : k < g.n → (ws : List ℕ) → EntriesFrom q w t g k ws
         → (OfEntry q w t (g.at + 4 * k) Then EntriesFrom q w t g (k + 1)) ws
     unfolding ctx_words

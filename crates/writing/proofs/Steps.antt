@@ -17,11 +17,10 @@ use Rattle.layout.specs.declared.TyVar.{TyVar}
 use Rattle.layout.proofs.Words.{keep_refl, keep_trans, keep_set}
 use Rattle.layout.proofs.Places.{size_some}
 use Rattle.layout.proofs.Denotes.{den_small}
-use Rattle.types.specs.Reading.{Held, HeldAs, Tagged, form_number, FormOf, Named, LeftOf, RightOf, BodyOf}
+use Rattle.types.specs.Reading.{Held, Tagged, form_number, FormOf, Named, LeftOf, RightOf, BodyOf}
 use Rattle.types.specs.declared.Form.{Form}
-use Rattle.types.proofs.Held.{left_held, right_held}
 use Rattle.types.proofs.Cases.{by_base, by_name, by_arrow, by_forall}
-use Rattle.types.proofs.Codes.{base_form, name_form, sizes}
+use Rattle.types.proofs.Codes.{base_form, name_form}
 use Rattle.writing.specs.Types.{Waiting, no_more, more, Stepped, Steps}
 use Rattle.writing.proofs.Placing.{sets_cons}
 
@@ -32,9 +31,6 @@ waiting_held h = record { base = h.ground.base; fits = h.ground.fits; cap = h.gr
 
 pub held_small : {q w : List ℕ} {t r : ℕ} → Held q w t r → r < 2 ^ 32
 held_small h = omega (arith, den_small h.den, h.fits, h.cap)
-
-pub parts_small : {q w : List ℕ} {t r l m : ℕ} → HeldAs q w t r 5 → LeftOf q w t r l → RightOf q w t r m → (l < 2 ^ 32) × (m < 2 ^ 32)
-parts_small h x y = (held_small (left_held h x), held_small (right_held h y))
 
 -- a type has half as many words as its code at least
 code_size : (T : Ty) → ty_code T ≤ 2 * size T
@@ -47,21 +43,17 @@ code_size (arrow A B) = omega (arith, size_some A, size_some B)
 code_size (forall a A) = omega (arith, size_some A)
 
 -- what the form tells that was read
-pub record Seen (s : List ℕ) (p low : ℕ) (f : Form) : Type 0 where
-  pub small : form_number f < 2 ^ 32
-  pub place : p < length s
+pub record Seen (p low : ℕ) (f : Form) : Type 0 where
   pub name : (f ≡ Form.Var) ⊎ (f ≡ Form.ETVar) → p + 2 ≤ low + 1
   pub arrow : f ≡ Form.Arrow → p + 3 ≤ low + 1
   pub forall : f ≡ Form.Forall → p + 3 ≤ low + 1
 
 pub seen : {q w : List ℕ} {t : ℕ} {s : List ℕ} {p low : ℕ} {f : Form} → Waiting q w t s p low → FormOf q w t (get_or s low 0) f
-    → Seen s p low f
+    → Seen p low f
 seen {f = f} h c =
     let e = c.is h.type h.den in
     let n = code_size h.type in
     record {
-      small = omega (arith, (sizes h.type).high);
-      place = omega (arith, size_some h.type, h.room, h.within);
       name = λ g. omega (arith, n, h.room, (name_form g).0);
       arrow = λ g. omega (arith, n, h.room, ap form_number g);
       forall = λ g. omega (arith, n, h.room, ap form_number g);

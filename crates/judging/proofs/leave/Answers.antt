@@ -2,12 +2,6 @@
 use Rattle.judging.proofs.Paying.{is_err, leave_conclude, leave_fail, leave_spent}
 use Rattle.judging.proofs.leave.Goals as goal
 
-pub conclude-requires : goal.conclude-requires
-conclude-requires c = c.requires.answers c.in-Ok.is
-
-pub charged_since-requires : goal.charged_since-requires
-charged_since-requires c = c.requires.fails (is_err c.in-Err-Fail.is (rw c.in-Err-Fail.is at c.in-Err-Fail.field-0-is))
-
 pub returns-in-Ok : goal.returns-in-Ok
 returns-in-Ok c = search leave_conclude
 

@@ -7,9 +7,6 @@ use Rattle.lines.proofs.line.Goals as goal
 pub returns-in_default : goal.returns-in_default
 returns-in_default c = (line_none _ c.in_default.ensures.cases (wrote_byte [] 10 (wrote_none _ _) (omega arith)), omega arith)
 
-pub loop-w-init : goal.loop-w-init
-loop-w-init c = (omega arith, λ s z w. rw c.in-Some.ensures.cases.0 w)
-
 pub loop-w-preserved : goal.loop-w-preserved
 loop-w-preserved c =
     (omega arith, λ s z w. c.loop-w.invariant.1 s z (line_more _ c.in-Some.rest.now c.loop-w.w-index (omega arith) c.number-at.ensures.0 w))

@@ -1,7 +1,8 @@
 -- `read_type` meets its contract.
 use native.Mathlib.Omega.{arith}
 use Rattle.std.proofs.lemmas.Grind.{common_steps}
-use Rattle.reading.proofs.Items.{passed, on, off}
+use Rattle.reading.specs.Items.{on, off}
+use Rattle.reading.proofs.Items.{passed}
 use Rattle.reading.proofs.Types.{type_end, type_base, type_named, type_forall, type_arrow, type_none}
 use Rattle.reading.proofs.+read_type.Goals as goal
 

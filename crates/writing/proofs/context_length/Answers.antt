@@ -1,12 +1,9 @@
 -- `context_length` meets its contract.
 use Rattle.std.proofs.Common.{arith}
-use Rattle.writing.proofs.Spelling.{spelled_as, spelled_first, spelled_inner, long_section}
-use Rattle.writing.proofs.Loops.{sum_first, sum_next, sum_end}
-use Rattle.writing.proofs.Contexts.{entries_all, entries_first, entries_none}
+use Rattle.writing.proofs.Spelling.{spelled_as, spelled_first, long_section}
+use Rattle.writing.proofs.Loops.{sum_next, sum_end}
+use Rattle.writing.proofs.Contexts.{entries_first, entries_none}
 use Rattle.writing.proofs.context_length.Goals as goal
-
-pub loop-k-init : goal.loop-k-init
-loop-k-init c = sum_first (entries_all _) (spelled_inner c.requires)
 
 pub entry_length-requires : goal.entry_length-requires
 entry_length-requires c = spelled_first (spelled_as (entries_first _ c.loop-k-test.true) c.loop-k.invariant.rest)

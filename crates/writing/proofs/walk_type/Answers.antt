@@ -1,13 +1,9 @@
 -- `walk_type` meets its contract.
 use Prim.Native.Nat.{◌+◌, ◌-◌}
 use lib.Seq.{get_or-set_same}
-use Rattle.writing.proofs.Spelling.{writes_length}
 use Rattle.writing.proofs.Steps.{held_small}
 use Rattle.writing.proofs.Types.{type_held, writing_again, going_less, going_waiting, far_end, writing_first, writing_now, writing_end}
 use Rattle.writing.proofs.walk_type.Goals as goal
-
-pub type_length-requires : goal.type_length-requires
-type_length-requires c = search type_held
 
 pub put-requires : goal.put-requires
 put-requires c = ((far_end c.type_length.ensures c.requires.spelled.says c.requires.room).3, held_small (type_held c.requires.spelled))
@@ -29,11 +25,6 @@ loop-pen-smaller c =
 
 pub loop-pen-preserved : goal.loop-pen-preserved
 loop-pen-preserved c = search writing_again
-
-pub shape_of-report : goal.shape_of-report
-shape_of-report c =
-    writes_length c.requires (writing_end c.type_length.ensures c.args.report.now c.put.ensures c.loop-pen.invariant
-    c.loop-pen-test.false)
 
 pub returns : goal.returns
 returns c = search writing_end

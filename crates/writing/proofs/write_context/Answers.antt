@@ -1,7 +1,5 @@
 -- `write_context` meets its contract.
-use mathlib.Core.Path.{◌∙◌, ap}
 use native.Mathlib.Omega.{arith}
-use lib.ListN.{length, length-set}
 use Rattle.writing.proofs.Spelling.{writable_as, writable_first, writable_inner, counted, writes_section}
 use Rattle.writing.proofs.Loops.{put_first, put_next, put_end}
 use Rattle.writing.proofs.Contexts.{entries_all, entries_first, entries_none}
@@ -22,11 +20,6 @@ overflow_sub-next c = omega (arith, (counted c.requires (put_end (entries_none _
 pub put-requires : goal.put-requires
 put-requires c =
     let k = counted c.requires (put_end (entries_none _ c.loop-k-test.false) c.loop-k.invariant) in (k.place, omega (arith, k.small))
-
-pub shape_of-report : goal.shape_of-report
-shape_of-report c =
-    ap length c.put.ensures ∙ simp length-set (counted c.requires (put_end (entries_none _ c.loop-k-test.false)
-    c.loop-k.invariant)).long
 
 pub returns : goal.returns
 returns c = writes_section (put_end (entries_none _ c.loop-k-test.false) c.loop-k.invariant) c.put.ensures

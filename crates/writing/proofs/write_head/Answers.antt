@@ -7,9 +7,6 @@ use Rattle.types.proofs.Held.{held_arrow, held_forall, named_var, named_forall, 
 use Rattle.writing.proofs.Steps.{waiting_held, held_small, seen, step_base, step_name, step_arrow, step_forall}
 use Rattle.writing.proofs.write_head.Goals as goal
 
-pub put-requires : goal.put-requires
-put-requires c = let v = seen c.requires c.form-form.ensures in (v.place, omega (arith, v.small, c.code.ensures))
-
 pub returns-in-Int : goal.returns-in-Int
 returns-in-Int c = search step_base
 

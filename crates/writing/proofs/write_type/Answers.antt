@@ -1,11 +1,7 @@
 -- `write_type` meets its contract.
 use Rattle.std.proofs.Common.{rules}
-use Rattle.writing.proofs.Types.{type_held}
 use Rattle.writing.proofs.Copying.{base_room, writes_base, copy_room, writes_copied}
 use Rattle.writing.proofs.write_type.Goals as goal
-
-pub form-requires : goal.form-requires
-form-requires c = search type_held
 
 pub put-requires : goal.put-requires
 put-requires c = base_room c.form.ensures c.in-Int.is c.code.ensures c.requires.spelled.says c.requires.room
