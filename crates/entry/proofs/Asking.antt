@@ -1,6 +1,6 @@
 -- The judgement that a question of each kind asks, as the judgement functions are asked it.
 use mathlib.Core.Path.{◌≡◌, refl, sym, ◌∙◌}
-use mathlib.Core.Bool.{true, false}
+use mathlib.Core.Bool.{Bool, true, false}
 use mathlib.Core.List.{List}
 use Prim.Native.Nat.{ℕ, ◌<◌}
 use native.Mathlib.Omega.{arith}
@@ -24,6 +24,8 @@ use Rattle.judging.specs.Ending.{Step, RunsJ, charge_of, Judged}
 use Rattle.judging.specs.Asking.{here, Asks, as_infer, as_check, as_app, as_sub, as_inst_l, as_inst_r, infer_ask, check_ask, app_ask, sub_ask, inst_ask, Small, JudgePre}
 use Rattle.reading.specs.Questions.{ContextAt, AsksAt, infers_at, checks_at, applies_at, compares_at, solves_left_at, solves_right_at, runs_at, ModeIs, plainly, strictly, Accepted}
 use Rattle.reading.specs.declared.Question.{Question}
+use Rattle.reading.specs.declared.Mode as program
+use Rattle.reading.specs.declared.Mode.TheVariants.{Plain, Strict}
 use Rattle.entry.specs.Entry.{OutsideOf, AskPre, Answers, ResolvePre, Resolves}
 
 module _ {q w : List ℕ} {t : ℕ} {g : Span} {x : Question} (run : (Γ : Ctx) → ContextAt q x Γ → Run q w t g.at g.n Γ) where
@@ -104,6 +106,10 @@ module _ {q w : List ℕ} {x : Question} {st : State} {g : Span} (pre : AskPre q
     }
 
 -- ## The mode
+
+abbrev pub is_strict : program.Mode → Bool
+is_strict Plain = false
+is_strict Strict = true
 
 outside_is : {m : program.Mode} {μ : question.Mode} → ModeIs m μ → outside (record { compares_parameter = is_strict m; applies_branches = is_strict m }) ≡ outside μ
 outside_is plainly = refl

@@ -28,11 +28,8 @@ returns-then-question-gt-QUESTION_MOST c =
     c.if-budget-gt-BUDGET_MOST.false (rw c.work_words-need.ensures at c.if-work-need.false) c.if-question-gt-QUESTION_MOST.true) (omega
     arith) (omega arith))
 
-pub overflow_cast-code : goal.overflow_cast-code
-overflow_cast-code c = omega (arith, (rw c.in-Fault.is at c.read_question.ensures).within.most)
-
-pub overflow_cast-at : goal.overflow_cast-at
-overflow_cast-at c = omega (arith, (rw c.in-Fault.is at c.read_question.ensures).within.place, c.if-question-gt-QUESTION_MOST.false)
+pub overflow_cast-fault : goal.overflow_cast-fault
+overflow_cast-fault c = omega (arith, (rw c.in-Err.is at c.read_question.ensures).within.place, c.if-question-gt-QUESTION_MOST.false)
 
 pub run_cleared-requires : goal.run_cleared-requires
 run_cleared-requires c =
@@ -42,16 +39,16 @@ run_cleared-requires c =
       high =
           c.if-budget-gt-BUDGET_MOST.false;
       few = c.if-question-gt-QUESTION_MOST.false;
-      read = rw c.in-Asked.is at c.read_question.ensures;
+      read = rw c.in-Ok.is at c.read_question.ensures;
     }
 
-pub returns-in-Fault : goal.returns-in-Fault
-returns-in-Fault c =
-    let f = (rw c.in-Fault.is at c.read_question.ensures).within in rw c.refusal-in-Fault.ensures (refused _ _ _ _ _ _ (faulted _ _ _ _
+pub returns-in-Err : goal.returns-in-Err
+returns-in-Err c =
+    let f = (rw c.in-Err.is at c.read_question.ensures).within in rw (c.refusal-in-Err.ensures, c.code.ensures) (refused _ _ _ _ _ _ (faulted _ _ _ _
     c.if-budget-lt1.false c.if-budget-gt-BUDGET_MOST.false (rw c.work_words-need.ensures at c.if-work-need.false) c.if-question-lt1.false
-    c.if-question-gt-QUESTION_MOST.false _ _ (rw c.in-Fault.is at c.read_question.ensures).is) (omega (arith, f.least)) f.most)
+    c.if-question-gt-QUESTION_MOST.false _ _ (rw c.in-Err.is at c.read_question.ensures).is) (omega (arith, f.least)) f.most)
 
-pub returns-in-Asked : goal.returns-in-Asked
-returns-in-Asked c =
-    replied ((rw c.in-Asked.is at c.read_question.ensures)) (read _ _ _ _ c.if-budget-lt1.false c.if-budget-gt-BUDGET_MOST.false (rw
+pub returns-in-Ok : goal.returns-in-Ok
+returns-in-Ok c =
+    replied ((rw c.in-Ok.is at c.read_question.ensures)) (read _ _ _ _ c.if-budget-lt1.false c.if-budget-gt-BUDGET_MOST.false (rw
     c.work_words-need.ensures at c.if-work-need.false) c.if-question-lt1.false c.if-question-gt-QUESTION_MOST.false) c.run_cleared.ensures
