@@ -111,6 +111,10 @@ abbrev pub is_strict : program.Mode → Bool
 is_strict Plain = false
 is_strict Strict = true
 
+pub not_strict : (m : program.Mode) → (m ≡ Strict → ⊥) → is_strict m ≡ false
+not_strict Plain n = refl
+not_strict Strict n = absurd (n refl)
+
 outside_is : {m : program.Mode} {μ : question.Mode} → ModeIs m μ → outside (record { compares_parameter = is_strict m; applies_branches = is_strict m }) ≡ outside μ
 outside_is plainly = refl
 outside_is strictly = refl
