@@ -8,7 +8,8 @@ ghost use Rattle.expressions.specs.Forms.{form_number, Stands, Shaped, HasType, 
 
 use layout::{TmVar, TyVar, past, word};
 
-// The parts of each form: names, the operator's number, else places of the question.
+// The parts of each form: names, the operator's number, else places of the question. Some look alike, but hold a type where others hold an
+// expression, and their contracts say which.
 #[derive(Clone, Copy)]
 pub struct App {
     pub func: usize,

@@ -5,7 +5,7 @@ ghost use Rattle.layout.specs.Words.{Put2};
 ghost use Rattle.layout.specs.Monotypes.{with_mono};
 ghost use Rattle.loading.specs.Table.{Sized, ReadyAt, NoLeaf, RowAt, PastIs, RowIs, Laid};
 
-// The table's word for i; 0 past the question.
+// The table's word for i; past the question 0, which no item leads to: an Option would be unwrapped to some number just the same.
 fn row(q: &[u32], work: &[u32], i: usize) -> usize
     requires { Sized q.now work.now }
     ensures { RowAt q.now work.now i result }
@@ -57,7 +57,8 @@ fn other_row(q: &[u32], work: &[u32], p: usize) -> usize
     }
 }
 
-// The table's word for p, by those from p + 1 on. Int, Bool, Var and ETVar first: the processor foresees a comparison better than a match.
+// The table's word for p, by those from p + 1 on. By number, as other_row. Int, Bool, Var and ETVar first: the processor foresees a comparison
+// better than a match.
 fn row_of(q: &[u32], work: &[u32], p: usize) -> usize
     requires { ReadyAt q.now work.now p }
     ensures { RowIs q.now p result }

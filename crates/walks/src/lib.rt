@@ -63,7 +63,7 @@ fn same_var(work: &[u32], top: usize, n: usize, p: NamePair) -> bool
 }
 
 // Whether two types differ at most in the names bound by Forall, under n pairs of letters that lie in work from top on. For each two Foralls
-// passed their pair is laid past the others. An ETVar is compared under none of them.
+// passed their pair is laid past the others, so that work comes by &mut and not in a Store. An ETVar is compared under none of them.
 pub fn same_type(q: &[u32], work: &mut [u32], top: usize, n: usize, r: usize, s: usize) -> bool
     requires { Comparing q.now work.old top n r s }
     ensures { Same q.now work.old work.new top n r s result }
