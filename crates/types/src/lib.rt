@@ -1,8 +1,7 @@
 // Types by reference, in the question or in work, shared where 000 clones: form, name, parts, lengths, words; records made at the top of work.
 #![tactic(auto)]
 
-ghost use Rattle.std.specs.Prelude.{◌≡◌, ◌+◌, ◌≤◌, length};
-ghost use Rattle.layout.specs.Denotes.{capped};
+ghost use Rattle.std.specs.Prelude.{◌≡◌, ◌+◌, ◌≤◌, min, length};
 ghost use Rattle.types.specs.Reading.{Held, HeldAs, HeldNamed, Tagged, FormOf, Mono, Named, LeftOf, RightOf, BodyOf, LengthOf, RecordLength, WordsOf};
 ghost use Rattle.types.specs.Making.{ArrowRoom, ForallRoom, PutETVar, PutArrow, PutForall};
 
@@ -154,18 +153,11 @@ pub fn record_length(form: Form) -> usize
     }
 }
 
-// The sum, stopping at the largest word.
-pub fn sat_add(a: usize, b: usize) -> usize
-    ensures { result ≡ capped (a + b) }
+// The sum of two lengths, stopping at LIMIT.
+pub fn sum_to<const LIMIT: usize>(a: usize, b: usize) -> usize
+    ensures { result ≡ min (a + b) LIMIT }
 {
-    if MOST <= a {
-        return MOST;
-    }
-    let room = MOST - a;
-    if room <= b {
-        return MOST;
-    }
-    a + b
+    a.saturating_add(b).min(LIMIT)
 }
 
 // Makes an ETVar's record, two words.
@@ -183,8 +175,8 @@ pub fn put_arrow(q: &[u32], work: &mut [u32], top: usize, left: usize, right: us
     ensures { PutArrow q.now work.old work.new top left right result }
 {
     let store = Store { q, work, top };
-    let parts = sat_add(store.type_length(left), store.type_length(right));
-    let length = sat_add(1, parts);
+    let parts = sum_to::<MOST>(store.type_length(left), store.type_length(right));
+    let length = sum_to::<MOST>(1, parts);
     let head = with_mono(5, store.is_mono(left) & store.is_mono(right));
     put4(work, top, head, left, right, length);
     BASE + top
@@ -195,7 +187,7 @@ pub fn put_forall(q: &[u32], work: &mut [u32], top: usize, a: TyVar, body: usize
     requires { ForallRoom q.now work.old top body }
     ensures { PutForall q.now work.old work.new top a body result }
 {
-    let length = sat_add(2, Store { q, work, top }.type_length(body));
+    let length = sum_to::<MOST>(2, Store { q, work, top }.type_length(body));
     put4(work, top, with_mono(6, false), a.0 as usize, body, length);
     BASE + top
 }

@@ -11,5 +11,5 @@ returns c =
       keep = c.put4.ensures.keep;
       ref = refl;
       den = λ A d. forall_put (ty c.args.a) refl (rw c.with_mono.ensures.0 at
-          c.put4.ensures) (omega (arith, c.sat_add-length.ensures, c.type_length.ensures.is A d)) d;
+          c.put4.ensures) (omega (arith, c.sum_to-length.ensures, c.type_length.ensures.is A d)) d;
     }
