@@ -38,14 +38,18 @@ answered {b} {s} {s'} {rep} {ns} {r} {room} {n} h e t v w f =
 
 -- ## The numbers of the free function
 
-pub checked : {budget : ℕ} {q w w' s s' ns : List ℕ} {r : program.Reply} → ns ≡ numbers_of r → Replied budget q w w' s s' r
-    → Checked budget q w w' s s' ns r.code
+pub checked : {budget : ℕ} {q w w' s s' : List ℕ} {r : program.Reply} → Replied budget q w w' s s' r
+    → Checked budget q w w' s s' (numbers_of r) r.code
 unfolding numbers
-checked v a =
+checked a =
     let n = a.numbers in
     record {
       returns = n.code;
-      four = rw (v, n.code, n.at, n.len, n.units);
+      four = rw (n.code, n.at, n.len, n.units);
       report = a.report;
       work = a.work;
     }
+
+pub checked_in : {budget : ℕ} {q w w' s s' ns : List ℕ} {r : program.Reply} → ns ≡ numbers_of r → Replied budget q w w' s s' r
+    → Checked budget q w w' s s' ns r.code
+checked_in e a = rw e (checked a)

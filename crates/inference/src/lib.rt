@@ -139,8 +139,7 @@ fn infer_if(q: &[u32], work: &mut [u32], h: Here, st: State, g: Span, ex: usize)
     let r = check(q, work, h, st, g, p.cond, BOOL)?;
     let u = infer(q, work, h, r.st, r.g, p.yes)?;
     let v = infer(q, work, h, u.st, u.g, p.no)?;
-    let applies = h.manner.applies_branches;
-    let o = subtype_applied(q, work, h, applies, v.st, v.g, u.ty, v.ty)?;
+    let o = subtype_applied(q, work, h, h.manner.applies_branches, v.st, v.g, u.ty, v.ty)?;
     Ok(rules::plain_out(o.st, o.g, u.ty, Rule::InfIf, 4))
 }
 
@@ -152,7 +151,8 @@ struct Sides {
     rule: Rule,
 }
 
-// InfArith, InfBool, InfEq or InfCmp, as 000's infer_binop matches.
+// InfArith, InfBool, InfEq or InfCmp, as 000's infer_binop matches. An operator stays a number: the definition's `bin_op` holds one, and
+// `inf_binop` compares it.
 fn operator(op: usize) -> Sides
     ensures { Operates op result }
 {

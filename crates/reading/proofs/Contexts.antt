@@ -15,10 +15,10 @@ use Rattle.reading.specs.declared.Fault.{Fault}
 use Rattle.reading.specs.declared.Part.{Part}
 use Rattle.reading.specs.Faults.{bad_shape}
 use Rattle.reading.specs.Items as items
-use Rattle.reading.specs.Items.{from, Inside, WordTo, Reads, Word, NameRead, TypeThen}
+use Rattle.reading.specs.Items.{from, Inside, WordTo, Reads, Word, NameRead}
 use Rattle.reading.specs.Contexts.{RestTo, var_rest, tvar_rest, etvar_rest, setvar_rest, mark_rest, BindingTo, EntryTo, none, some, ListTo, ContextTo, Leaves, past, refused, BindingRead, EntryRead, ContextRead}
 use Rattle.reading.proofs.Depth.{written_upto, more, context_eq}
-use Rattle.reading.proofs.Items.{one_or, from_end, one_of_end, one_of_is, one_of_none, reads_at, reads_map, reads_two, code_at, after_word, variable_read, type_name_read}
+use Rattle.reading.proofs.Items.{TypeThen, one_or, from_end, one_of_end, one_of_is, one_of_none, reads_at, reads_map, reads_two, code_at, after_word, variable_read, type_name_read}
 
 -- ## One binding
 

@@ -13,9 +13,9 @@ use Rattle.layout.specs.Places.{evar_at, app_at, abs_at, tapp_at, tabs_at, ann_a
 use Rattle.std.specs.Prelude.{Result, Ok, Err}
 use Rattle.reading.specs.declared.Fault.{Fault}
 use Rattle.reading.specs.Faults.{bad_shape}
-use Rattle.reading.specs.Items.{from, Inside, ExprTo, past, refused, Word, NameRead, WithinRead, TypeThen, ExprRead, ExprThen}
+use Rattle.reading.specs.Items.{from, Inside, ExprTo, past, refused, Word, NameRead, WithinRead, ExprRead}
 use Rattle.reading.proofs.Depth.{expression_eq}
-use Rattle.reading.proofs.Items.{one_or, one_of_end, one_of_is, one_of_none, reads_at, reads_map, reads_two, reads_three, code_at, after_word, variable_read, type_name_read, any_end, any_is}
+use Rattle.reading.proofs.Items.{TypeThen, ExprThen, one_or, one_of_end, one_of_is, one_of_none, reads_at, reads_map, reads_two, reads_three, code_at, after_word, variable_read, type_name_read, any_end, any_is}
 
 pub expr_end : {q : List ℕ} {p e : ℕ} {f : Fault} → Inside q p e → (e ≤ p) × (f ≡ bad_shape p) → ExprRead q p e (Err f)
 expr_end {q} {p} {e} i h = rw h.1 (reads_at (expression_eq p _ ∙ one_of_end _ q p e h.0) (refused i.low))

@@ -1,9 +1,8 @@
 -- Stepping through a reader, item by item.
-use Prim.Native.Nat.{ℕ, suc, ◌+◌, ◌-◌, ◌*◌, ◌≤◌, ◌<◌}
+use Prim.Native.Nat.{ℕ, suc, ◌+◌, ◌≤◌, ◌<◌}
 use mathlib.Core.Path.{◌≡◌, refl, ap, ◌∙◌}
 use mathlib.Core.List.{List, [], ◌∷◌}
 use mathlib.Core.Bool.{Bool, true, false, ◌&&◌}
-use native.Mathlib.Nat.{le_trans}
 use native.Mathlib.Numerals.{add-one}
 use native.Mathlib.Decide.{dec_le, ℕ_discrete}
 use native.Mathlib.Omega.{arith}
@@ -11,15 +10,15 @@ use lib.ListN.{length, get_or, drop_of_length-le, length-take}
 use lib.Seq.{slice-cons}
 use lib.Dec.{leb}
 use borrow.Author.Tests.{ne_eqb, lt-ltb, le-ltb, le-leb, lt-leb}
-use Rattle.definition.specs.Syntax.{pick, Ty, Expr}
+use Rattle.definition.specs.Syntax.{pick}
 use Rattle.definition.specs.Question as definition
-use Rattle.definition.specs.Question.{Read, got, fault, Reader, next, ◌>>=◌, give, word, any, within, written, variable, type_name, row, one_of}
+use Rattle.definition.specs.Question.{Read, got, fault, Reader, next, ◌>>=◌, give, word, any, within, written, variable, type_name, type, expression, row, one_of}
 use Rattle.laws.proofs.Steps.{pick_true, pick_false}
 use Rattle.layout.specs.Places.{CodeAt}
 use Rattle.std.specs.Prelude.{Result, Ok, Err, IsErrAnd}
 use Rattle.reading.specs.declared.Fault.{Fault}
 use Rattle.reading.specs.Faults.{bad_shape, reserved_name, fault_of}
-use Rattle.reading.specs.Items.{from, Inside, WordTo, TyTo, ExprTo, Reads, past, refused, Onward, NextRead, on, off, Word, NameRead, WithinRead}
+use Rattle.reading.specs.Items.{from, Inside, WordTo, TyTo, ExprTo, Reads, past, refused, Word, NameRead, WithinRead}
 
 -- a `?` passes the fault on
 pub passed : {T E : Type 0} {r : Result T E} {e : E} → IsErrAnd r (λ f. f ≡ e) → r ≡ Err e
@@ -77,6 +76,17 @@ module _ {A : Type 0} (rows : List (ℕ × Reader A)) (q : List ℕ) (p e : ℕ)
 
 -- ## One item after another
 
+-- the answer after the one before: the next item's where that was read, and the same fault where it was not
+pub data NextRead {A : Type 0} (q : List ℕ) (e : ℕ) (Stands : ℕ → A → ℕ → Type 0) (m : Reader A) : Result ℕ Fault → Result ℕ Fault → Type 0 where
+  on : {p : ℕ} {r : Result ℕ Fault} → Reads q e (Stands p) r (m p (from q p e)) → NextRead q e Stands m (Ok p) r
+  off : {f : Fault} → NextRead q e Stands m (Err f) (Err f)
+
+abbrev pub TypeThen : List ℕ → ℕ → Result ℕ Fault → Result ℕ Fault → Type 0
+TypeThen q e before r = NextRead q e (TyTo q) (type written) before r
+
+abbrev pub ExprThen : List ℕ → ℕ → Result ℕ Fault → Result ℕ Fault → Type 0
+ExprThen q e before r = NextRead q e (ExprTo q) expression before r
+
 module _ {q : List ℕ} {e : ℕ} where
   pub reads_at : {A : Type 0} {S : A → ℕ → Type 0} {r : Result ℕ Fault} {o o' : Read A} → o' ≡ o → Reads q e S r o → Reads q e S r o'
   reads_at h x = rw h x
@@ -111,43 +121,6 @@ module _ {q : List ℕ} {e : ℕ} where
   unfolding next ◌>>=◌
   reads_three f g (past s l) (on x) y = reads_two (f _) (λ b c j k t u. g _ b c _ j k s t u) x y
   reads_three f g (refused b) off off = refused b
-
--- ## The words left fall
-
--- the measure of going on after an item: the words left twice, and one more for the step itself
-abbrev pub ahead : ℕ → Result ℕ Fault → ℕ
-ahead e (Ok p) = 2 * (e - p) + 1
-ahead e (Err f) = 0
-
--- what was read past p leaves less than there was from p on
-pub onward : {A : Type 0} {q : List ℕ} {p e t w : ℕ} {S : A → ℕ → Type 0} {r : Result ℕ Fault} {o : Read A} → (2 * (e - p) ≡ t) × Inside q p e
-    → Word q p e w → ((a : A) (m : ℕ) → S a m → p + 1 ≤ m) → Reads q e S r o → (ahead e r < t) × Onward q e r
-onward i h g (past {m = m} s l) = let k = g _ m s in (omega arith, record { low = l; high = i.1.high; small = i.1.small })
-onward i h g (refused b) = (omega arith, tt)
-
-pub onward_two : {A B : Type 0} {q : List ℕ} {p e t w : ℕ} {S : A → ℕ → Type 0} {S' : ℕ → B → ℕ → Type 0} {m : Reader B} {r r' : Result ℕ Fault} {o : Read A}
-    → (2 * (e - p) ≡ t) × Inside q p e → Word q p e w → ((a : A) (m : ℕ) → S a m → p + 1 ≤ m) → ((b : B) (m n : ℕ) → S' m b n → m ≤ n)
-    → Reads q e S r o → NextRead q e S' m r r' → (ahead e r' < t) × Onward q e r'
-onward_two i h g g' (past s l) (on x) = onward i h (λ b n u. le_trans (g _ _ s) (g' b _ n u)) x
-onward_two i h g g' (refused b) off = (omega arith, tt)
-
-pub then_off : {A : Type 0} {q : List ℕ} {e : ℕ} {f : Fault} {S : ℕ → A → ℕ → Type 0} {m : Reader A} {r r' : Result ℕ Fault} → r ≡ Err f → r' ≡ Err f
-    → NextRead q e S m r r'
-then_off h h' = rw (h, h') off
-
-pub then_passed : {A : Type 0} {q : List ℕ} {p e : ℕ} {S : ℕ → A → ℕ → Type 0} {m : Reader A} {r r' : Result ℕ Fault} → r ≡ Ok p
-    → Reads q e (S p) r' (m p (from q p e)) → NextRead q e S m r r'
-then_passed h x = rw h (on x)
-
--- an item ends past its place
-pub word_on : {q : List ℕ} (n p m : ℕ) → WordTo q p n m → p ≤ m
-word_on n p m s = omega arith
-
-pub ty_on : {q : List ℕ} (A : Ty) (p m : ℕ) → TyTo q p A m → p ≤ m
-ty_on A p m s = omega arith
-
-pub expr_on : {q : List ℕ} (f : Expr) (p m : ℕ) → ExprTo q p f m → p ≤ m
-expr_on f p m s = omega arith
 
 -- what follows an item's code and one word
 pub after_word : {q : List ℕ} (p : ℕ) {n m : ℕ} → WordTo q (p + 1) n m → m ≡ p + 2

@@ -10,9 +10,9 @@ use Rattle.layout.specs.Places.{int_at, bool_at, var_at, etvar_at, arrow_at, for
 use Rattle.std.specs.Prelude.{Result, Ok, Err}
 use Rattle.reading.specs.declared.Fault.{Fault}
 use Rattle.reading.specs.Faults.{bad_shape}
-use Rattle.reading.specs.Items.{from, Inside, TyTo, past, refused, Word, NameRead, TypeRead, TypeThen}
+use Rattle.reading.specs.Items.{from, Inside, TyTo, past, refused, Word, NameRead, TypeRead}
 use Rattle.reading.proofs.Depth.{written_upto, type_eq}
-use Rattle.reading.proofs.Items.{one_or, one_of_end, one_of_is, one_of_none, reads_at, reads_map, reads_two, code_at, after_word, type_name_read}
+use Rattle.reading.proofs.Items.{TypeThen, one_or, one_of_end, one_of_is, one_of_none, reads_at, reads_map, reads_two, code_at, after_word, type_name_read}
 
 pub type_end : {q : List ℕ} {p e : ℕ} {f : Fault} → Inside q p e → (e ≤ p) × (f ≡ bad_shape p) → TypeRead q p e (Err f)
 type_end {q} {p} {e} i h = rw h.1 (reads_at (type_eq written_upto p _ ∙ one_of_end _ q p e h.0) (refused i.low))

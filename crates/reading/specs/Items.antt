@@ -2,7 +2,7 @@
 use Rattle.std.specs.Prelude.{ℕ, ◌+◌, ◌≤◌, ◌<◌, ◌≡◌, List, length, get_or, Result, Ok, Err, MatchResult}
 use Rattle.std.proofs.Math.Seq.{slice}
 use Rattle.definition.specs.Syntax.{Ty, Expr}
-use Rattle.definition.specs.Question.{Read, got, Reader, within, written, type, expression}
+use Rattle.definition.specs.Question.{Read, got, within, written, type, expression}
 use Rattle.layout.specs.Places.{size, expr_size, WordAt, TyAt, ExprAt}
 use Rattle.reading.specs.declared.Fault.{Fault}
 use Rattle.reading.specs.Faults.{bad_shape, fault_of}
@@ -40,16 +40,6 @@ pub data Reads {A : Type 0} (q : List ℕ) (e : ℕ) (Stands : A → ℕ → Typ
   past : {a : A} {m : ℕ} → Stands a m → m ≤ e → Reads q e Stands (Ok m) (got a m (from q m e))
   refused : {f : Fault} → f.at ≤ e → Reads q e Stands (Err f) (fault_of f)
 
--- a next item can be read
-abbrev pub Onward : List ℕ → ℕ → Result ℕ Fault → Type 0
-Onward q e (Ok p) = Inside q p e
-Onward q e (Err f) = Unit {0}
-
--- the answer after the one before: the next item's where that was read, and the same fault where it was not
-pub data NextRead {A : Type 0} (q : List ℕ) (e : ℕ) (Stands : ℕ → A → ℕ → Type 0) (m : Reader A) : Result ℕ Fault → Result ℕ Fault → Type 0 where
-  on : {p : ℕ} {r : Result ℕ Fault} → Reads q e (Stands p) r (m p (from q p e)) → NextRead q e Stands m (Ok p) r
-  off : {f : Fault} → NextRead q e Stands m (Err f) (Err f)
-
 -- ## Each reader
 
 -- the word w stands at p, before the section's end
@@ -71,9 +61,3 @@ TypeRead q p e r = Reads q e (TyTo q p) r (type written p (from q p e))
 
 abbrev pub ExprRead : List ℕ → ℕ → ℕ → Result ℕ Fault → Type 0
 ExprRead q p e r = Reads q e (ExprTo q p) r (expression p (from q p e))
-
-abbrev pub TypeThen : List ℕ → ℕ → Result ℕ Fault → Result ℕ Fault → Type 0
-TypeThen q e before r = NextRead q e (TyTo q) (type written) before r
-
-abbrev pub ExprThen : List ℕ → ℕ → Result ℕ Fault → Result ℕ Fault → Type 0
-ExprThen q e before r = NextRead q e (ExprTo q) expression before r

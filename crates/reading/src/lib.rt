@@ -5,7 +5,7 @@
 ghost use Rattle.std.specs.Prelude.{◌≡◌, ◌≤◌, length};
 ghost use Rattle.layout.specs.Kinds.{kind_number};
 ghost use Rattle.reading.specs.Faults.{refusal_code, bad_shape};
-ghost use Rattle.reading.specs.Items.{Inside, WordRead, NameRead, WithinRead, TypeRead, ExprRead, Onward, ExprThen};
+ghost use Rattle.reading.specs.Items.{Inside, WordRead, NameRead, WithinRead, TypeRead, ExprRead};
 ghost use Rattle.reading.specs.Contexts.{EntryRead, ContextRead};
 ghost use Rattle.reading.specs.Sections.{UnknownRead, Whole, SectionRead};
 ghost use Rattle.reading.specs.Questions.{Planned, SectionsRead, ReadIs};
@@ -119,7 +119,7 @@ fn read_within(q: &[u32], p: usize, end: usize, low: u32, high: u32) -> Result<u
     Err(Fault::bad_shape(p))
 }
 
-// Reads a type at p. What a reader calls last it makes anew, by Ok and ?: a result that is passed on whole is copied with its padding, and
+// Reads a type at p. What a call of itself gives last is made anew, by Ok and ?: passed on whole it would be copied with its padding, and
 // the processor waits for that at each level.
 fn read_type(q: &[u32], p: usize, end: usize) -> Result<usize, Fault>
     requires { Inside q.now p end }
@@ -131,7 +131,7 @@ fn read_type(q: &[u32], p: usize, end: usize) -> Result<usize, Fault>
         // Int, Bool
         1 | 2 => Ok(next),
         // Var, ETVar
-        3 | 4 => Ok(read_name(q, next, end)?),
+        3 | 4 => read_name(q, next, end),
         // Arrow
         5 => Ok(read_type(q, read_type(q, next, end)?, end)?),
         // Forall
@@ -141,7 +141,7 @@ fn read_type(q: &[u32], p: usize, end: usize) -> Result<usize, Fault>
 }
 
 // Reads an expression at p.
-#[cycle(read_expr_then_expr)]
+#[cycle(read_expr_sub_expr)]
 fn read_expr(q: &[u32], p: usize, end: usize) -> Result<usize, Fault>
     requires { Inside q.now p end }
     ensures { ExprRead q.now p end result }
@@ -150,15 +150,15 @@ fn read_expr(q: &[u32], p: usize, end: usize) -> Result<usize, Fault>
     let next = p + 1;
     match code {
         // Var
-        16 => Ok(read_name(q, next, end)?),
+        16 => read_name(q, next, end),
         // App
-        17 => then_expr(q, read_expr(q, next, end), end),
+        17 => sub_expr(q, sub_expr(q, next, end)?, end),
         // Abs
-        18 => then_expr(q, read_type(q, read_name(q, next, end)?, end), end),
+        18 => sub_expr(q, read_type(q, read_name(q, next, end)?, end)?, end),
         // TApp, Ann
-        19 | 21 => Ok(read_type(q, read_expr(q, next, end)?, end)?),
+        19 | 21 => Ok(read_type(q, sub_expr(q, next, end)?, end)?),
         // TAbs
-        20 => then_expr(q, read_name(q, next, end), end),
+        20 => sub_expr(q, read_name(q, next, end)?, end),
         // LitInt: two words, any
         22 => {
             let past = p + 3;
@@ -168,26 +168,26 @@ fn read_expr(q: &[u32], p: usize, end: usize) -> Result<usize, Fault>
             Ok(past)
         }
         // LitBool
-        23 => Ok(read_within(q, next, end, 0, 1)?),
+        23 => read_within(q, next, end, 0, 1),
         // Let
-        24 => then_expr(q, then_expr(q, read_name(q, next, end), end), end),
+        24 => sub_expr(q, sub_expr(q, read_name(q, next, end)?, end)?, end),
         // If
-        25 => then_expr(q, then_expr(q, read_expr(q, next, end), end), end),
+        25 => sub_expr(q, sub_expr(q, sub_expr(q, next, end)?, end)?, end),
         // BinOp
-        26 => then_expr(q, then_expr(q, read_within(q, next, end, 1, 12), end), end),
+        26 => sub_expr(q, sub_expr(q, read_within(q, next, end, 1, 12)?, end)?, end),
         _ => Err(Fault::bad_shape(p)),
     }
 }
 
-// Goes on to an expression where the item before it was read. With ? in its place each call in read_expr would keep its result at a place
-// of its own: tried, 368 bytes of stack a level, where docs/STACK.md allows 224.
-#[cycle(read_expr_then_expr)]
+// The same inside an expression, made anew as in read_type. Inlined, for its calls share a place on the stack: where read_expr called itself,
+// each call had a place of its own, 368 bytes a level, and docs/STACK.md allows 224.
+#[cycle(read_expr_sub_expr)]
 #[inline(always)]
-fn then_expr(q: &[u32], before: Result<usize, Fault>, end: usize) -> Result<usize, Fault>
-    requires { Onward q.now end before }
-    ensures { ExprThen q.now end before result }
+fn sub_expr(q: &[u32], p: usize, end: usize) -> Result<usize, Fault>
+    requires { Inside q.now p end }
+    ensures { ExprRead q.now p end result }
 {
-    Ok(read_expr(q, before?, end)?)
+    Ok(read_expr(q, p, end)?)
 }
 
 // Reads an entry at p.

@@ -15,10 +15,10 @@ use Rattle.judging.specs.Asking.{Asks, as_infer, as_check, as_app, as_sub, as_in
 use Rattle.judging.specs.Nodes.{NodesAt, no_nodes, a_node}
 use Rattle.judging.specs.declared.Ask.{Ask}
 use Rattle.judging.proofs.Nodes.{◌+++◌, nodes_join}
-use Rattle.writing.specs.Spelling.{Just, ◌Then◌, AfterCount}
+use Rattle.writing.specs.Spelling.{Just, ◌Then◌, AfterCount, Spelled}
 use Rattle.writing.specs.Types.{OfPart}
-use Rattle.writing.specs.Contexts.{OfEntries}
-use Rattle.writing.proofs.Spelling.{join}
+use Rattle.writing.specs.Contexts.{OfEntries, OfContext}
+use Rattle.writing.proofs.Spelling.{join, spelled_as, spelled_first, spelled_second}
 use Rattle.writing.proofs.After.{span}
 use Rattle.report.specs.declared.Node.{Node}
 use Rattle.report.specs.Nodes.{Filled, fills, NodeRead, Three, NodeSaid, said_words, OfNode, OfNodes, output_at}
@@ -90,6 +90,27 @@ node_parts {q} {w} {t} {m} {n} y ws x =
     let p : Sections q w t n.input n.left n.right n.output n.result s.rest =
     rw (y.in_at, y.in_n, y.left, y.right, y.out_at, y.out_n, y.result, k.in_at, k.in_n, k.left_is, k.right_is, k.out_at, k.out_n, k.ty_is, k.kind_is) s.parts in
     rw e (join (n.rule ∷ n.kids ∷ n.place ∷ []) s.rest (record { is = refl }) p)
+
+pub record Parts (q w : List ℕ) (t : ℕ) (n : Node) : Type 0 where
+  pub input : Spelled q w t (AfterCount (OfContext q w t n.input))
+  pub left : Spelled q w t (AfterCount (OfPart q w t n.left))
+  pub right : Spelled q w t (AfterCount (OfPart q w t n.right))
+  pub output : Spelled q w t (AfterCount (OfContext q w t n.output))
+  pub result : Spelled q w t (AfterCount (OfPart q w t n.result))
+
+pub node_spelled : {q w : List ℕ} {t m : ℕ} {n : Node} → NodeRead w m n → Spelled q w t (OfNode q w t m) → Parts q w t n
+node_spelled y x =
+    let from_input = spelled_second (spelled_as (node_parts y) x) in
+    let from_left = spelled_second from_input in
+    let from_right = spelled_second from_left in
+    let from_output = spelled_second from_right in
+    record {
+      input = spelled_first from_input;
+      left = spelled_first from_left;
+      right = spelled_first from_right;
+      output = spelled_first from_output;
+      result = spelled_second from_output;
+    }
 
 pub output_read : {w : List ℕ} {m : ℕ} {n : Node} → NodeRead w m n → n.output ≡ output_at w m
 output_read {w} {m} {n} y = ap (λ (i : ℕ). span i n.output.n) y.out_at ∙ ap (λ (i : ℕ). span (get_or w (m + 7) 0) i) y.out_n

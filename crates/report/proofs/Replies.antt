@@ -1,10 +1,9 @@
 -- For callers: from how a run ended to what is reported.
 use mathlib.Core.Path.{refl}
-use mathlib.Core.List.{List}
-use Prim.Native.Nat.{ℕ, ◌≤◌}
+use Prim.Native.Nat.{◌≤◌}
 use native.Mathlib.Omega.{arith}
 use lib.ListN.{length}
-use Rattle.std.specs.Prelude.{Result as Outcome}
+use Rattle.std.specs.Prelude.{List, Result as Outcome, ℕ}
 use Rattle.definition.specs.Syntax.{Ty, Ctx, Tree, leaf, ◌&◌, TypeError}
 use Rattle.definition.specs.Rules.{Result}
 use Rattle.definition.specs.Reply.{error_words, result_words}

@@ -54,8 +54,8 @@ tree_section {r = r} x = record {
   is = refl;
 }
 
-pub result_parts : {q w : List ℕ} {high : ℕ} {gives : Bool} {ty : Option ℕ} {a : Answer} (kind : ℕ) → ty ≡ then_some gives a.ty → gives ≡ gives_type kind
-    → (ws : List ℕ) → OfResult q w kind a high ws → ResultParts q w a.st.top ty a high ws
+pub result_parts : {q w : List ℕ} {high : ℕ} {gives : Bool} {ty : Option ℕ} {a : Answer} (kind : ℕ) → ty ≡ then_some gives a.ty
+    → gives ≡ gives_type kind → (ws : List ℕ) → OfResult q w kind a high ws → ResultParts q w a.st.top ty a high ws
 unfolding result_words
 result_parts kind f e ws x =
     let y = x.stands in
@@ -63,8 +63,8 @@ result_parts kind f e ws x =
 
 -- ## A type error: two sections
 
-pub error_parts : {q w : List ℕ} {t : ℕ} {p : program.Shown} {s : Option ℕ × Option ℕ} → s ≡ slots_of p → (ws : List ℕ) → Spells (ShownAt q w t p) error_words ws
-    → ErrorParts q w t s ws
+pub error_parts : {q w : List ℕ} {t : ℕ} {p : program.Shown} {s : Option ℕ × Option ℕ} → s ≡ slots_of p → (ws : List ℕ)
+    → Spells (ShownAt q w t p) error_words ws → ErrorParts q w t s ws
 unfolding error_words
 error_parts {q} {w} {t} f ws x = rw (x.is, f) (go x.stands)
   where

@@ -34,8 +34,8 @@ struct Node {
     result: Option<usize>,
 }
 
-// Reads the node at m. Its kind is as in the question of the judgement: 1 infer, 2 check, 3 infer_app, 4 subtype, 5 inst_l, 6 inst_r; a
-// result only for 1 and 3.
+// Reads the node at m. Its kind, a word that is asked here alone and so by its number, is as in the question of the judgement: 1 infer,
+// 2 check, 3 infer_app, 4 subtype, 5 inst_l, 6 inst_r; a result only for 1 and 3.
 fn node_at(work: &[u32], m: usize) -> Node
     requires { m + 12 ≤ length work.now }
     ensures { NodeRead work.now m result }

@@ -280,8 +280,7 @@ pub fn parameter(
         return Ok(st);
     }
     let applied = substitution::apply_ctx_type(q, work, st, g, p)?;
-    let same = walks::same_type(q, work, applied.st.top, 0, a, applied.ty);
-    if same {
+    if walks::same_type(q, work, applied.st.top, 0, a, applied.ty) {
         return Ok(applied.st);
     }
     Err(Stop::fail(

@@ -14,13 +14,6 @@ pub record Summing (q w : List ℕ) (t : ℕ) (S₀ S : List ℕ → Type 0) (su
   pub small : sum ≤ 2 ^ 32
   pub whole : (m : ℕ) → Long (2 ^ 32) S m → Long (2 ^ 32) S₀ (min (sum + m) (2 ^ 32))
 
-pub sum_first : {q w : List ℕ} {t : ℕ} {S₀ S : List ℕ → Type 0} → ((ws : List ℕ) → S₀ ws → S ws) → Spelled q w t S₀ → Summing q w t S₀ S 0
-sum_first f x = record {
-  rest = spelled_as f x;
-  small = omega arith;
-  whole = λ m k. record { is = λ ws y. let e = k.is ws (f ws y) in omega arith };
-}
-
 module _ {q w : List ℕ} {t : ℕ} {S₀ S : List ℕ → Type 0} {sum : ℕ} where
   pub sum_next : {One S' : List ℕ → Type 0} {n sum' : ℕ} → ((ws : List ℕ) → S ws → (One Then S') ws) → Summing q w t S₀ S sum
       → Long (2 ^ 32) One n → sum' ≡ min (sum + n) (2 ^ 32) → Summing q w t S₀ S' sum'

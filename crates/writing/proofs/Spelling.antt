@@ -48,11 +48,6 @@ module _ {S S' : List ℕ → Type 0} (f : (ws : List ℕ) → S ws → S' ws) w
   pub long_as : {limit n : ℕ} → Long limit S' n → Long limit S n
   long_as k = record { is = λ ws x. k.is ws (f ws x) }
 
--- what was written keeps the slice's length
-pub writes_length : {S : List ℕ → Type 0} {q w : List ℕ} {t : ℕ} {s s' : List ℕ} {p z : ℕ} → Writable q w t S s p → Writes S s s' p z
-    → length s' ≡ length s
-writes_length x k = past_length (k.past _ x.spelled.says x.room)
-
 -- ## One after the other
 
 pub join : {S S' : List ℕ → Type 0} (us vs : List ℕ) → S us → S' vs → (S Then S') (us ++ vs)
@@ -105,7 +100,6 @@ writable_inner x = let y = x.spelled.says in record {
 
 -- the count is a word, and has its place
 pub record Counted (s s₁ : List ℕ) (p z : ℕ) : Type 0 where
-  pub long : length s₁ ≡ length s
   pub first : p + 1 ≤ z
   pub place : p < length s₁
   pub small : z ≤ 4294967295
@@ -117,7 +111,6 @@ counted x k =
     let y = writable_inner x in
     let a = k.past _ y.spelled.says y.room in
     record {
-      long = past_length a;
       first = omega (arith, a.next);
       place = omega (arith, past_length a, y.room.room);
       small = omega (arith, a.next, y.room.small);
@@ -141,9 +134,6 @@ writes_section k e = record {
       (record { room = omega (arith, r.room, ap length x.is); small = omega (arith, r.small, ap length x.is) }))
       e);
 }
-
-pub spelled_inner : {S : List ℕ → Type 0} {q w : List ℕ} {t : ℕ} → Spelled q w t (AfterCount S) → Spelled q w t S
-spelled_inner x = record { ground = x.ground; words = x.says.inner; says = x.says.spelled }
 
 -- a length that stops at 2 ^ 32, from one that stops there or one before
 pub long_section : {S : List ℕ → Type 0} {limit n k : ℕ} → Long limit S n → 2 ^ 32 ≤ limit + 1 → k ≡ min (1 + n) (2 ^ 32) → Long (2 ^ 32) (AfterCount S) k

@@ -95,8 +95,8 @@ module _ {q w : List ℕ} {t : ℕ} {s : List ℕ} {p low k : ℕ} {v : Form} (f
   pub step_base : {s₁ : List ℕ} → (v ≡ Form.Int) ⊎ (v ≡ Form.Bool) → s₁ ≡ set s p k → Steps q w t s s₁ p low (record { at = p + 1; low = low + 1 })
   step_base h e = record { is = λ T d o. step_whole (k ∷ []) (omega arith) (base_words (coded v form code) (omega (arith, base_form h)) T d) e }
 
-  pub step_name : {a : TyVar} {s₁ s₂ : List ℕ} → Named q w t (get_or s low 0) a → (v ≡ Form.Var) ⊎ (v ≡ Form.ETVar) → s₁ ≡ set s p k → s₂ ≡ set s₁ (p + 1) a.0
-      → Steps q w t s s₂ p low (record { at = p + 2; low = low + 1 })
+  pub step_name : {a : TyVar} {s₁ s₂ : List ℕ} → Named q w t (get_or s low 0) a → (v ≡ Form.Var) ⊎ (v ≡ Form.ETVar)
+      → s₁ ≡ set s p k → s₂ ≡ set s₁ (p + 1) a.0 → Steps q w t s s₂ p low (record { at = p + 2; low = low + 1 })
   unfolding ty_words ty_code
   step_name {a} {s₂ = s₂} n h e f = record {
     is = by_name (λ T. p + size T ≤ low + 1 → Stepped q w t s s₂ p low T (record { at = p + 2; low = low + 1 }))
@@ -105,12 +105,13 @@ module _ {q w : List ℕ} {t : ℕ} {s : List ℕ} {p low k : ℕ} {v : Form} (f
         (λ b d o. step_whole (k ∷ a.0 ∷ []) (omega arith) (named_words 4 [] (code ∙ form.is (etvar b) d) (n.of_etvar b d)) (name_put s p k a.0 e f));
   }
 
-  pub step_arrow : {l m : ℕ} {s₁ s₂ s₃ : List ℕ} → LeftOf q w t (get_or s low 0) l → RightOf q w t (get_or s low 0) m → v ≡ Form.Arrow → low < length s
-      → s₁ ≡ set s p k → s₂ ≡ set s₁ low m → s₃ ≡ set s₂ (low - 1) l
+  pub step_arrow : {l m : ℕ} {s₁ s₂ s₃ : List ℕ} → LeftOf q w t (get_or s low 0) l → RightOf q w t (get_or s low 0) m
+      → v ≡ Form.Arrow → low < length s → s₁ ≡ set s p k → s₂ ≡ set s₁ low m → s₃ ≡ set s₂ (low - 1) l
       → Steps q w t s s₃ p low (record { at = p + 1; low = low - 1 })
   unfolding ty_words ty_code
   step_arrow {l} {m} {s₁} {s₂} {s₃} x y h within e f g = record {
-    is = by_arrow (λ T. p + size T ≤ low + 1 → Stepped q w t s s₃ p low T (record { at = p + 1; low = low - 1 })) (coded v form code) (code ∙ ap form_number h) go;
+    is = by_arrow (λ T. p + size T ≤ low + 1 → Stepped q w t s s₃ p low T (record { at = p + 1; low = low - 1 }))
+        (coded v form code) (code ∙ ap form_number h) go;
   }
     where
       go : (A B : Ty) → Den q w t (get_or s low 0) (arrow A B) → p + size (arrow A B) ≤ low + 1
@@ -140,12 +141,13 @@ module _ {q w : List ℕ} {t : ℕ} {s : List ℕ} {p low k : ℕ} {v : Form} (f
             waits = more dl (more dr (no_more end) refl) refl;
           }
 
-  pub step_forall : {a : TyVar} {m : ℕ} {s₁ s₂ s₃ : List ℕ} → Named q w t (get_or s low 0) a → BodyOf q w t (get_or s low 0) m → v ≡ Form.Forall → low < length s
-      → s₁ ≡ set s p k → s₂ ≡ set s₁ (p + 1) a.0 → s₃ ≡ set s₂ low m
+  pub step_forall : {a : TyVar} {m : ℕ} {s₁ s₂ s₃ : List ℕ} → Named q w t (get_or s low 0) a → BodyOf q w t (get_or s low 0) m
+      → v ≡ Form.Forall → low < length s → s₁ ≡ set s p k → s₂ ≡ set s₁ (p + 1) a.0 → s₃ ≡ set s₂ low m
       → Steps q w t s s₃ p low (record { at = p + 2; low = low })
   unfolding ty_words ty_code
   step_forall {a} {m} {s₁} {s₂} {s₃} n y h within e f g = record {
-    is = by_forall (λ T. p + size T ≤ low + 1 → Stepped q w t s s₃ p low T (record { at = p + 2; low = low })) (coded v form code) (code ∙ ap form_number h) go;
+    is = by_forall (λ T. p + size T ≤ low + 1 → Stepped q w t s s₃ p low T (record { at = p + 2; low = low }))
+        (coded v form code) (code ∙ ap form_number h) go;
   }
     where
       go : (b : syntax.TyVar) (A : Ty) → Den q w t (get_or s low 0) (forall b A) → p + size (forall b A) ≤ low + 1

@@ -1,4 +1,5 @@
 // Words into the report: types with no recursion, sections, contexts; each function writes at a place and returns the next.
+// A struct of slice and place would be no plainer: contracts speak of the slice before and after, and of both places.
 #![tactic(auto)]
 
 ghost use Rattle.std.specs.Prelude.{◌≡◌, ◌+◌, ◌≤◌, ◌^◌, min, length};
@@ -152,7 +153,7 @@ pub fn write_section(store: Store, part: Option<usize>, report: &mut [u32], at: 
     next
 }
 
-// Whether entries of this kind hold a type: VarBnd and SETVarBnd do.
+// Whether entries of this kind, a word of work, hold a type: VarBnd and SETVarBnd do.
 fn holds_type(kind: usize) -> bool
     ensures { result ≡ holds_type kind }
 {

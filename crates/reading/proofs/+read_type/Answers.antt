@@ -1,8 +1,7 @@
 -- `read_type` meets its contract.
 use native.Mathlib.Omega.{arith}
 use Rattle.std.proofs.lemmas.Grind.{common_steps}
-use Rattle.reading.specs.Items.{on, off}
-use Rattle.reading.proofs.Items.{passed}
+use Rattle.reading.proofs.Items.{passed, on, off}
 use Rattle.reading.proofs.Types.{type_end, type_base, type_named, type_forall, type_arrow, type_none}
 use Rattle.reading.proofs.+read_type.Goals as goal
 
@@ -12,13 +11,8 @@ returns-in_err-code t c = rw (passed c.from_residual.ensures.1) (type_end c.requ
 pub returns-in-1 : goal.returns-in-1
 returns-in-1 t c = type_base c.requires c.in_ok-code.ensures (omega arith)
 
-pub returns-in_err-read_name-in-3 : goal.returns-in_err-read_name-in-3
-returns-in_err-read_name-in-3 t c =
-    rw (passed c.from_residual-in_err-read_name-in-3.ensures.1)
-    (type_named c.requires c.in_ok-code.ensures c.in_err-read_name-in-3.ensures (omega arith))
-
-pub returns-in_ok-read_name-in-3 : goal.returns-in_ok-read_name-in-3
-returns-in_ok-read_name-in-3 t c = type_named c.requires c.in_ok-code.ensures c.in_ok-read_name-in-3.ensures (omega arith)
+pub returns-in-3 : goal.returns-in-3
+returns-in-3 t c = type_named c.requires c.in_ok-code.ensures c.read_name-in-3.ensures (omega arith)
 
 pub returns-in_err-read_type-in-5 : goal.returns-in_err-read_type-in-5
 returns-in_err-read_type-in-5 t c =

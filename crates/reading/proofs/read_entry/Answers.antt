@@ -1,8 +1,7 @@
 -- `read_entry` meets its contract.
 use native.Mathlib.Omega.{arith}
 use Rattle.std.proofs.lemmas.Grind.{common_steps}
-use Rattle.reading.specs.Items.{on, off}
-use Rattle.reading.proofs.Items.{passed}
+use Rattle.reading.proofs.Items.{passed, on, off}
 use Rattle.reading.proofs.Contexts.{entry_end, entry_none, entry_typed, entry_named}
 use Rattle.reading.proofs.read_entry.Goals as goal
 

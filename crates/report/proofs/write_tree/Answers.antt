@@ -1,7 +1,5 @@
 -- `write_tree` meets its contract.
-use mathlib.Core.Path.{◌∙◌, ap}
 use native.Mathlib.Omega.{arith}
-use lib.ListN.{length, length-set}
 use Rattle.writing.proofs.Spelling.{writable_as, writable_first, writable_inner, counted, writes_section}
 use Rattle.writing.proofs.Loops.{put_first, put_next, put_end}
 use Rattle.writing.proofs.After.{stands_before}
@@ -26,10 +24,6 @@ overflow_sub-next c = omega (arith, (counted c.requires.0 (put_end (nodes_none c
 pub put-requires : goal.put-requires
 put-requires c =
     let k = counted c.requires.0 (put_end (nodes_none c.loop-m-test.false) c.loop-m.invariant.0) in (k.place, omega (arith, k.small))
-
-pub shape_of-report : goal.shape_of-report
-shape_of-report c =
-    ap length c.put.ensures ∙ simp length-set (counted c.requires.0 (put_end (nodes_none c.loop-m-test.false) c.loop-m.invariant.0)).long
 
 pub returns : goal.returns
 returns c = search (writes_section, put_end, nodes_none)

@@ -10,14 +10,14 @@ pub returns-in_err-applied : goal.returns-in_err-applied
 returns-in_err-applied c =
     rw (spent_is _ c.from_residual.ensures.1) (parameter_spent c.if-not-h.false c.apply_ctx_type.ensures c.in_err-applied.was)
 
-pub same_type-same-requires : goal.same_type-same-requires
-same_type-same-requires c = comparing c.requires c.apply_ctx_type.ensures c.in_ok-applied.was
+pub same_type-requires : goal.same_type-requires
+same_type-requires c = comparing c.requires c.apply_ctx_type.ensures c.in_ok-applied.was
 
-pub returns-then-same : goal.returns-then-same
-returns-then-same c =
-    parameter_same c.if-not-h.false c.apply_ctx_type.ensures c.in_ok-applied.was c.same_type-same.ensures c.requires.two.room c.if-same.true
+pub returns-then-same_type : goal.returns-then-same_type
+returns-then-same_type c =
+    parameter_same c.if-not-h.false c.apply_ctx_type.ensures c.in_ok-applied.was c.same_type.ensures c.requires.two.room c.if-same_type.true
 
 pub returns : goal.returns
 returns c =
-    rw c.fail.ensures (parameter_other c.if-not-h.false c.apply_ctx_type.ensures c.in_ok-applied.was c.same_type-same.ensures c.requires.two.room
-    c.if-same.false)
+    rw c.fail.ensures (parameter_other c.if-not-h.false c.apply_ctx_type.ensures c.in_ok-applied.was c.same_type.ensures c.requires.two.room
+    c.if-same_type.false)

@@ -6,5 +6,7 @@ use Rattle.writing.proofs.context_length.Given as goal
 
 abbrev pub invariant-loop-k : goal.invariant-loop-k
 invariant-loop-k l =
-    Summing l.store.q.now l.store.work.now l.store.top (OfContext l.store.q.now l.store.work.now l.store.top l.g)
-    (EntriesFrom l.store.q.now l.store.work.now l.store.top l.g l.k) l.total
+    let q = l.store.q.now in
+    let w = l.store.work.now in
+    let t = l.store.top in
+    Summing q w t (OfContext q w t l.g) (EntriesFrom q w t l.g l.k) l.total

@@ -6,5 +6,7 @@ use Rattle.writing.proofs.write_context.Given as goal
 
 abbrev pub invariant-loop-k : goal.invariant-loop-k
 invariant-loop-k l =
-    Putting l.store.q.now l.store.work.now l.store.top (OfContext l.store.q.now l.store.work.now l.store.top l.g) l.initial.report
-    l.initial.next (EntriesFrom l.store.q.now l.store.work.now l.store.top l.g l.k) l.report l.next
+    let q = l.store.q.now in
+    let w = l.store.work.now in
+    let t = l.store.top in
+    Putting q w t (OfContext q w t l.g) l.initial.report l.initial.next (EntriesFrom q w t l.g l.k) l.report l.next
