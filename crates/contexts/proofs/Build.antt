@@ -8,7 +8,6 @@ use lib.ListN.{length, length-append, take, get_or}
 use Rattle.std.proofs.lemmas.List.{append-nil, length-take-le, take_more}
 use Rattle.definition.specs.Syntax.{TyVar, Entry, Ctx}
 use Rattle.definition.specs.Contexts.{k_etvar, ◌▹◌, replace}
-use Rattle.layout.specs.States.{raised}
 use Rattle.layout.specs.Words.{Keep}
 use Rattle.layout.specs.Denotes.{AsEntry, SmallEntry, PutEntry, CtxAt, nil, cons, Run}
 use Rattle.layout.specs.declared.Entry as program
@@ -17,17 +16,13 @@ use Rattle.layout.specs.declared.State.{State}
 use Rattle.layout.proofs.Words.{keep_refl, keep_trans, keep_less}
 use Rattle.layout.proofs.Denotes.{den_frame, entry_stays, ctx_move, ctx_join, ctx_frame}
 use Rattle.contexts.specs.Search.{Split}
-use Rattle.contexts.specs.Build.{Past, Grown, Spliced, SmallEntries, no_entries, small_entry, AsEntries, no_more, then, Put, Pushed, Replaced}
+use Rattle.contexts.specs.Build.{Grown, Spliced, SmallEntries, no_entries, small_entry, AsEntries, no_more, then, Put, Pushed, Replaced}
 use Rattle.contexts.specs.declared.Opened.{Opened}
 use Rattle.contexts.proofs.Search.{split_right}
 
 -- words change in one part, then in the next
 pub keep_then : {a b d : ℕ} {w w₁ w₂ : List ℕ} → a ≤ b → b ≤ d → Keep a b w w₁ → Keep b d w₁ w₂ → Keep a d w w₂
 keep_then l m k h = keep_trans (keep_less (le_refl _) m k) (keep_less l (le_refl _) h)
-
--- the run of n entries at top
-pub past_run : {s e : State} {n : ℕ} → e ≡ raised s (4 * n) → Past s n (record { st = e; g = record { at = s.top; n = n } })
-past_run e = rw e (record { at = refl; count = refl; top = refl; low = refl; left = refl; fresh = refl })
 
 -- a run of as many entries as it says
 pub as_many : {w w' : List ℕ} {s : State} {n : ℕ} {o : Opened} → Grown w w' s n o → Grown w w' s o.g.n o

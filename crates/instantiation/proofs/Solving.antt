@@ -2,10 +2,9 @@
 use mathlib.Core.Path.{◌≡◌, refl, sym, ◌∙◌, ap}
 use mathlib.Core.Bool.{Bool, true, false, true≢false}
 use mathlib.Core.List.{List, ◌∷◌, []}
-use Prim.Native.Nat.{ℕ, ◌+◌, ◌*◌, ◌≤◌, ◌<◌, ◌^◌}
+use Prim.Native.Nat.{ℕ, ◌+◌, ◌*◌}
 use native.Mathlib.Nat.{le_refl}
 use native.Mathlib.Omega.{arith}
-use lib.ListN.{length}
 use Rattle.std.specs.Prelude.{Err}
 use Rattle.definition.specs.Syntax as syntax
 use Rattle.definition.specs.Syntax.{Ty, int, etvar, setvar_bnd, Ctx, Side, Judgement, inst, Rule, leaf, children, occurs_check}
@@ -22,11 +21,9 @@ use Rattle.layout.specs.declared.Span.{Span}
 use Rattle.layout.specs.declared.State.{State}
 use Rattle.layout.specs.declared.TyVar.{TyVar}
 use Rattle.layout.proofs.Words.{keep_less}
-use Rattle.types.specs.Reading.{Held, HeldNamed, Mono, Named}
+use Rattle.types.specs.Reading.{HeldNamed, Mono, Named}
 use Rattle.rules.proofs.TypeForms.{is_etvar}
 use Rattle.walks.specs.Walks.{Occurs}
-use Rattle.types.proofs.Held.{room_held}
-use Rattle.contexts.specs.Build.{Space}
 use Rattle.contexts.specs.Search.{Before}
 use Rattle.contexts.proofs.Build.{replace_one}
 use Rattle.judging.specs.Asking.{here, inst_ask, RulePre}
@@ -43,7 +40,7 @@ use Rattle.judging.proofs.Entries.{as_solved}
 use Rattle.judging.proofs.Chain.{begin, built, refuses, room_on, room_within}
 use Rattle.instantiation.specs.Sides.{FormPre, Meets, SolvePre, ReachPre, SolvedBy}
 use Rattle.instantiation.proofs.Equations.{leaf_mono, occurs_is, solved_is, reach_is}
-use Rattle.rules.proofs.Standing.{unknown_named, room_space, ref_small}
+use Rattle.rules.proofs.Standing.{unknown_named}
 use Rattle.rules.proofs.Premises.{ends}
 
 -- ## A context that was built by solving an unknown is a rule's output
@@ -73,22 +70,6 @@ module _ {q w : List ℕ} {s : State} {g : Span} (sd : Side) (a t : ℕ) (pre : 
 
   pub side_unknown : HeldNamed q w s.top a
   side_unknown = unknown_named pre.room asked.unknown
-
-  pub side_held : Held q w s.top t
-  side_held = room_held pre.room asked.den
-
-  pub side_run : g.at + 4 * g.n ≤ length w
-  side_run = omega (arith, asked.run.below, pre.room.fits, pre.room.low)
-
-  space : Space w s g 1
-  space = room_space pre.room g 1 asked.run (omega arith)
-
-  -- to be solved by the type, or by the unknown
-  pub space_type : (Space w s g 1) × (t < 2 ^ 32)
-  space_type = (space, ref_small pre.room asked.den)
-
-  pub space_unknown : (Space w s g 1) × (a < 2 ^ 32)
-  space_unknown = (space, ref_small pre.room asked.unknown)
 
 -- ## The unknown a against a type without parts
 

@@ -23,10 +23,10 @@ use Rattle.judging.specs.declared.Bad.{Bad}
 use Rattle.judging.specs.declared.Here.{Here}
 use Rattle.judging.specs.declared.Rule as program
 use Rattle.judging.specs.declared.Stop.TheVariants.{Fail, Spent}
-use Rattle.judging.specs.Asking.{here, Asks, Ready, RulePre}
+use Rattle.judging.specs.Asking.{here, Asks, Ready}
 use Rattle.judging.specs.Nodes.{NodesAt, no_nodes}
 use Rattle.judging.specs.Names.{rule_of}
-use Rattle.judging.specs.Ending.{Step, Landed, Failed, fired, refused, out, RunsR, Judged, Fires}
+use Rattle.judging.specs.Ending.{Step, Landed, Failed, fired, refused, out, RunsR, Judged}
 use Rattle.judging.proofs.Nodes.{nodes_frame, nodes_join, nodes_at, ◌+++◌}
 use Rattle.judging.proofs.Steps.{NotDone, Came, came, else_ends}
 
@@ -128,7 +128,3 @@ fires {q} {w} {w₁} {s} {ts} s₁ g₁ ty r {u} {C} {Δ} so rm few rn dn R e =
       room = rm;
     } in
     record { keep = so.keep; ends = rw e (fired refl refl few y) }
-
--- work is as long as it was
-pub as_long : {m : Here} {q w w' : List ℕ} {s : State} {g : Span} {a : Ask} {z : Step} → RulePre q w s g a → Fires m q w w' s g a z → length w' ≡ length w
-as_long rule fires = sym (fires.run _ rule.asks).keep.long

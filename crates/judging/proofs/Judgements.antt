@@ -25,16 +25,11 @@ use Rattle.judging.specs.declared.Stop.TheVariants.{Fail, Spent}
 use Rattle.judging.specs.Asking.{here, Asks, JudgePre, RulePre}
 use Rattle.judging.specs.Nodes.{NodeAt, NodesAt, no_nodes, a_node}
 use Rattle.judging.specs.Ending.{Step, Landed, landed, failed, ran_out, RunsJ, charge_of, Judged, Fires}
-use Rattle.judging.specs.Leaving.{Entering, inner, ConcludePre, leaving, Concludes, unpaid_out, wrote, failing}
+use Rattle.judging.specs.Leaving.{inner, ConcludePre, leaving, Concludes, unpaid_out, wrote, failing}
 use Rattle.judging.proofs.Nodes.{asks_frame, asks_run, nodes_frame}
 use Rattle.judging.proofs.Steps.{step_none, step_stop, step_fail, step_unpaid, step_paid, FiredBy, fired_by, FailsBy, refused_by, out_by, failed_again}
 
 -- ## Entering
-
-pub may_enter : {q w : List ℕ} {s : State} {g : Span} {a : Ask} → JudgePre q w s g a → Entering s g
-may_enter pre =
-    let b = (asks_run pre.asks).below in
-    record { node = λ h. omega (arith, pre.ready.fits); entries = omega (arith, pre.ready.over, pre.ready.low, pre.ready.cap) }
 
 pub judge_spent : {m : Here} {q w : List ℕ} {s : State} {g : Span} {a : Ask} → s.left ≤ g.n → Judged m q w w s g a (Err Spent)
 unfolding charged

@@ -47,9 +47,6 @@ module _ {q w : List ℕ} {s : State} {k : ℕ} (room : Room q w s k) where
   pub ref_small : {r : ℕ} {T : Ty} → Den q w s.top r T → r < 2 ^ 32
   ref_small d = omega (arith, den_small d, room.fits, room.low, room.cap)
 
-  pub room_less : (k₁ : ℕ) → k₁ ≤ k → Room q w s k₁
-  room_less k₁ h = record { base = room.base; fits = omega (arith, room.fits); low = room.low; cap = room.cap; names = room.names }
-
   -- what was built leaves room
   pub built_room : {w₁ : List ℕ} {s₁ : State} {n : ℕ} (k₁ : ℕ) → Built w w₁ s s₁ n → n + k₁ ≤ k → s₁.fresh + 2 * s₁.left ≤ CAP → Room q w₁ s₁ k₁
   built_room k₁ b h f =

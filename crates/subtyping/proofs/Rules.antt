@@ -13,7 +13,6 @@ use Rattle.layout.specs.Sizes.{INT}
 use Rattle.layout.specs.Denotes.{Den}
 use Rattle.layout.specs.declared.Span.{Span}
 use Rattle.layout.specs.declared.State.{State}
-use Rattle.types.proofs.Held.{room_held}
 use Rattle.judging.specs.Asking.{here, Asks, sub_ask, inst_ask, JudgePre, RulePre}
 use Rattle.judging.specs.Ending.{Step, shown_two, Failed, Judged, Fires}
 use Rattle.judging.specs.Names.{rule_of}
@@ -34,17 +33,10 @@ use Rattle.rules.specs.declared.Side as program
 use Rattle.layout.proofs.Denotes.{int_den}
 use Rattle.rules.proofs.Premises.{inst_pre, else_fires, through_ends}
 use Rattle.rules.proofs.Ways.{start, finish}
-use Rattle.subtyping.specs.Arms.{rule_inst, BothHeld, Comes, ArmFits, fits_refl, fits_inst, fits_none, ArmChosen, ArmPre}
+use Rattle.subtyping.specs.Arms.{rule_inst, Comes, ArmFits, fits_refl, fits_inst, fits_none, ArmChosen, ArmPre}
 use Rattle.instantiation.specs.Sides.{on_side}
 use Rattle.subtyping.specs.declared.Arm.{Arm}
 use Rattle.subtyping.specs.declared.Arm.TheVariants as arm
-
--- ## What is asked
-
-pub both_held : {q w : List ℕ} {s : State} {g : Span} {a b : ℕ} → RulePre q w s g (sub_ask a b) → BothHeld q w s.top a b
-both_held {a = a} {b = b} pre =
-    let v = sub_asked a b pre.asks in
-    record { left = room_held pre.room v.left; right = room_held pre.room v.right }
 
 -- ## By the side
 

@@ -1,6 +1,6 @@
 -- `clear` meets its contract.
 use native.Mathlib.Omega.{arith}
-use mathlib.Core.Path.{◌≡◌, sym}
+use mathlib.Core.Path.{◌≡◌}
 use Prim.Native.Nat.{◌+◌, ◌*◌, ◌/◌}
 use Rattle.entry.proofs.Clearing.{Front, front_more}
 use Rattle.entry.proofs.clear.Goals as goal

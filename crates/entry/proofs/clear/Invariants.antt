@@ -1,6 +1,5 @@
 -- `clear` meets its contract.
-use Prim.Native.Nat.{◌+◌, ◌*◌, ◌≤◌, ◌-◌}
-use lib.ListN.{length}
+use Prim.Native.Nat.{◌*◌}
 use Rattle.entry.proofs.Clearing.{Front}
 use Rattle.entry.proofs.clear.Given as goal
 
