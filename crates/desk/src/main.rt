@@ -1,7 +1,7 @@
 // The desk program: a question's words from standard input, and two lines, the reply's four numbers and the report's words.
 #![tactic(auto)]
 
-ghost use Rattle.std.specs.Prelude.{◌≡◌, length, take, ◌≤◌};
+ghost use Rattle.std.specs.Prelude.{length, take, ◌≤◌};
 ghost use Rattle.desk.specs.Said.{Lines, Said};
 ghost use Rattle.replies.specs.Numbers.{written_of};
 
@@ -19,7 +19,6 @@ const OUTPUT: usize = 11 * (4 + sized::REPORT) + 2;
 // What main lends.
 #[derive(Drop)]
 struct Lent {
-    bytes: [u8; INPUT],
     buffers: Buffers,
     out: [u8; OUTPUT],
 }
@@ -37,28 +36,29 @@ fn say(out: &mut [u8; OUTPUT], r: Reply, report: &[u32; sized::REPORT]) -> usize
 impl Lent {
     fn new() -> Lent {
         Lent {
-            bytes: [0; INPUT],
             buffers: Buffers::new(),
             out: [0; OUTPUT],
         }
     }
 
-    // What is said to the first n bytes, at the start of out; how many bytes it has.
-    fn answer(&mut self, n: usize) -> usize
-        requires { n ≤ length self.old.bytes }
-        ensures said { Said (take n self.old.bytes) self.new.out result }
+    // What is said to the input, at the start of out; how many bytes it has.
+    fn answer(&mut self, input: &[u8]) -> usize
+        ensures said { Said input.now self.new.out result }
         ensures within { result ≤ 45102 }
     {
-        let r = self.buffers.answer(&self.bytes[..n], sized::REPORT);
+        let r = self.buffers.answer(input, sized::REPORT);
         say(&mut self.out, r, &self.buffers.report)
     }
 
-    // Reads, answers and prints.
-    fn desk<R: Read, W: Write>(&mut self, from: &mut R, to: &mut W) -> io::Result<()>
-        requires { 8196 ≤ length self.old.bytes }
-    {
-        let n = input::read_full(from, &mut self.bytes)?;
-        let z = self.answer(n);
+    // Reads into bytes, answers and prints.
+    fn desk<R: Read, W: Write>(
+        &mut self,
+        from: &mut R,
+        to: &mut W,
+        bytes: &mut [u8; INPUT],
+    ) -> io::Result<()> {
+        let n = input::read_full(from, bytes)?;
+        let z = self.answer(&bytes[..n]);
         to.write_all(&self.out[..z])
     }
 }
@@ -66,6 +66,7 @@ impl Lent {
 fn main(rt: HostRuntime) -> io::Result<()> {
     let mut from = rt.stdin();
     let mut to = rt.stdout();
+    let mut bytes = [0; INPUT];
     let mut lent = Lent::new();
-    lent.desk(&mut from, &mut to)
+    lent.desk(&mut from, &mut to, &mut bytes)
 }

@@ -75,7 +75,6 @@ fn rule_line(out: &mut [u8; OUTPUT], at: usize, r: Reply, report: &[u32; sized::
 // What main lends.
 #[derive(Drop)]
 struct Lent {
-    bytes: [u8; INPUT],
     buffers: Buffers,
     out: [u8; OUTPUT],
 }
@@ -84,29 +83,30 @@ struct Lent {
 impl Lent {
     fn new() -> Lent {
         Lent {
-            bytes: [0; INPUT],
             buffers: Buffers::new(),
             out: [0; OUTPUT],
         }
     }
 
-    // What is said to the first n bytes, at the start of out; how many bytes it has.
-    fn answer(&mut self, n: usize) -> usize
-        requires { n ≤ length self.old.bytes }
-        ensures said { PartsSaid (take n self.old.bytes) self.new.out result }
+    // What is said to the input, at the start of out; how many bytes it has.
+    fn answer(&mut self, input: &[u8]) -> usize
+        ensures said { PartsSaid input.now self.new.out result }
         ensures within { result ≤ 230963 }
     {
-        let r = self.buffers.answer(&self.bytes[..n], sized::REPORT);
+        let r = self.buffers.answer(input, sized::REPORT);
         let z = say(&mut self.out, r, &self.buffers.report);
         rule_line(&mut self.out, z, r, &self.buffers.report)
     }
 
-    // Reads, answers and prints.
-    fn parts<R: Read, W: Write>(&mut self, from: &mut R, to: &mut W) -> io::Result<()>
-        requires { 8196 ≤ length self.old.bytes }
-    {
-        let n = input::read_full(from, &mut self.bytes)?;
-        let z = self.answer(n);
+    // Reads into bytes, answers and prints.
+    fn parts<R: Read, W: Write>(
+        &mut self,
+        from: &mut R,
+        to: &mut W,
+        bytes: &mut [u8; INPUT],
+    ) -> io::Result<()> {
+        let n = input::read_full(from, bytes)?;
+        let z = self.answer(&bytes[..n]);
         to.write_all(&self.out[..z])
     }
 }
@@ -114,6 +114,7 @@ impl Lent {
 fn main(rt: HostRuntime) -> io::Result<()> {
     let mut from = rt.stdin();
     let mut to = rt.stdout();
+    let mut bytes = [0; INPUT];
     let mut lent = Lent::new();
-    lent.parts(&mut from, &mut to)
+    lent.parts(&mut from, &mut to, &mut bytes)
 }
