@@ -313,5 +313,6 @@ pub fn copy(words: &mut [u32], from: usize, to: usize, n: usize)
     requires { (from + n ≤ to) × (to + n ≤ length words.old) }
     ensures { Copied words.old words.new from to n }
 {
-    words.copy_within(from..from + n, to);
+    let (below, above) = words.split_at_mut(to);
+    above[..n].copy_from_slice(&below[from..from + n]);
 }
