@@ -36,12 +36,12 @@ use Rattle.judging.proofs.Asking.{InstAsked, inst_asked, asks_inst}
 use Rattle.judging.proofs.Steps.{NotDone, Came}
 use Rattle.judging.proofs.Chain.{Sofar, begin, built, gave, on, stopped}
 use Rattle.rules.specs.Going.{PlainOut}
-use Rattle.rules.specs.Parting.{PartPre, Parts}
+use Rattle.rules.specs.Parting.{Parts}
 use Rattle.rules.specs.declared.Parted.{Parted}
 use Rattle.rules.proofs.TypeForms.{IsArrow, is_arrow}
 use Rattle.rules.proofs.Standing.{held_is, unknown_named, built_room, passed_built, built_on}
 use Rattle.rules.proofs.Premises.{inst_pre, else_fires, then_done, then_stop, through_ends}
-use Rattle.rules.proofs.Parting.{part_pre, parts_built}
+use Rattle.rules.proofs.Parting.{parts_built}
 use Rattle.instantiation.specs.Sides.{FormPre}
 use Rattle.instantiation.proofs.Equations.{arr_is}
 
@@ -62,9 +62,6 @@ module _ {q w : List ℕ} {s : State} {g : Span} {sd : Side} {a t : ℕ} (pre : 
 
   pub arr_unknown : HeldNamed q w s.top a
   arr_unknown = unknown_named pre.pre.room (askd pre.pre.asks).unknown
-
-  pub arr_part : PartPre q w s g
-  arr_part = part_pre pre.pre.room pre.pre.names (askd pre.pre.asks).run
 
 -- it is asked, its type's halves and its unknown's name are read, and the unknown is parted; t is the cycle's measure
 pub record Halved (t : ℕ) : Type 0 where

@@ -24,7 +24,6 @@ use Rattle.layout.proofs.Words.{keep_less}
 use Rattle.types.specs.Reading.{HeldNamed, Mono, Named}
 use Rattle.rules.proofs.TypeForms.{is_etvar}
 use Rattle.walks.specs.Walks.{Occurs}
-use Rattle.contexts.specs.Search.{Before}
 use Rattle.contexts.proofs.Build.{replace_one}
 use Rattle.judging.specs.Asking.{here, inst_ask, RulePre}
 use Rattle.judging.specs.Ending.{Step, shown_one, Failed, RunsR, Fires}
@@ -38,7 +37,7 @@ use Rattle.judging.specs.declared.TypeError.TheVariants.{OccursCheck}
 use Rattle.judging.proofs.Asking.{InstAsked, inst_asked}
 use Rattle.judging.proofs.Entries.{as_solved}
 use Rattle.judging.proofs.Chain.{begin, built, refuses, room_on, room_within}
-use Rattle.instantiation.specs.Sides.{FormPre, Meets, SolvePre, ReachPre, SolvedBy}
+use Rattle.instantiation.specs.Sides.{FormPre, SolvePre, ReachPre, SolvedBy}
 use Rattle.instantiation.proofs.Equations.{leaf_mono, occurs_is, solved_is, reach_is}
 use Rattle.rules.proofs.Standing.{unknown_named}
 use Rattle.rules.proofs.Premises.{ends}
@@ -60,9 +59,9 @@ closed {w = w} {w₁} {s} {g} R e ex room run d c O eq =
     rw c.is
     (ends c.o.st c.o.g R e refl (omega arith) (built c.o.st begin kp (omega arith) lo (omega arith))
     (room_on c.o.st 4 room kp (omega arith) (omega arith) (omega (arith, room.fits)) (omega (arith, room.names)))
-    (rw ex at ((replace_one c.replaced run (as_solved c.made d)))) O (rw (lf, ff) eq))
+    (rw ex at (replace_one c.replaced run (as_solved c.made d))) O (rw (lf, ff) eq))
 
--- ## What the code may read and build
+-- ## What the code may read
 
 module _ {q w : List ℕ} {s : State} {g : Span} (sd : Side) (a t : ℕ) (pre : RulePre q w s g (inst_ask sd a t)) where
   asked : InstAsked q w s.top g sd a t pre.j
@@ -126,20 +125,6 @@ module _ {q w : List ℕ} {s : State} {g : Span} {sd : Side} {a t : ℕ} (pre : 
       let v = asked sd a t pre.pre in
       let u = is_etvar v.T (pre.code v.T v.den) in
       unknown_named pre.pre.room (rw u.is at v.den)
-
-  module _ {x y : TyVar} {r : Bool} (nx : Named q w s.top a x) (ny : Named q w s.top t y) (bf : Before w g (ty x) (ty y) r) where
-    meets : {r' : Bool} → r ≡ r' → Meets q w s g a t r'
-    meets e = record {
-      is = λ Γ u v run d f.
-          ap (λ (i : syntax.TyVar). before Γ i v) (sym (nx.of_etvar u d)) ∙ ap (λ (i : syntax.TyVar). before Γ (ty x) i) (sym (ny.of_etvar v f))
-          ∙ sym (bf.is run) ∙ e;
-    }
-
-    pub meet_reach : r ≡ true → ReachPre sd q w s g a t
-    meet_reach e = record { form = pre; early = meets e }
-
-    pub meet_solve : r ≡ false → SolvePre sd q w s g a t
-    meet_solve e = record { pre = pre.pre; plain = λ T d. let c = pre.code T d in omega arith; late = meets e }
 
 pub reach_done : {m : Here} {q w w₁ : List ℕ} {s : State} {g : Span} {sd : Side} {a t : ℕ} {n : program.Rule} {y : TyVar} {z : Step} → ReachPre sd q w s g a t → Named q w s.top t y
     → rule_of n ≡ inst_reach sd → SolvedBy m w w₁ s g y a n z → Fires m q w w₁ s g (inst_ask sd a t) z

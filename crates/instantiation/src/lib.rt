@@ -182,6 +182,7 @@ fn inst_on(
 }
 
 // Both, over the side: enters, asks the rule that fits, leaves.
+// Not a function that takes the rule as a closure, for subtype too: the closure would state inst_rule's two clauses again.
 #[cycle(inst_l_inst_r)]
 pub fn inst(
     q: &[u32],

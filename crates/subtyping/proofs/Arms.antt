@@ -24,6 +24,7 @@ use Rattle.types.specs.declared.Form.{Form}
 use Rattle.types.proofs.Codes.{base_case, name_case, base_form, parts_form, same_form}
 use Rattle.walks.specs.Walks.{Occurs}
 use Rattle.walks.proofs.Names.{names}
+use Rattle.walks.proofs.Same.{forms_agree, forms_differ}
 use Rattle.judging.specs.declared.Rule.{Rule}
 use Rattle.judging.specs.declared.Rule.TheVariants as rule
 use Rattle.rules.proofs.Choices.{no_arrow, no_forall}
@@ -134,11 +135,14 @@ is_var : (T : Ty) → ty_code T ≡ 3 → IsVar T
 unfolding ty_code
 is_var T e = name_case (λ S. ty_code S ≡ 3 → IsVar S) T (omega arith) (omega arith) (λ a f. record { a = a; is = refl }) (λ a f. absurd (omega arith)) e
 
-pub alike_apart : {q w : List ℕ} {t a b : ℕ} (f g : Form) → (form_number f ≡ form_number g → ⊥) → FormOf q w t a f → FormOf q w t b g
+pub alike_apart : {q w : List ℕ} {t a b : ℕ} (f g : Form) → true ≡ not (sameb the_type f g) → FormOf q w t a f → FormOf q w t b g
     → AlikeTypes q w t a b None
-alike_apart f g h ta tb = record { is = λ A B d e. by_none (apart A B (λ x. h (ta.is A d ∙ x ∙ sym (tb.is B e)))) }
+alike_apart f g h ta tb = record { is = λ A B d e. by_none (apart A B (λ x. forms_differ f g h (ta.is A d ∙ x ∙ sym (tb.is B e)))) }
 
-module _ {q w : List ℕ} {t a b : ℕ} {f g : Form} (eq : f ≡ g) (ta : FormOf q w t a f) (tb : FormOf q w t b g) where
+module _ {q w : List ℕ} {t a b : ℕ} (f g : Form) (one_form : false ≡ not (sameb the_type f g)) (ta : FormOf q w t a f) (tb : FormOf q w t b g) where
+  eq : f ≡ g
+  eq = forms_agree f g one_form
+
   codes : (A B : Ty) → Den q w t a A → Den q w t b B → ty_code A ≡ ty_code B
   codes A B d e = sym (ta.is A d) ∙ ap form_number eq ∙ tb.is B e
 
@@ -222,6 +226,9 @@ module _ {q w : List ℕ} {t a : ℕ} {x : TyVar} (f : Form) (ta : FormOf q w t 
     yes = λ e A B d f. record { x = (unknown A d).a; is = (unknown A d).is; not_in_lem = not_in_lem oc A B d f };
     no = λ e A B d f. let z : ◌≡◌ {A = ℕ} 0 1 = cc in absurd (omega arith);
   }
+
+-- the four ways in which two forms tell an arm
+pub ruleset formed = (both_arrows, right_forall, left_forall, no_form)
 
 -- ## The first arm that is there
 

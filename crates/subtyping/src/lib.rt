@@ -1,6 +1,7 @@
 // Subtyping: subtype with its rules. References a and b denote the left and the right type.
 #![tactic(auto)]
 
+ghost use Rattle.std.specs.Prelude.{◌≡◌};
 ghost use Rattle.judging.specs.Asking.{sub_ask, JudgePre, RulePre};
 ghost use Rattle.judging.specs.Ending.{Judged, Fires};
 ghost use Rattle.subtyping.specs.Arms.{BothHeld, AlikeTypes, Absent, Formed, ByUnknown, ArmChosen, ArmPre};
@@ -50,7 +51,7 @@ fn absent(store: Store, a: usize, b: usize) -> bool
 }
 
 // The arm that the forms of the two types tell, in 000's order; Neither where none does.
-#[tactic(auto, using(crate::specs::Arms::both_arrows, crate::specs::Arms::right_forall, crate::specs::Arms::left_forall, crate::specs::Arms::no_form))]
+#[tactic(auto, using(crate::proofs::Arms::formed))]
 fn by_form(k: Form, m: Form) -> Arm
     ensures { Formed k m result }
 {

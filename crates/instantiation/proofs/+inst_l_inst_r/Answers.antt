@@ -9,7 +9,7 @@ use Rattle.instantiation.proofs.Sides.{other_is, arr_rule, all_rule}
 use Rattle.instantiation.proofs.Handing.{hands}
 use Rattle.instantiation.proofs.Choosing.{choose_solve}
 use Rattle.instantiation.proofs.Binder.{all_open, all_small, under_on}
-use Rattle.instantiation.proofs.Arrow.{Halved, arr_held, arr_unknown, arr_part, arr_first, arr_else₁, arr_apply, arr_spent, arr_second, arr_else₂, arr_done}
+use Rattle.instantiation.proofs.Arrow.{Halved, arr_held, arr_unknown, arr_first, arr_else₁, arr_apply, arr_spent, arr_second, arr_else₂, arr_done}
 use Rattle.instantiation.proofs.+inst_l_inst_r.Goals.{inst_arr-After-other}
 use Rattle.instantiation.proofs.+inst_l_inst_r.Goals as goal
 
@@ -100,9 +100,6 @@ inst_arr-right_of-right-requires t c = search arr_held
 
 pub inst_arr-name_of-x-requires : goal.inst_arr-name_of-x-requires
 inst_arr-name_of-x-requires t c = search arr_unknown
-
-pub inst_arr-part-o-requires : goal.inst_arr-part-o-requires
-inst_arr-part-o-requires t c = search arr_part
 
 pub inst_arr-inst_on-requires : goal.inst_arr-inst_on-requires
 inst_arr-inst_on-requires t c = arr_first (halved t (goal.at.inst_arr-inst_on-requires t c).After-other)
