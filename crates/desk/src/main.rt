@@ -1,7 +1,7 @@
 // The desk program: a question's words from standard input, and two lines, the reply's four numbers and the report's words.
 #![tactic(auto)]
 
-ghost use Rattle.std.specs.Prelude.{length, take, ◌≤◌};
+ghost use Rattle.std.specs.Prelude.{◌≤◌};
 ghost use Rattle.desk.specs.Said.{Lines, Said};
 ghost use Rattle.replies.specs.Numbers.{written_of};
 

@@ -1,5 +1,5 @@
 -- Kind 7: what the judgement came to, with its type resolved.
-use mathlib.Core.Path.{◌≡◌, refl, sym, ap, ◌∙◌}
+use mathlib.Core.Path.{◌≡◌, refl, sym, ◌∙◌}
 use mathlib.Core.List.{List}
 use Prim.Native.Nat.{ℕ, ◌+◌, ◌-◌, ◌*◌, ◌≤◌}
 use native.Mathlib.Omega.{arith}
@@ -14,21 +14,20 @@ use Rattle.substitution.specs.Calls.{ApplyPre, Applied}
 use Rattle.layout.specs.declared.Made.{Made}
 use Rattle.layout.specs.declared.Spent as layout
 use Rattle.std.specs.Prelude.{Result as Outcome, Ok, Err, IsErrAnd}
-use Rattle.std.proofs.lemmas.Result.{err_from_is_err_and}
 use Rattle.substitution.proofs.Passing.{reached, ended, room_after}
 use Rattle.judging.specs.declared.Answer.{Answer}
 use Rattle.judging.specs.declared.Stop.{Stop}
 use Rattle.judging.specs.declared.Stop.TheVariants.{Spent}
 use Rattle.judging.specs.Ending.{Step, Landed, EndsJ, landed, failed, ran_out, charge_of}
 use Rattle.judging.proofs.Nodes.{nodes_frame, nodes_at}
-use Rattle.judging.proofs.Steps.{NotDone, no_done, not_done, spent_is, came}
+use Rattle.judging.proofs.Steps.{NotDone, no_done, not_done, stop_is, came}
 use Rattle.entry.specs.Entry.{resolved, ResolvePre, Resolves}
 
 -- it did not end well
 pub resolve_else : {q w : List ℕ} {s : State} {z r : Step} {e : Stop} → z ≡ Err e → IsErrAnd r (λ y. y ≡ e) → Resolves q w w s z r
 unfolding and_then charged
 resolve_else {q} {w} {s} {z} {r} d f =
-    let i : r ≡ z = (let p = err_from_is_err_and r f in p.1 ∙ ap (λ (x : Stop). Err x) p.2) ∙ sym d in
+    let i : r ≡ z = stop_is r f ∙ sym d in
     let nd = not_done d in
     rw i (record { ends = λ R h. go h nd; charge = λ R h e. same h nd e })
   where
@@ -53,7 +52,7 @@ module _ {q w : List ℕ} {s : State} {z : Step} {a : Answer} (d : z ≡ Ok a) w
     -- the application ran out
     pub resolve_spent : {x : layout.Spent} {r : Step} → y ≡ Err x → IsErrAnd r (λ e. e ≡ Spent) → Resolves q w w₁ s z r
     unfolding and_then ◌>>=◌ charged
-    resolve_spent {r = r} e f = rw (spent_is r f) (record { ends = λ R h. rw (stops R h) ran_out; charge = λ R h _. rw (stops R h) refl })
+    resolve_spent {r = r} e f = rw (stop_is r f) (record { ends = λ R h. rw (stops R h) ran_out; charge = λ R h _. rw (stops R h) refl })
       where
         stops : (R : Out Result) → EndsJ q w s z R → resolved R ≡ stop
         stops R h = let c = came h d in let f = ended (call.makes c.Δ c.land.run c.C c.land.den) e in rw (c.is, f.is) refl

@@ -93,7 +93,7 @@ pub fn form_of(q: &[u32], ex: usize) -> Form
     }
 }
 
-// The name of a Var.
+// The name of a Var. Here and below no type that question and work are put into: each is asked once, of one expression.
 pub fn var_of(q: &[u32], work: &[u32], ex: usize) -> TmVar
     requires { Shaped q.now work.now ex 16 }
     ensures { VarOf q.now ex result }

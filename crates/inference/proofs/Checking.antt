@@ -35,7 +35,7 @@ use Rattle.judging.specs.declared.Rule.TheVariants as rule
 use Rattle.judging.specs.declared.Stop.{Stop}
 use Rattle.judging.specs.Asking.{here, EntryFrom, infer_ask, check_ask}
 use Rattle.judging.specs.Ending.{Step, Judged, RunsJ, Fires}
-use Rattle.judging.proofs.Steps.{not_done}
+use Rattle.judging.proofs.Steps.{not_done, stop_is}
 use Rattle.judging.proofs.Asking.{check_asked}
 use Rattle.rules.specs.declared.Body.{Body}
 use Rattle.rules.specs.Built.{Built}
@@ -48,7 +48,7 @@ use Rattle.rules.proofs.Choices.{chk_lam_lem, chk_all_lem, chk_sub_lem}
 use Rattle.rules.proofs.Ways.{Way, den_on, otherwise, back, went, grown, WayOn, onward, there, turn, finish}
 use Rattle.inference.specs.Rules.{relate, Related}
 use Rattle.inference.proofs.Starting.{outcome, begin_check}
-use Rattle.inference.proofs.Premise.{At, Starts, handed, Premise, ask_infer, ask_check, Returns, returns}
+use Rattle.inference.proofs.Premise.{At, Starts, Premise, ask_infer, ask_check, Returns, returns}
 use Rattle.inference.proofs.Related.{regroup}
 
 -- ## The rule that was chosen
@@ -118,7 +118,7 @@ module _ (m : Here) {q w : List ℕ} {s : State} {g : Span} {ex r : ℕ} (pre : 
       lam_passes k = o.passes _ _ _ (check_asked ex r k).run (written (lam_parts k).type) (lam_left k)
 
       pub lam_end : {e : Stop} {z : Step} → y ≡ Err e → IsErrAnd z (λ x. x ≡ e) → Fires m q w w₁ s g (check_ask ex r) z
-      lam_end d h = rw (handed h) (record { run = λ j k. there (λ v. v) Nothing _ _ (lam_way k) (lam_passes k) d })
+      lam_end d h = rw (stop_is _ h) (record { run = λ j k. there (λ v. v) Nothing _ _ (lam_way k) (lam_passes k) d })
 
       module _ {s₁ : State} (e : y ≡ Ok s₁) where
         lam_onward : {j : Judgement} (k : At pre.rule j) → WayOn (λ v. v) Nothing _ _ (lam_way k) w₁ s₁
@@ -252,7 +252,7 @@ module _ (m : Here) {q w : List ℕ} {s : State} {g : Span} {ex r : ℕ} (pre : 
       sub_runs k = let b = sub_back k in call₂.run _ _ _ b.run b.den (sub_type k)
 
       pub sub_unless : {e : Stop} {o : Step} → y ≡ Err e → IsErrAnd o (λ x. x ≡ e) → Fires m q w w₂ s g (check_ask ex r) o
-      sub_unless i h = rw (handed h ∙ sym i) (record { run = λ j k. otherwise _ _ (sub_way₂ k) (sub_runs k) (not_done i) })
+      sub_unless i h = rw (stop_is _ h ∙ sym i) (record { run = λ j k. otherwise _ _ (sub_way₂ k) (sub_runs k) (not_done i) })
 
       pub sub_done : {v : Answer} {o : Step} → y ≡ Ok v → PlainOut v.st v.g INT rule.ChkSub 2 o → Fires m q w w₂ s g (check_ask ex r) o
       unfolding children

@@ -20,7 +20,7 @@ use Rattle.judging.specs.declared.Rule.TheVariants as rule
 use Rattle.judging.specs.declared.Stop.{Stop}
 use Rattle.judging.specs.Asking.{here, infer_ask, check_ask}
 use Rattle.judging.specs.Ending.{Step, Judged, RunsJ, Fires}
-use Rattle.judging.proofs.Steps.{not_done}
+use Rattle.judging.proofs.Steps.{not_done, stop_is}
 use Rattle.judging.proofs.Asking.{infer_asked}
 use Rattle.rules.specs.Taking.{InferPre}
 use Rattle.rules.specs.Going.{TwoIn, PlainOut}
@@ -28,7 +28,7 @@ use Rattle.rules.proofs.Ways.{Way, otherwise, back, turn, finish}
 use Rattle.inference.specs.Rules.{relate, Related}
 use Rattle.inference.proofs.Starting.{outcome, begin_infer}
 use Rattle.inference.proofs.Related.{regroup}
-use Rattle.inference.proofs.Premise.{At, Starts, handed, Premise, ask_infer, ask_check, Returns, returns}
+use Rattle.inference.proofs.Premise.{At, Starts, Premise, ask_infer, ask_check, Returns, returns}
 
 module _ (m : Here) {q w : List ℕ} {s : State} {g : Span} {ex : ℕ} (pre : InferPre q w s g ex 25) {p : If} (parts : IfOf q ex p) where
   pub ifs : {j : Judgement} (k : At pre.rule j) → IsIf q ex p (infer_asked ex k).e
@@ -89,7 +89,7 @@ module _ (m : Here) {q w : List ℕ} {s : State} {g : Span} {ex : ℕ} (pre : In
           if_runs k = let b = if_back₃ k in call₄.run b.Δ (if_back₂ k).C b.C b.run (b.stays (if_back₂ k).den) b.den
 
           pub if_unless : {e : Stop} {o : Step} → y ≡ Err e → IsErrAnd o (λ x. x ≡ e) → Fires m q w w₄ s g (infer_ask ex) o
-          if_unless i h = rw (handed h ∙ sym i) (record { run = λ j k. otherwise _ _ (if_way₄ k) (if_runs k) (not_done i) })
+          if_unless i h = rw (stop_is _ h ∙ sym i) (record { run = λ j k. otherwise _ _ (if_way₄ k) (if_runs k) (not_done i) })
 
           pub if_done : {x : Answer} {o : Step} → y ≡ Ok x → PlainOut x.st x.g u.ty rule.InfIf 4 o → Fires m q w w₄ s g (infer_ask ex) o
           unfolding children

@@ -41,6 +41,7 @@ use Rattle.judging.specs.declared.Stop.TheVariants.{Spent}
 use Rattle.judging.specs.Asking.{here, EntryFrom, infer_ask, check_ask}
 use Rattle.judging.specs.Ending.{Step, Judged, Fires}
 use Rattle.judging.proofs.Asking.{infer_asked}
+use Rattle.judging.proofs.Steps.{stop_is}
 use Rattle.judging.proofs.Entries.{entry_small, as_tvar}
 use Rattle.rules.specs.declared.Lam.{Lam}
 use Rattle.rules.specs.Taking.{InferPre}
@@ -48,7 +49,7 @@ use Rattle.rules.specs.Going.{LamPre, LamIn, Two, DenOne, Instantiated, PlainOut
 use Rattle.rules.proofs.Standing.{room_space, infer_shaped}
 use Rattle.rules.proofs.Ways.{Way, went, grown, apply_pre, AppliedTo, apply_spent, apply_done, onward, there, finish}
 use Rattle.inference.proofs.Starting.{outcome, begin_infer}
-use Rattle.inference.proofs.Premise.{At, Starts, handed, Premise, ask_infer, ask_check, Returns, returns}
+use Rattle.inference.proofs.Premise.{At, Starts, Premise, ask_infer, ask_check, Returns, returns}
 
 -- ## InfAnn
 
@@ -147,7 +148,7 @@ module _ (m : Here) {q w : List ℕ} {s : State} {g : Span} {ex : ℕ} (pre : In
       -- the context was applied to its type
       module _ {w₃ : List ℕ} {v : Outcome Made layout.Spent} (ap : Applied q w₂ w₃ r.st r.g r.ty v) where
         pub tabs_spent : {x : layout.Spent} {y : Step} → v ≡ Err x → IsErrAnd y (λ u. u ≡ Spent) → Fires m q w w₃ s g (infer_ask ex) y
-        tabs_spent f h = rw (handed h) (record { run = λ j k. let b = tabs_back k in apply_spent _ b.way ap b.run b.den f })
+        tabs_spent f h = rw (stop_is _ h) (record { run = λ j k. let b = tabs_back k in apply_spent _ b.way ap b.run b.den f })
 
         module _ {t : Made} (f : v ≡ Ok t) where
           tabs_applied : {j : Judgement} (k : At pre.rule j) → let b = tabs_back k in AppliedTo _ b.way ap b.run b.den t.st t.ty
@@ -194,7 +195,7 @@ module _ (m : Here) {q w : List ℕ} {s : State} {g : Span} {ex : ℕ} (pre : In
 
     module _ {w₂ : List ℕ} {v : Outcome Made Stop} (o : Instantiated q w₁ w₂ r.st r.ty p.ty v) where
       pub tapp_end : {e : Stop} {y : Step} → v ≡ Err e → IsErrAnd y (λ u. u ≡ e) → Fires m q w w₂ s g (infer_ask ex) y
-      tapp_end f h = rw (handed h) (record {
+      tapp_end f h = rw (stop_is _ h) (record {
         run = λ j k. let b = tapp_back k in there (λ u. u.st) (DenOne q w₂) _ _ b.way (o.passes _ _ b.den (written (tapp k).type)) f;
       })
 

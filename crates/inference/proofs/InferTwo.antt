@@ -37,6 +37,7 @@ use Rattle.judging.specs.declared.Stop.TheVariants.{Spent}
 use Rattle.judging.specs.Asking.{here, EntryFrom, infer_ask, check_ask, app_ask}
 use Rattle.judging.specs.Ending.{Step, Judged, Fires}
 use Rattle.judging.proofs.Asking.{infer_asked}
+use Rattle.judging.proofs.Steps.{stop_is}
 use Rattle.judging.proofs.Entries.{entry_small, as_var}
 use Rattle.rules.specs.Taking.{InferPre}
 use Rattle.rules.specs.Going.{PlainOut, kept, KeepOut}
@@ -45,7 +46,7 @@ use Rattle.rules.proofs.Ways.{Way, grown, apply_pre, AppliedTo, apply_spent, app
 use Rattle.inference.specs.declared.Sides.{Sides}
 use Rattle.inference.specs.Rules.{inf_sides, infers, Operates}
 use Rattle.inference.proofs.Starting.{outcome, begin_infer}
-use Rattle.inference.proofs.Premise.{At, Starts, handed, Asked, Premise, ask_infer, ask_check, ask_app, Returns, returns}
+use Rattle.inference.proofs.Premise.{At, Starts, Asked, Premise, ask_infer, ask_check, ask_app, Returns, returns}
 
 -- ## InfApp
 
@@ -74,7 +75,7 @@ module _ (m : Here) {q w : List ℕ} {s : State} {g : Span} {ex : ℕ} (pre : In
     -- the context was applied to its type
     module _ {w₂ : List ℕ} {v : Outcome Made layout.Spent} (ap : Applied q w₁ w₂ r.st r.g r.ty v) where
       pub app_spent : {x : layout.Spent} {y : Step} → v ≡ Err x → IsErrAnd y (λ u. u ≡ Spent) → Fires m q w w₂ s g (infer_ask ex) y
-      app_spent f h = rw (handed h) (record { run = λ j k. let b = app_back k in apply_spent _ b.way ap b.run b.den f })
+      app_spent f h = rw (stop_is _ h) (record { run = λ j k. let b = app_back k in apply_spent _ b.way ap b.run b.den f })
 
       module _ {t : Made} (f : v ≡ Ok t) where
         pub app_applied : {j : Judgement} (k : At pre.rule j) → let b = app_back k in AppliedTo _ b.way ap b.run b.den t.st t.ty

@@ -1,10 +1,9 @@
 -- A premise of a rule: the judgement that is asked on a rule's way, and what follows from it whatever the rule.
-use mathlib.Core.Path.{◌≡◌, refl, sym, ◌∙◌, ap}
+use mathlib.Core.Path.{◌≡◌, refl, sym, ◌∙◌}
 use mathlib.Core.List.{List}
 use Prim.Native.Nat.{ℕ, ◌+◌, ◌*◌, ◌<◌}
 use native.Mathlib.Omega.{arith}
 use Rattle.std.specs.Prelude.{Ok, Err, IsErrAnd}
-use Rattle.std.proofs.lemmas.Result.{err_from_is_err_and}
 use Rattle.definition.specs.Syntax.{Ty, Expr, Ctx, Judgement, infer, check, infer_app, Trees, leaf}
 use Rattle.definition.specs.Run.{Out, M, ◌>>=◌}
 use Rattle.definition.specs.Rules.{Fired, Result, judge}
@@ -19,7 +18,7 @@ use Rattle.judging.specs.declared.Here.{Here}
 use Rattle.judging.specs.declared.Stop.{Stop}
 use Rattle.judging.specs.Asking.{here, Asks, as_infer, as_check, as_app, infer_ask, check_ask, app_ask, JudgePre, RulePre}
 use Rattle.judging.specs.Ending.{Step, Judged, Fires}
-use Rattle.judging.proofs.Steps.{not_done}
+use Rattle.judging.proofs.Steps.{not_done, stop_is}
 use Rattle.rules.proofs.Standing.{room_space}
 use Rattle.rules.proofs.Ways.{Way, asks_infer, asks_check, asks_app, otherwise, Back, back}
 use Rattle.inference.proofs.Starting.{outcome}
@@ -31,10 +30,6 @@ At {q} {w} {s} {g} {a} pre j = Asks q w s.top g a j
 -- how a rule begins that starts in s
 abbrev pub Starts : Here → List ℕ → List ℕ → State → Span → Judgement → M Fired → Type 0
 Starts m q w s g j f = Way q w w s s leaf (20 + 28 * g.n) (outcome m s j) f
-
--- what a `?` gives back is what ended the step before it
-pub handed : {r : Step} {e : Stop} → IsErrAnd r (λ y. y ≡ e) → r ≡ Err e
-handed {r} h = let p = err_from_is_err_and r h in p.1 ∙ ap (λ (x : Stop). Err x) p.2
 
 -- on the way y the judgement i is asked, by the code as b
 pub record Asked (m : Here) {q w w₁ : List ℕ} {s s₁ : State} {ts : Trees} {n : ℕ} {R : Out Fired} (i : Judgement) (f : Result → M Fired)
@@ -72,7 +67,7 @@ module _ {m : Here} {q w w₁ : List ℕ} {s s₁ : State} {g : Span} {a : Ask} 
   module _ {w₂ : List ℕ} {z : Step} (call : Judged m q w₁ w₂ s₁ g₁ b z) where
     -- it did not end well
     pub unless : {e : Stop} {r : Step} → z ≡ Err e → IsErrAnd r (λ y. y ≡ e) → Fires m q w w₂ s g a r
-    unless d h = rw (handed h ∙ sym d) (record { run = λ j k. otherwise _ _ (y j k) (call.run _ (p.at j k).asks) (not_done d) })
+    unless d h = rw (stop_is _ h ∙ sym d) (record { run = λ j k. otherwise _ _ (y j k) (call.run _ (p.at j k).asks) (not_done d) })
 
     -- it came back
     abbrev pub Returns : {j : Judgement} → At rule j → Answer → Type 0

@@ -3,17 +3,13 @@ use mathlib.Core.Path.{◌≡◌, sym, ◌∙◌}
 use mathlib.Core.List.{List}
 use Prim.Native.Nat.{ℕ}
 use Rattle.std.specs.Prelude.{Err, IsErr, IsErrAnd}
-use Rattle.std.proofs.lemmas.Result.{err_from_is_err_and}
 use Rattle.layout.specs.declared.Span.{Span}
 use Rattle.layout.specs.declared.State.{State}
 use Rattle.judging.specs.Ending.{Step, Fires}
 use Rattle.judging.specs.declared.Ask.{Ask}
 use Rattle.judging.specs.declared.Here.{Here}
 use Rattle.judging.specs.declared.Stop.{Stop}
-use Rattle.judging.proofs.Steps.{NotDone, not_done}
-
-pub stop_is : {x : Stop} (o : Step) → IsErrAnd o (λ e. e ≡ x) → o ≡ Err x
-stop_is o h = let p = err_from_is_err_and o h in rw p.2 at p.1
+use Rattle.judging.proofs.Steps.{NotDone, not_done, stop_is}
 
 -- a judgement that did not end well ends its rule
 pub hands : {m : Here} {q w w' : List ℕ} {s : State} {g : Span} {a : Ask} {z o : Step} {x : Stop} → z ≡ Err x

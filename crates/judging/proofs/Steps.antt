@@ -31,9 +31,9 @@ no_done a h = h a refl
 pub not_done : {z : Step} {e : Stop} → z ≡ Err e → NotDone z
 not_done e a d = let x : ◌≡◌ {A = ℕ} 0 1 = cc in absurd (omega arith)
 
--- where layout's Spent left by `?`
-pub spent_is : {Y : Type 0} (r : Outcome Y Stop) → IsErrAnd r (λ e. e ≡ Spent) → r ≡ Err Spent
-spent_is r h = let p = err_from_is_err_and r h in p.1 ∙ ap Err p.2
+-- what `?` hands on
+pub stop_is : {Y : Type 0} {x : Stop} (r : Outcome Y Stop) → IsErrAnd r (λ e. e ≡ x) → r ≡ Err x
+stop_is r h = let p = err_from_is_err_and r h in p.1 ∙ ap Err p.2
 
 -- a judgement that does not end well ends its rule
 pub else_ends : {q w' : List ℕ} {s s₁ : State} {z : Step} {R : Out Result} (k : Result → M Fired) → EndsJ q w' s₁ z R → NotDone z

@@ -22,7 +22,9 @@ pub struct Mode {
     pub applies_branches: bool,
 }
 
-// What a judgement runs in: the mode.
+// What a judgement runs in: the mode. Question, work and this are handed on one by one: a struct that lends work as `&mut` needs, at each
+// function, two clauses more, that it lends the same slice and the same question when it comes back. So are state and context: what applies
+// or builds a type goes on with another state in the same context.
 #[derive(Clone, Copy)]
 pub struct Here {
     pub manner: Mode,

@@ -2,7 +2,7 @@
 // rules of the tree's nodes.
 #![tactic(auto)]
 
-ghost use Rattle.std.specs.Prelude.{◌+◌, ◌*◌, ◌≤◌, length, take};
+ghost use Rattle.std.specs.Prelude.{◌+◌, ◌*◌, ◌≤◌, length};
 ghost use Rattle.parts.specs.Shown.{PartsSaid, SectionLines, PartLine, RulesOf, RuleLine};
 
 use replies::Reply;

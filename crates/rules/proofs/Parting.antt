@@ -5,14 +5,13 @@ use Prim.Native.Nat.{ℕ, suc, ◌+◌, ◌*◌, ◌≤◌}
 use native.Mathlib.Nat.{le_trans, le_refl}
 use native.Mathlib.Omega.{arith}
 use lib.ListN.{length}
-use Rattle.definition.specs.Syntax.{Ty, etvar, arrow, Ctx}
+use Rattle.definition.specs.Syntax.{Ty, etvar, arrow}
 use Rattle.definition.specs.Rules.{split}
-use Rattle.layout.specs.Sizes.{INT, CAP}
+use Rattle.layout.specs.Sizes.{INT}
 use Rattle.layout.specs.Names.{ty}
 use Rattle.layout.specs.States.{fresh_name, named, raised, Draws}
 use Rattle.layout.specs.Words.{Keep}
-use Rattle.layout.specs.Denotes.{Den, Run, Base}
-use Rattle.layout.specs.Room.{Room}
+use Rattle.layout.specs.Denotes.{Den, Base}
 use Rattle.layout.specs.declared.Drawn.{Drawn}
 use Rattle.layout.specs.declared.Entry.{Entry}
 use Rattle.layout.specs.declared.Key.{Key}
@@ -133,17 +132,6 @@ module _ {q w w₁ w₂ w₃ : List ℕ} {s p : State} {g : Span} {d e : Drawn} 
     parts in₁ = parted pre put put₂ put₃ en en₂ en₃ one.name (second_name one two) (rw is_past at in₁)
 
 -- ## Before and after
-
-pub part_pre : {q w : List ℕ} {s : State} {g : Span} {Γ : Ctx} → Room q w s (20 + 28 * g.n) → s.fresh + 2 * s.left + 2 ≤ CAP
-    → Run q w s.top g.at g.n Γ → PartPre q w s g
-part_pre room names run = record {
-  base = room.base;
-  below = run.below;
-  room = omega (arith, room.fits);
-  low = room.low;
-  cap = room.cap;
-  names = omega arith;
-}
 
 pub parts_built : {h : Here} {q w w' : List ℕ} {s : State} {g : Span} {a : TyVar} {o : Parted} → Parts h q w w' s g a o → Built w w' s o.st (4 * g.n + 20)
 parts_built p = let lf = p.left in record { keep = p.keep; up = p.up; low = p.low; less = omega arith; built = omega (arith, p.built) }

@@ -58,7 +58,8 @@ fn answer_words(question: &[u8], words: &mut [u32], work: &mut [u32], report: &m
     entry::check(&words[..n], BUDGET, work, report)
 }
 
-// Answers a question in what the caller lends, with the first words of the report slice for the report, as many as there is room for.
+// Answers a question in what the caller lends, with the first words of the report slice for the report, as many as there is room for. Of
+// slices, as it was promised: Buffers would ask more of callers.
 pub fn answer(
     question: &[u8],
     words: &mut [u32],

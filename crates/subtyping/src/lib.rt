@@ -1,7 +1,6 @@
 // Subtyping: subtype with its rules. References a and b denote the left and the right type.
 #![tactic(auto)]
 
-ghost use Rattle.std.specs.Prelude.{◌≡◌};
 ghost use Rattle.judging.specs.Asking.{sub_ask, JudgePre, RulePre};
 ghost use Rattle.judging.specs.Ending.{Judged, Fires};
 ghost use Rattle.subtyping.specs.Arms.{BothHeld, AlikeTypes, Absent, Formed, ByUnknown, ArmChosen, ArmPre};

@@ -6,7 +6,8 @@ use Rattle.expressions.specs.Forms.{an_ann, a_tapp}
 use Rattle.judging.specs.Ending.{Judged}
 use Rattle.judging.proofs.Whole.{whole_spent, whole_rule, whole_less, whole_leave, whole_left}
 use Rattle.rules.proofs.Standing.{infer_shaped}
-use Rattle.inference.proofs.Premise.{handed, unless, may_ask, space_back}
+use Rattle.judging.proofs.Steps.{stop_is}
+use Rattle.inference.proofs.Premise.{unless, may_ask, space_back}
 use Rattle.inference.proofs.Choosing.{of_literal}
 use Rattle.inference.proofs.Applying.{arr_held, arr_asks, arr_done, etvar_held, etvar_asks, etvar_done}
 use Rattle.inference.proofs.Checking.{lam_shaped, lam_held, lam_two, lam_end, lam_space, lam_asks, lam_done, all_pre, all_asks, all_done, sub_asks, sub_two, sub_unless, sub_done}
@@ -52,7 +53,7 @@ app_etvar-returns t c = etvar_done c.args.h c.requires c.name_of-a.ensures c.par
 -- ## `check`: entering, its rule, leaving.
 
 pub check-returns-in_err-inner : goal.check-returns-in_err-inner
-check-returns-in_err-inner t c = rw (handed c.from_residual.ensures.1) (whole_spent c.enter.ensures c.in_err-inner.was)
+check-returns-in_err-inner t c = rw (stop_is _ c.from_residual.ensures.1) (whole_spent c.enter.ensures c.in_err-inner.was)
 
 pub check-chk_rule-z-requires : goal.check-chk_rule-z-requires
 check-chk_rule-z-requires t c =
@@ -153,7 +154,7 @@ chk_sub-returns t c = sub_done c.args.h c.requires c.infer.ensures c.in_ok-r.was
 -- ## `infer`: entering, its rule, leaving.
 
 pub infer-returns-in_err-inner : goal.infer-returns-in_err-inner
-infer-returns-in_err-inner t c = rw (handed c.from_residual.ensures.1) (whole_spent c.enter.ensures c.in_err-inner.was)
+infer-returns-in_err-inner t c = rw (stop_is _ c.from_residual.ensures.1) (whole_spent c.enter.ensures c.in_err-inner.was)
 
 pub infer-inf_rule-z-requires : goal.infer-inf_rule-z-requires
 infer-inf_rule-z-requires t c =
@@ -204,7 +205,7 @@ infer_ann-returns t c = ann_done c.args.h c.requires c.typed_of-p.ensures.ann c.
 -- ## `infer_app`: entering, its rule, leaving.
 
 pub infer_app-returns-in_err-inner : goal.infer_app-returns-in_err-inner
-infer_app-returns-in_err-inner t c = rw (handed c.from_residual.ensures.1) (whole_spent c.enter.ensures c.in_err-inner.was)
+infer_app-returns-in_err-inner t c = rw (stop_is _ c.from_residual.ensures.1) (whole_spent c.enter.ensures c.in_err-inner.was)
 
 pub infer_app-app_rule-z-requires : goal.infer_app-app_rule-z-requires
 infer_app-app_rule-z-requires t c =

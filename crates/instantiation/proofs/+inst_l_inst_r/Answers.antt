@@ -1,7 +1,7 @@
 -- The cycle of inst_l and inst_r meets its contracts.
 use Prim.Native.Nat.{ℕ}
 use native.Mathlib.Omega.{arith}
-use Rattle.judging.proofs.Steps.{spent_is}
+use Rattle.judging.proofs.Steps.{stop_is}
 use Rattle.judging.proofs.Whole.{whole_spent, whole_rule, whole_less, whole_leave, whole_left}
 use Rattle.rules.specs.Sides.{side}
 use Rattle.rules.proofs.Under.{under_spent, under_room, under_first, under_falls, under_else, under_space, under_done}
@@ -16,7 +16,7 @@ use Rattle.instantiation.proofs.+inst_l_inst_r.Goals as goal
 -- ## What `inst` needs.
 
 pub inst-returns-in_err-inner : goal.inst-returns-in_err-inner
-inst-returns-in_err-inner t c = rw (spent_is _ c.from_residual.ensures.1) (whole_spent c.enter.ensures c.in_err-inner.was)
+inst-returns-in_err-inner t c = rw (stop_is _ c.from_residual.ensures.1) (whole_spent c.enter.ensures c.in_err-inner.was)
 
 pub inst-inst_rule-z-requires : goal.inst-inst_rule-z-requires
 inst-inst_rule-z-requires t c = (
@@ -37,7 +37,7 @@ inst_all-open_on-requires t c = search all_open
 
 pub inst_all-returns-in_err-o : goal.inst_all-returns-in_err-o
 inst_all-returns-in_err-o t c =
-    rw (spent_is _ c.from_residual.ensures.1)
+    rw (stop_is _ c.from_residual.ensures.1)
     (under_spent (under_on c.requires (other_is c.args.s c.other-back.ensures) c.open_on.ensures) c.in_err-o.was)
 
 pub inst_all-inst_on-requires : goal.inst_all-inst_on-requires
@@ -116,7 +116,7 @@ inst_arr-apply_ctx_type-requires t c =
 pub inst_arr-returns-in_err-applied : goal.inst_arr-returns-in_err-applied
 inst_arr-returns-in_err-applied t c =
     let h = halved t (goal.at.inst_arr-returns-in_err-applied t c).After-other in
-    rw (spent_is _ c.from_residual-in_err-applied.ensures.1)
+    rw (stop_is _ c.from_residual-in_err-applied.ensures.1)
     (arr_spent h c.inst_on.ensures c.in_ok-r.was c.apply_ctx_type.ensures c.in_err-applied.was)
 
 pub inst_arr-inst_on-requires-2 : goal.inst_arr-inst_on-requires-2

@@ -1,5 +1,5 @@
 -- `instantiate` meets its contract.
-use Rattle.judging.proofs.Steps.{spent_is}
+use Rattle.judging.proofs.Steps.{stop_is}
 use Rattle.rules.proofs.TypeForms.{forall_form, other_form}
 use Rattle.rules.proofs.Between.{not_instantiated, forall_as, forall_named, subst_pre, instance_spent, instance_done}
 use Rattle.rules.proofs.instantiate.Goals as goal
@@ -18,7 +18,7 @@ subst_type-requires c = subst_pre c.requires c.form.ensures (forall_form _ c.if-
 
 pub returns-in_err-subst_type : goal.returns-in_err-subst_type
 returns-in_err-subst_type c =
-    rw (spent_is _ c.from_residual.ensures.1) (instance_spent c.requires c.form.ensures (forall_form _ c.if-ne.ensures) c.name_of-a.ensures c.body_of-body.ensures
+    rw (stop_is _ c.from_residual.ensures.1) (instance_spent c.requires c.form.ensures (forall_form _ c.if-ne.ensures) c.name_of-a.ensures c.body_of-body.ensures
     c.subst_type.ensures c.in_err-subst_type.was)
 
 pub returns : goal.returns

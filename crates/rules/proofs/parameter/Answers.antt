@@ -1,5 +1,5 @@
 -- `parameter` meets its contract.
-use Rattle.judging.proofs.Steps.{spent_is}
+use Rattle.judging.proofs.Steps.{stop_is}
 use Rattle.rules.proofs.Between.{comparing, not_compared, parameter_spent, parameter_same, parameter_other}
 use Rattle.rules.proofs.parameter.Goals as goal
 
@@ -8,7 +8,7 @@ returns-then-not-h c = not_compared c.if-not-h.true
 
 pub returns-in_err-applied : goal.returns-in_err-applied
 returns-in_err-applied c =
-    rw (spent_is _ c.from_residual.ensures.1) (parameter_spent c.if-not-h.false c.apply_ctx_type.ensures c.in_err-applied.was)
+    rw (stop_is _ c.from_residual.ensures.1) (parameter_spent c.if-not-h.false c.apply_ctx_type.ensures c.in_err-applied.was)
 
 pub same_type-requires : goal.same_type-requires
 same_type-requires c = comparing c.requires c.apply_ctx_type.ensures c.in_ok-applied.was

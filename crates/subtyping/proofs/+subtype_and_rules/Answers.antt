@@ -1,11 +1,11 @@
 -- The cycle of subtype and its rules meets its contracts.
 use Prim.Native.Nat.{ℕ}
 use native.Mathlib.Omega.{arith}
-use Rattle.judging.proofs.Steps.{spent_is}
+use Rattle.judging.proofs.Steps.{stop_is}
 use Rattle.judging.proofs.Whole.{whole_spent, whole_rule, whole_less, whole_leave, whole_left}
 use Rattle.rules.specs.Sides.{side}
 use Rattle.rules.proofs.Under.{under_spent, under_room, under_first, under_falls, under_else, under_space, under_done}
-use Rattle.instantiation.proofs.Handing.{stop_is, hands}
+use Rattle.instantiation.proofs.Handing.{hands}
 use Rattle.subtyping.proofs.Binder.{all_rule, all_open, all_small, under_on}
 use Rattle.subtyping.proofs.Arrow.{Halved, arr_left, arr_right, arr_first, arr_else₁, arr_two, arr_end, arr_second, arr_else₂, arr_done}
 use Rattle.subtyping.proofs.Rules.{arm_pre, refl_fires, none_fires}
@@ -15,7 +15,7 @@ use Rattle.subtyping.proofs.+subtype_and_rules.Goals as goal
 -- ## What `subtype` needs.
 
 pub subtype-returns-in_err-inner : goal.subtype-returns-in_err-inner
-subtype-returns-in_err-inner t c = rw (spent_is _ c.from_residual.ensures.1) (whole_spent c.enter.ensures c.in_err-inner.was)
+subtype-returns-in_err-inner t c = rw (stop_is _ c.from_residual.ensures.1) (whole_spent c.enter.ensures c.in_err-inner.was)
 
 pub subtype-sub_rule-z-requires : goal.subtype-sub_rule-z-requires
 subtype-sub_rule-z-requires t c = (
@@ -115,7 +115,7 @@ sub_all-open_on-requires t c = all_open c.requires c.one.ensures
 
 pub sub_all-returns-in_err-o : goal.sub_all-returns-in_err-o
 sub_all-returns-in_err-o t c =
-    rw (spent_is _ c.from_residual.ensures.1) (under_spent (under_on c.requires c.one.ensures c.open_on.ensures) c.in_err-o.was)
+    rw (stop_is _ c.from_residual.ensures.1) (under_spent (under_on c.requires c.one.ensures c.open_on.ensures) c.in_err-o.was)
 
 pub sub_all-subtype-requires : goal.sub_all-subtype-requires
 sub_all-subtype-requires t c =
