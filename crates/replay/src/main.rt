@@ -2,7 +2,7 @@
 // A frame: budget, words of work, words of report, words of question, and the question. A reply: the four numbers, then its report.
 #![tactic(auto)]
 
-ghost use Rattle.std.specs.Prelude.{◌<◌, ◌≤◌, max, length, IfSome, IfNone};
+ghost use Rattle.std.specs.Prelude.{◌*◌, ◌<◌, ◌≤◌, max, length, IfSome, IfNone};
 ghost use Rattle.definition.specs.Host.{word_at};
 
 use replies::Reply;
@@ -55,11 +55,12 @@ impl Frame {
     // lent as `&mut`, the kit writes no proof.)
     fn ask(
         self,
-        bytes: &[u8; 4 * FRAME_MOST],
+        bytes: &[u8],
         words: &mut [u32; FRAME_MOST],
         work: &mut [u32; WORK],
         report: &mut [u32; FRAME_MOST],
     ) -> Reply
+        requires { 4 * self.count ≤ length bytes.now }
         ensures { FrameAnswered self bytes.now report.new result }
     {
         wire::read_words(bytes, words, self.count);
@@ -72,10 +73,27 @@ impl Frame {
     }
 }
 
+// A frame, with its question in bytes: none where the input ends, or a frame asks for more than is lent.
+fn read_frame<R: Read>(
+    from: &mut R,
+    bytes: &mut [u8; 4 * FRAME_MOST],
+) -> io::Result<Option<Frame>> {
+    if input::read_full(from, &mut bytes[..16])? < 16 {
+        return Ok(None);
+    }
+    let Some(f) = Frame::at_start(bytes) else {
+        return Ok(None);
+    };
+    let n = 4 * f.count;
+    if input::read_full(from, &mut bytes[..n])? < n {
+        return Ok(None);
+    }
+    Ok(Some(f))
+}
+
 // What main lends.
 #[derive(Drop)]
 struct Lent {
-    bytes: [u8; 4 * FRAME_MOST],
     words: [u32; FRAME_MOST],
     work: [u32; WORK],
     report: [u32; FRAME_MOST],
@@ -87,7 +105,6 @@ impl Lent {
 
     fn new() -> Lent {
         Lent {
-            bytes: [0; 4 * FRAME_MOST],
             words: [0; FRAME_MOST],
             work: [0; WORK],
             report: [0; FRAME_MOST],
@@ -95,44 +112,30 @@ impl Lent {
         }
     }
 
-    // The reply's bytes at the start of out; how many they are.
-    fn answer(&mut self, f: Frame) -> usize
-        ensures said { Replayed f self.old.bytes self.new.out result }
+    // The bytes, at the start of out, of the reply to the question in these bytes; how many they are.
+    fn answer(&mut self, f: Frame, bytes: &[u8]) -> usize
+        requires { 4 * f.count ≤ length bytes.now }
+        ensures said { Replayed f bytes.now self.new.out result }
         ensures within { result ≤ 16400 }
     {
-        let r = f.ask(
-            &self.bytes,
-            &mut self.words,
-            &mut self.work,
-            &mut self.report,
-        );
+        let r = f.ask(bytes, &mut self.words, &mut self.work, &mut self.report);
         let n = r.written();
         wire::put_reply(&mut self.out, r.numbers(), &self.report[..n]);
         16 + 4 * n
     }
 
-    // A frame, with its question in bytes: none where the input ends, or a frame asks for more than is lent.
-    fn frame<R: Read>(&mut self, from: &mut R) -> io::Result<Option<Frame>> {
-        if input::read_full(from, &mut self.bytes[..16])? < 16 {
-            return Ok(None);
-        }
-        let Some(f) = Frame::at_start(&self.bytes) else {
-            return Ok(None);
-        };
-        let n = 4 * f.count;
-        if input::read_full(from, &mut self.bytes[..n])? < n {
-            return Ok(None);
-        }
-        Ok(Some(f))
-    }
-
-    // Frame after frame. A proved loop has to end, and nothing says that the input does: no run uses up so many turns.
-    fn replay<R: Read, W: Write>(&mut self, from: &mut R, to: &mut W) -> io::Result<()> {
+    // Frame after frame, each read into bytes. A proved loop has to end, and nothing says that the input does: no run uses up so many turns.
+    fn replay<R: Read, W: Write>(
+        &mut self,
+        from: &mut R,
+        to: &mut W,
+        bytes: &mut [u8; 4 * FRAME_MOST],
+    ) -> io::Result<()> {
         for _ in 0..u64::MAX {
-            let Some(f) = self.frame(from)? else {
+            let Some(f) = read_frame(from, bytes)? else {
                 break;
             };
-            let z = self.answer(f);
+            let z = self.answer(f, bytes);
             to.write_all(&self.out[..z])?;
         }
         Ok(())
@@ -142,6 +145,7 @@ impl Lent {
 fn main(rt: HostRuntime) -> io::Result<()> {
     let mut from = rt.stdin();
     let mut to = rt.stdout();
+    let mut bytes = [0; 4 * FRAME_MOST];
     let mut lent = Lent::new();
-    lent.replay(&mut from, &mut to)
+    lent.replay(&mut from, &mut to, &mut bytes)
 }
