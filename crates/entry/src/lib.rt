@@ -10,7 +10,7 @@ use contexts::Opened;
 use judging::{Answer, Here, Mode, Step, Stop};
 use layout::{Kind, Span, State};
 use reading::Question;
-use replies::Reply;
+use replies::{Code, Reply};
 use report::NoRoom;
 
 // Work is zeroed in blocks of so many words.
@@ -87,7 +87,7 @@ fn spent(budget: usize) -> Reply
     ensures { result ≡ record { code = 6; at = 0; len = 0; units = budget } }
 {
     Reply {
-        code: 6,
+        code: Code::Budget.number(),
         at: 0,
         len: 0,
         units: budget as u32,
@@ -108,7 +108,7 @@ fn told(code: u32, at: u32, units: usize, z: Result<usize, NoRoom>) -> Reply
             units,
         },
         Err(NoRoom(n)) => Reply {
-            code: 7,
+            code: Code::NoRoom.number(),
             at: 0,
             len: n as u32,
             units,
@@ -201,21 +201,21 @@ pub fn check(question: &[u32], budget: u32, work: &mut [u32], report: &mut [u32]
     ensures { Replied budget question.now work.old work.new report.old report.new result }
 {
     if budget < 1 {
-        return replies::refusal(1, 0);
+        return replies::refusal(Code::BadBudget.number(), 0);
     }
     if definition::BUDGET_MOST < budget {
-        return replies::refusal(1, 0);
+        return replies::refusal(Code::BadBudget.number(), 0);
     }
     let budget = budget as usize;
     let need = work_words(budget);
     if work.len() < need {
-        return replies::refusal(2, 0);
+        return replies::refusal(Code::ShortWork.number(), 0);
     }
     if question.len() < 1 {
-        return replies::refusal(3, 0);
+        return replies::refusal(Code::BadLength.number(), 0);
     }
     if definition::QUESTION_MOST < question.len() {
-        return replies::refusal(3, 0);
+        return replies::refusal(Code::BadLength.number(), 0);
     }
     match reading::read_question(question) {
         Ok(a) => run_cleared(question, work, budget, a, report),

@@ -2,7 +2,26 @@
 #![tactic(auto)]
 
 ghost use Rattle.std.specs.Prelude.{◌≡◌, [], ◌∷◌};
+ghost use Rattle.replies.specs.Codes.{code_number};
 ghost use Rattle.replies.specs.Numbers.{written_of};
+
+// The codes of replies that are no type error and no fault of the question, by document 01's names.
+#[derive(Clone, Copy)]
+pub enum Code {
+    BadBudget = 1,
+    ShortWork = 2,
+    BadLength = 3,
+    Budget = 6,
+    NoRoom = 7,
+}
+
+impl Code {
+    pub fn number(self) -> u32
+        ensures { result ≡ code_number self }
+    {
+        self as u32
+    }
+}
 
 #[derive(Clone, Copy)]
 pub struct Reply {
@@ -24,7 +43,7 @@ impl Reply {
     pub fn written(self) -> usize
         ensures { result ≡ written_of self }
     {
-        if self.code == 7 { 0 } else { self.len as usize }
+        if self.code == Code::NoRoom.number() { 0 } else { self.len as usize }
     }
 }
 

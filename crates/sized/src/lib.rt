@@ -4,7 +4,7 @@
 ghost use Rattle.std.specs.Prelude.{◌≤◌};
 ghost use Rattle.sized.specs.Sized.{Fit, BytesAnswered, Lent, Told};
 
-use replies::Reply;
+use replies::{Code, Reply};
 
 // The desk program's sizes: units of budget, words of work and of report.
 const BUDGET: u32 = 384;
@@ -52,7 +52,7 @@ fn answer_words(question: &[u8], words: &mut [u32], work: &mut [u32], report: &m
 {
     let n = question.len() / 4;
     if definition::QUESTION_MOST < n || 4 * n != question.len() {
-        return replies::refusal(3, 0);
+        return replies::refusal(Code::BadLength.number(), 0);
     }
     wire::read_words(question, words, n);
     entry::check(&words[..n], BUDGET, work, report)
