@@ -1,7 +1,7 @@
 // The desk program: a question's words from standard input, and two lines, the reply's four numbers and the report's words.
 #![tactic(auto)]
 
-ghost use Rattle.std.specs.Prelude.{◌≤◌};
+ghost use Rattle.std.specs.Prelude.{◌≤◌, length};
 ghost use Rattle.desk.specs.Said.{Lines, Said};
 ghost use Rattle.replies.specs.Numbers.{written_of};
 
@@ -56,7 +56,9 @@ impl Lent {
         from: &mut R,
         to: &mut W,
         bytes: &mut [u8; INPUT],
-    ) -> io::Result<()> {
+    ) -> io::Result<()>
+        requires { 8196 ≤ length bytes.old }
+    {
         let n = input::read_full(from, bytes)?;
         let z = self.answer(&bytes[..n]);
         to.write_all(&self.out[..z])

@@ -77,6 +77,20 @@ module _ {q w : List ℕ} (b : Base q w (length w)) where
 
 -- ## Where the functions look
 
+-- every expression has a second word
+pub second_word : {q : List ℕ} {p : ℕ} {e : Expr} → ExprAt q p e → p + 1 < length q
+second_word (evar_at c n) = n.within
+second_word (app_at c x m y) = (expr_code_lem x).within
+second_word (abs_at c n a m y) = n.within
+second_word (tapp_at c x m y) = (expr_code_lem x).within
+second_word (tabs_at c n y) = n.within
+second_word (ann_at c x m y) = (expr_code_lem x).within
+second_word (lit_int_at c n o) = n.within
+second_word (lit_bool_at c n) = n.within
+second_word (let_in_at c n y m z) = n.within
+second_word (if_then_else_at c x m y n z) = (expr_code_lem x).within
+second_word (bin_op_at c n l u y m z) = n.within
+
 -- the table has a word for the place of a part
 in_table : {q w : List ℕ} {p k i : ℕ} {f : Expr} → Shaped q w p k → ExprAt q i f → ENDS + i < length w
 in_table s x = omega (arith, (expr_code_lem x).inside, s.base.floor)

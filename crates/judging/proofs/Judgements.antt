@@ -6,7 +6,8 @@ use native.Mathlib.Nat.{le_refl}
 use native.Mathlib.Omega.{arith}
 use lib.ListN.{length}
 use Rattle.std.specs.Prelude.{Ok, Err}
-use Rattle.definition.specs.Syntax.{Judgement, given, node, leaf, ◌&◌, children}
+use Rattle.definition.specs.Syntax as Syntax
+use Rattle.definition.specs.Syntax.{Judgement, given, Rule, rule_number, node, leaf, ◌&◌, children}
 use Rattle.definition.specs.Run.{done, stop}
 use Rattle.definition.specs.Rules.{rule, judge}
 use Rattle.laws.specs.Count.{charged}
@@ -40,6 +41,47 @@ judge_spent {m} {q} {w} {s} {g} {a} h = record {
   where
     stops : {j : Judgement} → Asks q w s.top g a j → judge (here m) j s.left s.fresh ≡ stop
     stops {j} k = let c = (asks_run k).count in step_none (here m) j s.left s.fresh (omega arith)
+
+-- the rules are 1 to 37
+pub rule_small : (r : Rule) → rule_number r < 38
+unfolding rule_number
+rule_small Syntax.InfVar = omega arith
+rule_small Syntax.InfLitInt = omega arith
+rule_small Syntax.InfLitBool = omega arith
+rule_small Syntax.InfLam = omega arith
+rule_small Syntax.InfApp = omega arith
+rule_small Syntax.InfLet = omega arith
+rule_small Syntax.InfIf = omega arith
+rule_small Syntax.InfArith = omega arith
+rule_small Syntax.InfBool = omega arith
+rule_small Syntax.InfCmp = omega arith
+rule_small Syntax.InfEq = omega arith
+rule_small Syntax.InfAnn = omega arith
+rule_small Syntax.InfTAbs = omega arith
+rule_small Syntax.InfTApp = omega arith
+rule_small Syntax.InfAppArr = omega arith
+rule_small Syntax.InfAppETVar = omega arith
+rule_small Syntax.ChkLitInt = omega arith
+rule_small Syntax.ChkLitBool = omega arith
+rule_small Syntax.ChkLam = omega arith
+rule_small Syntax.ChkAll = omega arith
+rule_small Syntax.ChkSub = omega arith
+rule_small Syntax.SubRefl = omega arith
+rule_small Syntax.SubReflTVar = omega arith
+rule_small Syntax.SubReflETVar = omega arith
+rule_small Syntax.SubArr = omega arith
+rule_small Syntax.SubAllR = omega arith
+rule_small Syntax.SubAllL = omega arith
+rule_small Syntax.SubInstL = omega arith
+rule_small Syntax.SubInstR = omega arith
+rule_small Syntax.InstLSolve = omega arith
+rule_small Syntax.InstLReach = omega arith
+rule_small Syntax.InstLArr = omega arith
+rule_small Syntax.InstLAllR = omega arith
+rule_small Syntax.InstRSolve = omega arith
+rule_small Syntax.InstRReach = omega arith
+rule_small Syntax.InstRArr = omega arith
+rule_small Syntax.InstRAllL = omega arith
 
 -- ## From entering to leaving
 

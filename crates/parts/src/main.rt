@@ -46,7 +46,7 @@ fn say(out: &mut [u8; OUTPUT], r: Reply, report: &[u32; sized::REPORT]) -> usize
     part(out, e, r, report, Section::Second)
 }
 
-// The rules of the nodes that a walk through a tree meets, at the start of rules; how many they are.
+// The rules of the nodes that a walk through a tree meets, at the start of rules; how many they are. No `for`: where a node ends it says itself.
 fn rules_of(tree: &[u32], rules: &mut [u32]) -> usize
     requires { length tree.now ≤ 8 * length rules.old }
     ensures { RulesOf tree.now rules.new result }
@@ -104,7 +104,9 @@ impl Lent {
         from: &mut R,
         to: &mut W,
         bytes: &mut [u8; INPUT],
-    ) -> io::Result<()> {
+    ) -> io::Result<()>
+        requires { 8196 ≤ length bytes.old }
+    {
         let n = input::read_full(from, bytes)?;
         let z = self.answer(&bytes[..n]);
         to.write_all(&self.out[..z])

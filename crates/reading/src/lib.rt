@@ -206,7 +206,7 @@ fn read_entry(q: &[u32], p: usize, end: usize) -> Result<usize, Fault>
     }
 }
 
-// Reads entries from first to the end of the section, and counts them.
+// Reads entries from first to the end of the section, and counts them. No `for`: where an entry ends is known once it is read.
 fn read_context(q: &[u32], first: usize, end: usize) -> Result<Part, Fault>
     requires { Inside q.now first end }
     ensures { ContextRead q.now first end result }

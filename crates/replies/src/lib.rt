@@ -23,6 +23,7 @@ impl Code {
     }
 }
 
+// Four numbers, and so the code too, as C gets them.
 #[derive(Clone, Copy)]
 pub struct Reply {
     pub code: u32,
@@ -43,7 +44,11 @@ impl Reply {
     pub fn written(self) -> usize
         ensures { result ≡ written_of self }
     {
-        if self.code == Code::NoRoom.number() { 0 } else { self.len as usize }
+        if self.code == Code::NoRoom.number() {
+            0
+        } else {
+            self.len as usize
+        }
     }
 }
 

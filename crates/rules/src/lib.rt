@@ -292,7 +292,7 @@ pub fn parameter(
 }
 
 // Two types for subtype, with the context applied where `applies`, the first first: ChkSub and strict mode's InfIf apply it, plain mode's
-// InfIf and SubArr take them as they are.
+// InfIf and SubArr take them as they are. One function over the switch, and so one law of both.
 pub fn apply_both(
     q: &[u32],
     work: &mut [u32],
@@ -356,7 +356,8 @@ pub fn plain_out(st: State, g: Span, ty: usize, rule: Rule, kids: usize) -> Answ
     }
 }
 
-// break3's right; where `keeps`, as infer's rules do and check's do not, the solved entries of its left stand before.
+// break3's right; where `keeps`, as infer's rules do and check's do not, the solved entries of its left stand before. One function over the
+// switch, as above.
 pub fn keep_out(
     work: &mut [u32],
     keeps: bool,

@@ -1,7 +1,7 @@
 // The entry asked in bytes, with the desk program's sizes: what the desk program and the telephone host share.
 #![tactic(auto)]
 
-ghost use Rattle.std.specs.Prelude.{◌≤◌};
+ghost use Rattle.std.specs.Prelude.{◌≡◌, ◌≤◌, replicate};
 ghost use Rattle.sized.specs.Sized.{Fit, BytesAnswered, Lent, Told};
 
 use replies::{Code, Reply};
@@ -22,7 +22,11 @@ pub struct Buffers {
 }
 
 impl Buffers {
-    pub fn new() -> Buffers {
+    pub fn new() -> Buffers
+        ensures words { result.words ≡ replicate 2048 0 }
+        ensures work { result.work ≡ replicate 16384 0 }
+        ensures report { result.report ≡ replicate 4096 0 }
+    {
         Buffers {
             words: [0; definition::QUESTION_MOST],
             work: [0; WORK],

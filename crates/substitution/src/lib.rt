@@ -17,7 +17,7 @@ fn chosen(store: Store, a: TyVar, by: usize, r: usize) -> usize
     if store.name_of(r) == a { by } else { r }
 }
 
-// An Arrow of two parts, as a new record.
+// An Arrow of two parts, as a new record. Apart from forall_made: what is put has another contract.
 fn arrow_made(q: &[u32], work: &mut [u32], st: State, left: usize, right: usize) -> Made
     requires { ArrowRoom q.now work.old st.top left right }
     ensures { ArrowMade q.now work.old work.new st left right result }

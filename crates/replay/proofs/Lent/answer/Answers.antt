@@ -1,7 +1,0 @@
--- `answer` meets its contract.
-use native.Mathlib.Omega.{arith}
-use Rattle.replay.proofs.Replaying.{replayed}
-use Rattle.replay.proofs.Lent.answer.Goals as goal
-
-pub returns-clause-said : goal.returns-clause-said
-returns-clause-said c = replayed c.args.f _ c.ask-r.ensures c.numbers.ensures c.written-n.ensures c.put_reply.ensures (omega arith)
