@@ -29,7 +29,7 @@ CASE = re.compile(r"(?P<offset>[0-9a-f]+) R_X86_64_PC32 +\.text\.(?P<function>.+
 EIGHT_BYTES = re.compile(r"%r(?!sp)(?:[a-z]{2}|\d{1,2})|\$0x[0-9a-f]+|[^%]*\(.*\)")
 # what goes on with the next instruction, and moves the stack only where it names it
 PLAIN = re.compile(r"mov|(mov|cmov|set)\w+|lea|xchg|nop[wl]?|(add|adc|sub|sbb|cmp|test|and|or|xor|inc|dec|neg|not|sh[lr]|sar|ro[lr]|bt|i?mul)[bwlq]?"
-                   r"|p(add|sub|cmp|shuf|unpck|and|or|xor|sll|srl|blend|insr|extr|alignr|hadd|minu|maxu|mov|test)\w*|(add|sub|mul|and|or|xor|shuf|unpck[lh])[ps][sd]")
+                   r"|p(add|sub|cmp|shuf|unpck|and|or|xor|sll|srl|blend|insr|extr|alignr|hadd|minu|maxu|mov|test)\w*|(add|sub|mul|and|or|xor|shuf|blend|unpck[lh])[ps][sd]")
 
 
 class Unclear(Exception):
@@ -102,7 +102,7 @@ class Function:
         """What is called there, if anything is; a jump out of the function is a call."""
         name, operands, symbol, _ = self.code[at]
         if name != "call" and not (name.startswith("j") and symbol):
-            if symbol and not symbol.startswith((".rodata.", ".LCPI")):
+            if symbol and not symbol.startswith((".rodata.", ".LCPI", ".Lswitch.table.")):
                 raise self.unclear(at, f"what becomes of {symbol}?")
             return None
         found = re.fullmatch(r"(?:\.text\.)?(.+)-0x4", symbol) if symbol else re.fullmatch(r"0 <(.+)>", operands)

@@ -48,7 +48,7 @@ class Bound:
         self.ways = [(way, functions.split(), *map(number, numbers)) for way, functions, *numbers in table(WAYS, page)]
         self.level = {(caller.rpartition("::")[2], callee.rpartition("::")[2]): bytes for (caller, callee), bytes in levels(page).items()}
         read, infer, apply = (self.level[name, name] for name in ("read_expr", "infer", "apply_ctx_type"))
-        ann = self.along(["infer", "chk_rule", "infer"])
+        ann = self.along(["infer", "check", "infer"])
         self.read = read
         # bytes for a unit and for a word
         self.prices = [(infer, 0), (ann - infer, infer - ann // 2), (apply, ann // 2 - apply)]

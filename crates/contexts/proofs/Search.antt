@@ -1,5 +1,5 @@
 -- The first entry of a kind and name in words is the definition's earliest: what find, has, break3's left and right are then.
-use mathlib.Core.Path.{◌≡◌, refl, sym, ◌∙◌, ap}
+use mathlib.Core.Path.{◌≡◌, refl, sym, ◌∙◌, ap, subst}
 use mathlib.Core.Bool.{Bool, true, false, ◌&&◌}
 use mathlib.Core.List.{List, [], ◌∷◌}
 use mathlib.Core.Option.{some}
@@ -12,7 +12,8 @@ use Rattle.definition.specs.Syntax.{pick, TyVar, Entry, Ctx}
 use Rattle.definition.specs.Contexts.{Key, key_of, kind_of, name_of, hit, held, find, left_of, right_of, has, before, k_etvar}
 use Rattle.layout.specs.Denotes.{EntryAt, CtxAt, nil, cons, Run}
 use Rattle.layout.specs.declared.Span.{Span}
-use Rattle.contexts.specs.Search.{Hit, First, Missing, Found, Split, Before, Right}
+use Rattle.contexts.specs.Search.{Hit, First, Missing, Found, Split, Looked, absent, holds, Before, Right}
+use Rattle.std.specs.Prelude.{◌^◌, Some, None}
 
 -- ## One entry against a key
 
@@ -205,9 +206,9 @@ module _ {w : List ℕ} {g : Span} {k : Key} {i : ℕ} (s : Split w g k i) where
     run = λ u. rw (s.missing e u).right_is (record { ctx = nil; count = refl; below = omega (arith, u.below) });
   }
 
-  pub right_some : (i ≡ g.n → ⊥) → Right w g k (record { at = g.at + 4 * (i + 1); n = g.n - (i + 1) })
-  right_some e = record {
-    less = omega arith;
-    within = omega (arith, s.within);
-    run = λ u. (s.found (omega (arith, s.within)) u).right;
-  }
+  -- what lookup answers
+  pub looked_none : i ≡ g.n → Looked w g k None
+  looked_none e = absent (subst (Split w g k) e s)
+
+  pub looked_some : {r : ℕ} → (i ≡ g.n → ⊥) → r ≡ get_or w (g.at + 4 * i + 2) 0 → r < 2 ^ 32 → Looked w g k (Some r)
+  looked_some e x l = rw x (holds {i = i} (omega (arith, s.within)) s (rw x at l))

@@ -1,10 +1,10 @@
 -- What is built at top from a run of entries.
-use Rattle.std.specs.Prelude.{◌≡◌, List, [], ◌∷◌, ℕ, ◌+◌, ◌-◌, ◌*◌, ◌≤◌, ◌<◌, length, get_or}
+use Rattle.std.specs.Prelude.{◌≡◌, List, [], ◌∷◌, ◌++◌, ℕ, ◌+◌, ◌-◌, ◌*◌, ◌≤◌, ◌<◌, length, get_or}
 use Rattle.definition.specs.Syntax.{TyVar, Entry, Ctx}
-use Rattle.definition.specs.Contexts.{Key, ◌▹◌, replace, solved, solved_and_right}
+use Rattle.definition.specs.Contexts.{Key, replace, solved, solved_and_right}
 use Rattle.layout.specs.Sizes.{CAP}
 use Rattle.layout.specs.Words.{Keep, Copied}
-use Rattle.layout.specs.Denotes.{AsEntry, Run}
+use Rattle.layout.specs.Denotes.{AsEntry, SmallEntry, CtxAt, Run}
 use Rattle.layout.specs.declared.Entry as program
 use Rattle.layout.specs.declared.Span.{Span}
 use Rattle.layout.specs.declared.State.{State}
@@ -42,32 +42,34 @@ pub record Spliced (w w' : List ℕ) (s : State) (g : Span) (i m : ℕ) (o : Ope
   pub left : (j : ℕ) → j < 4 * i → get_or w' (s.top + j) 0 ≡ get_or w (g.at + j) 0
   pub right : (j : ℕ) → j < 4 * (g.n - (i + 1)) → get_or w' (s.top + 4 * (i + m) + j) 0 ≡ get_or w (g.at + 4 * (i + 1) + j) 0
 
--- an entry was pushed
-pub record Pushed (w w' : List ℕ) (s : State) (g : Span) (p : program.Entry) (o : Opened) : Type 0 where
-  pub grown : Grown w w' s (g.n + 1) o
-  pub run : {q : List ℕ} {Γ : Ctx} {e : Entry} → Run q w s.top g.at g.n Γ → AsEntry q w s.top p e
-      → Run q w' o.st.top o.g.at o.g.n (Γ ▹ e)
+-- each can be put into words
+pub data SmallEntries : List program.Entry → Type 0 where
+  no_entries : SmallEntries []
+  small_entry : {p : program.Entry} {ps : List program.Entry} → SmallEntry p → SmallEntries ps → SmallEntries (p ∷ ps)
 
--- two entries were pushed
-pub record Pushed2 (w w' : List ℕ) (s : State) (g : Span) (p p₂ : program.Entry) (o : Opened) : Type 0 where
-  pub grown : Grown w w' s (g.n + 2) o
-  pub run : {q : List ℕ} {Γ : Ctx} {e e₂ : Entry} → Run q w s.top g.at g.n Γ → AsEntry q w s.top p e → AsEntry q w s.top p₂ e₂
-      → Run q w' o.st.top o.g.at o.g.n (Γ ▹ e ▹ e₂)
+-- the program's entries ps are the context's entries es
+pub data AsEntries (q w : List ℕ) (t : ℕ) : List program.Entry → Ctx → Type 0 where
+  no_more : AsEntries q w t [] []
+  then : {p : program.Entry} {ps : List program.Entry} {e : Entry} {es : Ctx} → AsEntry q w t p e → AsEntries q w t ps es
+      → AsEntries q w t (p ∷ ps) (e ∷ es)
 
--- an entry stands in the place of the earliest unsolved a, or at the end
-pub record Replaced (w w' : List ℕ) (s : State) (g : Span) (a : TyVar) (p : program.Entry) (o : Opened) : Type 0 where
+-- entries were put from a place of work on: whatever they are below t, they stand there
+pub record Put (w w' : List ℕ) (at : ℕ) (ps : List program.Entry) : Type 0 where
+  pub keep : Keep at (at + 4 * length ps) w w'
+  pub stand : {q : List ℕ} {t : ℕ} {es : Ctx} → t ≤ at → AsEntries q w t ps es → CtxAt q w' (at + 4 * length ps) at es
+
+-- entries were pushed
+pub record Pushed (w w' : List ℕ) (s : State) (g : Span) (ps : List program.Entry) (o : Opened) : Type 0 where
+  pub grown : Grown w w' s (g.n + length ps) o
+  pub run : {q : List ℕ} {Γ es : Ctx} → Run q w s.top g.at g.n Γ → AsEntries q w s.top ps es
+      → Run q w' o.st.top o.g.at o.g.n (Γ ++ es)
+
+-- entries stand in the place of the earliest unsolved a, or at the end
+pub record Replaced (w w' : List ℕ) (s : State) (g : Span) (a : TyVar) (ps : List program.Entry) (o : Opened) : Type 0 where
   pub grown : Grown w w' s o.g.n o
-  pub few : o.g.n ≤ g.n + 1
-  pub run : {q : List ℕ} {Γ : Ctx} {e : Entry} → Run q w s.top g.at g.n Γ → AsEntry q w s.top p e
-      → Run q w' o.st.top o.g.at o.g.n (replace a (e ∷ []) Γ)
-
--- three entries stand there
-pub record Replaced3 (w w' : List ℕ) (s : State) (g : Span) (a : TyVar) (p p₂ p₃ : program.Entry) (o : Opened) : Type 0 where
-  pub grown : Grown w w' s o.g.n o
-  pub few : o.g.n ≤ g.n + 3
-  pub run : {q : List ℕ} {Γ : Ctx} {e e₂ e₃ : Entry} → Run q w s.top g.at g.n Γ
-      → AsEntry q w s.top p e → AsEntry q w s.top p₂ e₂ → AsEntry q w s.top p₃ e₃
-      → Run q w' o.st.top o.g.at o.g.n (replace a (e ∷ e₂ ∷ e₃ ∷ []) Γ)
+  pub few : o.g.n ≤ g.n + length ps
+  pub run : {q : List ℕ} {Γ es : Ctx} → Run q w s.top g.at g.n Γ → AsEntries q w s.top ps es
+      → Run q w' o.st.top o.g.at o.g.n (replace a es Γ)
 
 -- the m solved ones of n entries were copied
 pub record Kept (w w' : List ℕ) (at n to m : ℕ) : Type 0 where

@@ -1,5 +1,5 @@
 -- What a search finds in a run of entries.
-use Rattle.std.specs.Prelude.{◌≡◌, Bool, true, false, List, [], ℕ, ◌+◌, ◌-◌, ◌*◌, ◌≤◌, ◌<◌, get_or}
+use Rattle.std.specs.Prelude.{◌≡◌, Bool, true, false, List, [], ℕ, ◌+◌, ◌-◌, ◌*◌, ◌≤◌, ◌<◌, ◌^◌, get_or, Option, Some, None}
 use Rattle.std.proofs.Math.Option.{none, some}
 use Rattle.definition.specs.Syntax.{TyVar, Ty, Ctx}
 use Rattle.definition.specs.Contexts.{Key, find, left_of, right_of, has, before}
@@ -38,6 +38,11 @@ pub record Split (w : List ℕ) (g : Span) (k : Key) (i : ℕ) : Type 0 where
   pub left : {q : List ℕ} {t : ℕ} {Γ : Ctx} → Run q w t g.at g.n Γ → Run q w t g.at i (left_of k Γ)
   pub missing : i ≡ g.n → {q : List ℕ} {t : ℕ} {Γ : Ctx} → Run q w t g.at g.n Γ → Missing k Γ
   pub found : i < g.n → {q : List ℕ} {t : ℕ} {Γ : Ctx} → Run q w t g.at g.n Γ → Found q w t g.at g.n i k Γ
+
+-- what the earliest entry that has the key holds, a word
+pub data Looked (w : List ℕ) (g : Span) (k : Key) : Option ℕ → Type 0 where
+  absent : Split w g k g.n → Looked w g k None
+  holds : {i : ℕ} → i < g.n → Split w g k i → get_or w (g.at + 4 * i + 2) 0 < 2 ^ 32 → Looked w g k (Some (get_or w (g.at + 4 * i + 2) 0))
 
 -- whether the first's earliest unsolved entry stands later than the second's
 pub record Before (w : List ℕ) (g : Span) (a b : TyVar) (r : Bool) : Type 0 where

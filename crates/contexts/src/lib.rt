@@ -4,13 +4,12 @@
 ghost use Rattle.std.specs.Prelude.{◌+◌, ◌-◌, ◌*◌, ◌≤◌, ◌<◌, ◌^◌, ◌≡◌, length, get_or};
 ghost use Rattle.layout.specs.Sizes.{CAP};
 ghost use Rattle.layout.specs.Names.{ty, key};
-ghost use Rattle.layout.specs.Denotes.{SmallEntry};
-ghost use Rattle.contexts.specs.Search.{First, Split, Before, Right};
-ghost use Rattle.contexts.specs.Build.{Space, Past, CopiedRight, Spliced, Pushed, Pushed2, Replaced, Replaced3, Kept, KeptBoth};
+ghost use Rattle.contexts.specs.Search.{First, Split, Looked, Before, Right};
+ghost use Rattle.contexts.specs.Build.{Space, SmallEntries, Past, CopiedRight, Spliced, Put, Pushed, Replaced, Kept, KeptBoth};
 
-use layout::{Entry, Key, Span, State, TyVar};
+use layout::{Entry, Key, Span, State, TyVar, copy, put_entry, word};
 
-// The kind of a solved entry.
+// The kind of a solved entry, as a word says it.
 const SETVAR: usize = 35;
 
 // A context that was built at top, and the state past it.
@@ -21,34 +20,26 @@ pub struct Opened {
 }
 
 // The index of the earliest entry of that kind and name, or n.
-fn first(work: &[u32], at: usize, n: usize, kind: usize, name: usize) -> usize
-    requires { at + 4 * n ≤ length work.now }
-    ensures { First work.now at n kind name result }
+fn first(work: &[u32], g: Span, kind: usize, name: usize) -> usize
+    requires { g.at + 4 * g.n ≤ length work.now }
+    ensures { First work.now g.at g.n kind name result }
 {
-    let mut i = 0;
-    while i < n {
-        let k = layout::word(work, at + 4 * i);
-        if k == kind {
-            let a = layout::word(work, at + 4 * i + 1);
-            if a == name {
-                return i;
-            }
+    for i in 0..g.n {
+        let p = g.at + 4 * i;
+        if word(work, p) == kind && word(work, p + 1) == name {
+            return i;
         }
-        i += 1;
     }
-    i
+    g.n
 }
 
-// find and break3 at once: the index of the earliest entry with the key, or n. Left of it is break3's left, right of it its right.
+// find and break3 at once: the index of the earliest entry with the key, or n. Left of it is break3's left, right of it its right. No Option:
+// where there is none, break3's left is the n entries.
 pub fn find(work: &[u32], g: Span, k: Key) -> usize
     requires { g.at + 4 * g.n ≤ length work.now }
     ensures { Split work.now g (key k) result }
 {
-    let at = g.at;
-    let n = g.n;
-    let kind = k.kind();
-    let name = k.name();
-    first(work, at, n, kind, name)
+    first(work, g, k.kind(), k.name())
 }
 
 // The type reference that entry i holds.
@@ -56,9 +47,19 @@ pub fn type_at(work: &[u32], g: Span, i: usize) -> usize
     requires { (g.at + 4 * g.n ≤ length work.now) × (i < g.n) }
     ensures { (result ≡ get_or work.now (g.at + 4 * i + 2) 0) × (result < 2 ^ 32) }
 {
-    let at = g.at;
-    let p = at + 4 * i + 2;
-    layout::word(work, p)
+    word(work, g.at + 4 * i + 2)
+}
+
+// The type reference that the earliest entry with the key holds.
+pub fn lookup(work: &[u32], g: Span, k: Key) -> Option<usize>
+    requires { g.at + 4 * g.n ≤ length work.now }
+    ensures { Looked work.now g (key k) result }
+{
+    let i = find(work, g, k);
+    if i == g.n {
+        return None;
+    }
+    Some(type_at(work, g, i))
 }
 
 // Whether both have an unsolved entry and a's earliest one stands later.
@@ -66,15 +67,12 @@ pub fn before(work: &[u32], g: Span, a: TyVar, b: TyVar) -> bool
     requires { g.at + 4 * g.n ≤ length work.now }
     ensures { Before work.now g (ty a) (ty b) result }
 {
-    let at = g.at;
-    let n = g.n;
     let i = find(work, g, Key::ETVar(a));
-    if i == n {
+    if i == g.n {
         return false;
     }
-    let left = Span { at: at, n: i };
-    let j = find(work, left, Key::ETVar(b));
-    j < i
+    let left = Span { at: g.at, n: i };
+    find(work, left, Key::ETVar(b)) < i
 }
 
 // The run right of the earliest entry with the key; nothing where there is none.
@@ -82,16 +80,13 @@ pub fn right_of(work: &[u32], g: Span, k: Key) -> Span
     requires { g.at + 4 * g.n ≤ length work.now }
     ensures { Right work.now g (key k) result }
 {
-    let at = g.at;
-    let n = g.n;
     let i = find(work, g, k);
-    if i == n {
-        return Span { at: at, n: 0 };
+    if i == g.n {
+        return Span { at: g.at, n: 0 };
     }
-    let next = i + 1;
     Span {
-        at: at + 4 * next,
-        n: n - next,
+        at: g.at + 4 * (i + 1),
+        n: g.n - (i + 1),
     }
 }
 
@@ -100,11 +95,9 @@ fn past(st: State, n: usize) -> Opened
     requires { st.top + 4 * n ≤ CAP }
     ensures { Past st n result }
 {
-    let top = st.top;
-    let end = st.raise(4 * n);
     Opened {
-        st: end,
-        g: Span { at: top, n: n },
+        st: st.raise(4 * n),
+        g: Span { at: st.top, n },
     }
 }
 
@@ -113,14 +106,11 @@ fn copy_right(work: &mut [u32], g: Span, i: usize, to: usize) -> usize
     requires { (g.at + 4 * g.n ≤ to) × (to + 4 * (g.n - (i + 1)) ≤ length work.old) }
     ensures { CopiedRight work.old work.new g i to result }
 {
-    let at = g.at;
-    let n = g.n;
-    if n <= i {
+    if g.n <= i {
         return 0;
     }
-    let next = i + 1;
-    let rest = n - next;
-    layout::copy(work, at + 4 * next, to, 4 * rest);
+    let rest = g.n - (i + 1);
+    copy(work, g.at + 4 * (i + 1), to, 4 * rest);
     rest
 }
 
@@ -129,75 +119,46 @@ fn splice(work: &mut [u32], st: State, g: Span, i: usize, m: usize) -> Opened
     requires { (Space work.old st g m) × (i ≤ g.n) }
     ensures { Spliced work.old work.new st g i m result }
 {
-    let at = g.at;
-    let top = st.top;
     let gap = i + m;
-    layout::copy(work, at, top, 4 * i);
-    let rest = copy_right(work, g, i, top + 4 * gap);
+    copy(work, g.at, st.top, 4 * i);
+    let rest = copy_right(work, g, i, st.top + 4 * gap);
     past(st, gap + rest)
 }
 
-// Pushes an entry.
-pub fn push(work: &mut [u32], st: State, g: Span, e: Entry) -> Opened
-    requires { (Space work.old st g 1) × (SmallEntry e) }
-    ensures { Pushed work.old work.new st g e result }
+// Puts entries one after another.
+fn put_entries<const N: usize>(work: &mut [u32], at: usize, es: [Entry; N])
+    requires { (at + 4 * N ≤ length work.old) × (SmallEntries es) }
+    ensures { Put work.old work.new at es.entry }
 {
-    let n = g.n;
-    let p = st.top + 4 * n;
-    let o = splice(work, st, g, n, 1);
-    layout::put_entry(work, p, e);
+    for (i, e) in es.iter().enumerate() {
+        put_entry(work, at + 4 * i, *e);
+    }
+}
+
+// Pushes entries.
+pub fn push<const N: usize>(work: &mut [u32], st: State, g: Span, es: [Entry; N]) -> Opened
+    requires { (Space work.old st g N) × (SmallEntries es) }
+    ensures { Pushed work.old work.new st g es.entry result }
+{
+    let o = splice(work, st, g, g.n, N);
+    put_entries(work, st.top + 4 * g.n, es);
     o
 }
 
-// Pushes two entries.
-pub fn push2(work: &mut [u32], st: State, g: Span, e: Entry, e2: Entry) -> Opened
-    requires { (Space work.old st g 2) × (SmallEntry e) × (SmallEntry e2) }
-    ensures { Pushed2 work.old work.new st g e e2 result }
-{
-    let n = g.n;
-    let p = st.top + 4 * n;
-    let p2 = p + 4;
-    let o = splice(work, st, g, n, 2);
-    layout::put_entry(work, p, e);
-    layout::put_entry(work, p2, e2);
-    o
-}
-
-// An entry in the place of the earliest unsolved a, or at the end.
-pub fn replace(work: &mut [u32], st: State, g: Span, a: TyVar, e: Entry) -> Opened
-    requires { (Space work.old st g 1) × (SmallEntry e) }
-    ensures { Replaced work.old work.new st g (ty a) e result }
-{
-    let top = st.top;
-    let i = find(work, g, Key::ETVar(a));
-    let p = top + 4 * i;
-    let o = splice(work, st, g, i, 1);
-    layout::put_entry(work, p, e);
-    o
-}
-
-// Three entries in the place of the earliest unsolved a, or at the end.
-pub fn replace3(
+// Entries in the place of the earliest unsolved a, or at the end.
+pub fn replace<const N: usize>(
     work: &mut [u32],
     st: State,
     g: Span,
     a: TyVar,
-    e: Entry,
-    e2: Entry,
-    e3: Entry,
+    es: [Entry; N],
 ) -> Opened
-    requires { (Space work.old st g 3) × (SmallEntry e) × (SmallEntry e2) × (SmallEntry e3) }
-    ensures { Replaced3 work.old work.new st g (ty a) e e2 e3 result }
+    requires { (Space work.old st g N) × (SmallEntries es) }
+    ensures { Replaced work.old work.new st g (ty a) es.entry result }
 {
-    let top = st.top;
     let i = find(work, g, Key::ETVar(a));
-    let p = top + 4 * i;
-    let p2 = p + 4;
-    let p3 = p2 + 4;
-    let o = splice(work, st, g, i, 3);
-    layout::put_entry(work, p, e);
-    layout::put_entry(work, p2, e2);
-    layout::put_entry(work, p3, e3);
+    let o = splice(work, st, g, i, N);
+    put_entries(work, st.top + 4 * i, es);
     o
 }
 
@@ -206,25 +167,22 @@ fn keep_solved(work: &mut [u32], from: usize, to: usize) -> usize
     requires { (from + 4 ≤ to) × (to + 4 ≤ length work.old) }
     ensures { Kept work.old work.new from 1 to result }
 {
-    let kind = layout::word(work, from);
+    let kind = word(work, from);
     if kind == SETVAR {
-        layout::copy(work, from, to, 4);
+        copy(work, from, to, 4);
         return 1;
     }
     0
 }
 
-// Copies the solved ones of n entries; how many they are.
-fn solved(work: &mut [u32], at: usize, n: usize, to: usize) -> usize
-    requires { (at + 4 * n ≤ to) × (to + 4 * n ≤ length work.old) }
-    ensures { Kept work.old work.new at n to result }
+// Copies the solved ones of a run of entries; how many they are.
+fn solved(work: &mut [u32], g: Span, to: usize) -> usize
+    requires { (g.at + 4 * g.n ≤ to) × (to + 4 * g.n ≤ length work.old) }
+    ensures { Kept work.old work.new g.at g.n to result }
 {
-    let mut i = 0;
     let mut m = 0;
-    while i < n {
-        let more = keep_solved(work, at + 4 * i, to + 4 * m);
-        m += more;
-        i += 1;
+    for i in 0..g.n {
+        m += keep_solved(work, g.at + 4 * i, to + 4 * m);
     }
     m
 }
@@ -234,10 +192,8 @@ pub fn solved_and_right(work: &mut [u32], st: State, g: Span, k: Key) -> Opened
     requires { Space work.old st g 0 }
     ensures { KeptBoth work.old work.new st g (key k) result }
 {
-    let at = g.at;
-    let top = st.top;
     let i = find(work, g, k);
-    let m = solved(work, at, i, top);
-    let rest = copy_right(work, g, i, top + 4 * m);
+    let m = solved(work, Span { at: g.at, n: i }, st.top);
+    let rest = copy_right(work, g, i, st.top + 4 * m);
     past(st, m + rest)
 }

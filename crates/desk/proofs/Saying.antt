@@ -1,23 +1,14 @@
 -- From the reply's numbers and the report slice to the definition's two lines.
 use mathlib.Core.Path.{◌≡◌, refl, ◌∙◌}
 use mathlib.Core.List.{List, [], ◌∷◌, ◌++◌}
-use Prim.Native.Nat.{ℕ, ◌-◌, ◌≤◌}
-use native.Mathlib.Nat.{sub-zero}
-use lib.ListN.{length, take}
+use Prim.Native.Nat.{ℕ}
 use Rattle.definition.specs.Host.{bytes_of, numbers, byte_reply, host_computes}
-use Rattle.lines.specs.Lines.{line_of, PutBytes}
-use Rattle.lines.proofs.Lines.{wrote_then}
+use Rattle.lines.specs.Lines.{line_of}
 use Rattle.replies.specs.declared.Reply.{Reply}
-use Rattle.replies.specs.Numbers.{written_of}
 use Rattle.sized.specs.Sized.{Told}
 use Rattle.desk.specs.Said.{two_lines, Said, Lines}
 
 -- ## The two lines
-
--- the words shown are `&report[0..n]`
-pub both : {r : Reply} {s o o₁ o₂ : List ℕ} {y z : ℕ} (n : ℕ) → n ≡ written_of r
-    → PutBytes o o₁ 0 (line_of (r.code ∷ r.at ∷ r.len ∷ r.units ∷ [])) y → PutBytes o₁ o₂ y (line_of (take (n - 0) s)) z → z ≤ length o₂ → Lines r s o₂ z
-both n h a b l = record { is = rw (sub-zero n, h) at (wrote_then _ _ a b).is; within = l }
 
 pub said : {input : List ℕ} {r : Reply} {s out : List ℕ} {z : ℕ} → Told input 4096 s r → Lines r s out z → Said input out z
 unfolding two_lines numbers

@@ -1,6 +1,6 @@
 -- The judgement that a question of each kind asks, as the judgement functions are asked it.
 use mathlib.Core.Path.{◌≡◌, refl, sym, ◌∙◌}
-use mathlib.Core.Bool.{true, false}
+use mathlib.Core.Bool.{Bool, true, false}
 use mathlib.Core.List.{List}
 use Prim.Native.Nat.{ℕ, ◌<◌}
 use native.Mathlib.Omega.{arith}
@@ -13,17 +13,19 @@ use Rattle.definition.specs.Rules.{outside, judge}
 use Rattle.definition.specs.Reply.{answer}
 use Rattle.laws.specs.Count.{charged}
 use Rattle.layout.specs.Sizes.{BASE}
+use Rattle.layout.specs.Kinds.{kind_number}
 use Rattle.layout.specs.Denotes.{Run, written}
 use Rattle.layout.specs.declared.Span.{Span}
 use Rattle.layout.specs.declared.State.{State}
 use Rattle.layout.proofs.Places.{ty_code_lem, expr_code_lem}
 use Rattle.judging.specs.declared.Ask.{Ask}
 use Rattle.judging.specs.declared.Here.{Here}
-use Rattle.judging.specs.declared.Step.{Step}
-use Rattle.judging.specs.Ending.{RunsJ, charge_of, Judged}
+use Rattle.judging.specs.Ending.{Step, RunsJ, charge_of, Judged}
 use Rattle.judging.specs.Asking.{here, Asks, as_infer, as_check, as_app, as_sub, as_inst_l, as_inst_r, infer_ask, check_ask, app_ask, sub_ask, inst_ask, Small, JudgePre}
 use Rattle.reading.specs.Questions.{ContextAt, AsksAt, infers_at, checks_at, applies_at, compares_at, solves_left_at, solves_right_at, runs_at, ModeIs, plainly, strictly, Accepted}
 use Rattle.reading.specs.declared.Question.{Question}
+use Rattle.reading.specs.declared.Mode as program
+use Rattle.reading.specs.declared.Mode.TheVariants.{Plain, Strict}
 use Rattle.entry.specs.Entry.{OutsideOf, AskPre, Answers, ResolvePre, Resolves}
 
 module _ {q w : List ℕ} {t : ℕ} {g : Span} {x : Question} (run : (Γ : Ctx) → ContextAt q x Γ → Run q w t g.at g.n Γ) where
@@ -61,7 +63,7 @@ places_small (runs_at c e l r) = let a = expr_code_lem e in (a.inside, omega ari
 
 -- ## One kind
 
-module _ {q w : List ℕ} {x : Question} {st : State} {g : Span} (pre : AskPre q w x st g) (k : ℕ) (is : x.kind ≡ k) {a : Ask}
+module _ {q w : List ℕ} {x : Question} {st : State} {g : Span} (pre : AskPre q w x st g) (k : ℕ) (is : kind_number x.kind ≡ k) {a : Ask}
     (asks : (j : Judgement) → AsksAt q x k j → Asks q w st.top g a j) where
   asked_as : (acc : Accepted q x) → AsksAt q x k acc.asked.asks
   asked_as acc = rw (sym acc.kind ∙ is) at acc.asks
@@ -103,33 +105,19 @@ module _ {q w : List ℕ} {x : Question} {st : State} {g : Span} (pre : AskPre q
       charge = λ acc. rw (sym acc.kind ∙ is, e) (h.charge _ (ran acc).ends (paid acc));
     }
 
--- ## No other kind
-
-pub seven : {q : List ℕ} {x : Question} {k : ℕ} {j : Judgement} → AsksAt q x k j → (k ≡ 1 → ⊥) → (k ≡ 2 → ⊥) → (k ≡ 3 → ⊥) → (k ≡ 4 → ⊥) → (k ≡ 5 → ⊥)
-    → (k ≡ 6 → ⊥) → k ≡ 7
-seven (infers_at c e l r) n₁ n₂ n₃ n₄ n₅ n₆ = absurd (n₁ refl)
-seven (checks_at c e l r) n₁ n₂ n₃ n₄ n₅ n₆ = absurd (n₂ refl)
-seven (applies_at c e l r) n₁ n₂ n₃ n₄ n₅ n₆ = absurd (n₃ refl)
-seven (compares_at c e l r) n₁ n₂ n₃ n₄ n₅ n₆ = absurd (n₄ refl)
-seven (solves_left_at c e l r) n₁ n₂ n₃ n₄ n₅ n₆ = absurd (n₅ refl)
-seven (solves_right_at c e l r) n₁ n₂ n₃ n₄ n₅ n₆ = absurd (n₆ refl)
-seven (runs_at c e l r) n₁ n₂ n₃ n₄ n₅ n₆ = refl
-
--- what a match on the kinds 1 to 6 leaves
-pub kind_seven : {q w : List ℕ} {x : Question} {st : State} {g : Span} → AskPre q w x st g
-    → (((((Unit {0} × (x.kind ≡ 1 → ⊥)) × (x.kind ≡ 2 → ⊥)) × (x.kind ≡ 3 → ⊥)) × (x.kind ≡ 4 → ⊥)) × (x.kind ≡ 5 → ⊥)) × (x.kind ≡ 6 → ⊥)
-    → x.kind ≡ 7
-kind_seven pre n =
-    let e = pre.accepted.kind in
-    e
-    ∙ seven pre.accepted.asks (λ f. n.0.0.0.0.0.1 (e ∙ f)) (λ f. n.0.0.0.0.1 (e ∙ f)) (λ f. n.0.0.0.1 (e ∙ f)) (λ f. n.0.0.1 (e ∙ f))
-    (λ f. n.0.1 (e ∙ f)) (λ f. n.1 (e ∙ f))
-
 -- ## The mode
 
-outside_is : {k : ℕ} {μ : question.Mode} → ModeIs k μ → outside (record { compares_parameter = eqb k 1; applies_branches = eqb k 1 }) ≡ outside μ
+abbrev pub is_strict : program.Mode → Bool
+is_strict Plain = false
+is_strict Strict = true
+
+pub not_strict : (m : program.Mode) → (m ≡ Strict → ⊥) → is_strict m ≡ false
+not_strict Plain n = refl
+not_strict Strict n = absurd (n refl)
+
+outside_is : {m : program.Mode} {μ : question.Mode} → ModeIs m μ → outside (record { compares_parameter = is_strict m; applies_branches = is_strict m }) ≡ outside μ
 outside_is plainly = refl
 outside_is strictly = refl
 
-pub outside_of : {k : ℕ} {h : Here} → here h ≡ outside (record { compares_parameter = eqb k 1; applies_branches = eqb k 1 }) → OutsideOf k h
-outside_of e = record { is = λ m. e ∙ outside_is m }
+pub outside_of : {m : program.Mode} {b : Bool} {h : Here} → b ≡ is_strict m → here h ≡ outside (record { compares_parameter = b; applies_branches = b }) → OutsideOf m h
+outside_of f e = record { is = λ m. rw f at e ∙ outside_is m }

@@ -1,11 +1,11 @@
 -- Words that are zero already, and words that are made zero.
 use mathlib.Core.Path.{◌≡◌, sym, ap, ◌∙◌}
-use mathlib.Core.List.{List, ◌++◌, append-nil, append_assoc}
+use mathlib.Core.List.{List, ◌++◌, append_assoc}
 use Prim.Native.Nat.{ℕ, ◌+◌, ◌-◌, ◌≤◌, ◌<◌}
 use native.Mathlib.Omega.{arith}
 use lib.Bits.{bit_or, or_zero_l, or_add_and, and_le_l, and_le_r}
 use lib.ListN.{length, get_or, get_or-replicate, set, take, drop, replicate, length-append, length-drop, length-replicate, replicate-append-replicate}
-use lib.Seq.{set-get_or, drop-length, length-take-le, take_at, drop_at, drop-drop}
+use lib.Seq.{set-get_or, length-take-le, take_at, drop_at, drop-drop}
 use borrow.Author.Fill.{fill_more}
 
 -- bits that come to 0 were 0
@@ -23,10 +23,6 @@ zero_bits w i b h z e =
 -- one zero more
 pub zero_more : (l : List ℕ) (i : ℕ) → i < length l → get_or l i 0 ≡ 0 → l ≡ replicate i 0 ++ drop i l → l ≡ replicate (i + 1) 0 ++ drop (i + 1) l
 zero_more l i h e f = sym (set-get_or l i 0) ∙ ap (set l i) e ∙ ap (λ (k : List ℕ). set k i 0) f ∙ fill_more i 0 l h
-
--- all of them
-pub zero_all : (l l' : List ℕ) → l' ≡ replicate (length l) 0 ++ drop (length l) l → l' ≡ replicate (length l) 0
-zero_all l l' e = e ∙ ap (replicate (length l) 0 ++◌) (drop-length l) ∙ append-nil _
 
 -- ## From the front, part by part
 

@@ -12,7 +12,8 @@ use Rattle.definition.specs.Types.{apply}
 use Rattle.definition.specs.Rules.{outside, judge}
 use Rattle.definition.specs.Reply.{refusal, answer, out_reply, work_words}
 use Rattle.definition.specs.Memory.{report_after}
-use Rattle.judging.specs.declared.Step.{Step}
+use Rattle.judging.specs.Ending.{Step}
+use Rattle.layout.specs.Kinds.{kind_number}
 use Rattle.judging.proofs.Steps.{step_none}
 use Rattle.contexts.specs.declared.Opened.{Opened}
 use Rattle.reading.specs.Questions.{Accepted}
@@ -62,9 +63,9 @@ module _ {q w w₁ w₂ : List ℕ} {budget : ℕ} {a : Question} {o : Opened} {
         charge = an.charge pre.read;
       }
 
-  pub runs : {s s' : List ℕ} {r : Reply} → Finishes q w₂ a.kind o.st z s s' r → Runs q budget a s s' r
+  pub runs : {s s' : List ℕ} {r : Reply} → Finishes q w₂ (kind_number a.kind) o.st z s s' r → Runs q budget a s s' r
   runs {s} {s'} {r} f = record {
     gives = λ acc.
-        let g : Gives (out_reply a.kind o.st.left (length s) (answer acc.asked o.st.left o.st.fresh)) s s' r = f.gives _ (an.ends acc) in
+        let g : Gives (out_reply (kind_number a.kind) o.st.left (length s) (answer acc.asked o.st.left o.st.fresh)) s s' r = f.gives _ (an.ends acc) in
         subst₃ (λ k b n. Gives (out_reply k b (length s) (answer acc.asked b n)) s s' r) acc.kind op.left op.fresh g;
   }

@@ -1,5 +1,5 @@
 -- The entry's promise: the definition's call, in the four numbers and in both slices.
-use Rattle.std.specs.Prelude.{◌≡◌, List, ◌++◌, ℕ, ◌≤◌, ◌<◌, length, drop, replicate}
+use Rattle.std.specs.Prelude.{◌≡◌, List, ◌++◌, ℕ, ◌≤◌, ◌<◌, length, drop, replicate, Result as Outcome, Ok, Err}
 use Rattle.definition.specs.Reply as definition
 use Rattle.definition.specs.Reply.{work_words, answer, out_reply}
 use Rattle.definition.specs.Question as question
@@ -10,11 +10,9 @@ use Rattle.definition.specs.Types.{apply}
 use Rattle.definition.specs.Rules.{Result, outside}
 use Rattle.layout.specs.Sizes.{CAP}
 use Rattle.layout.specs.declared.State.{State}
-use Rattle.judging.specs.declared.Step.{Step}
-use Rattle.judging.specs.Ending.{EndsJ, charge_of}
+use Rattle.judging.specs.Ending.{Step, EndsJ, charge_of}
 use Rattle.laws.specs.Count.{charged}
-use Rattle.report.specs.declared.Report.{Report}
-use Rattle.report.specs.declared.Report.TheVariants.{Written, NoRoom}
+use Rattle.report.specs.declared.NoRoom.{NoRoom}
 use Rattle.layout.specs.Denotes.{Run}
 use Rattle.contexts.specs.declared.Opened.{Opened}
 use Rattle.judging.specs.Asking.{here, Ready}
@@ -22,6 +20,7 @@ use Rattle.layout.specs.declared.Span.{Span}
 use Rattle.judging.specs.declared.Here.{Here}
 use Rattle.reading.specs.Questions.{ContextAt, ModeIs, Accepted}
 use Rattle.reading.specs.declared.Question.{Question}
+use Rattle.reading.specs.declared.Mode as program
 use Rattle.replies.specs.declared.Reply.{Reply}
 use Rattle.replies.specs.Numbers.{Numbers}
 
@@ -101,13 +100,13 @@ pub record Resolves (q w w' : List ℕ) (s : State) (z z' : Step) : Type 0 where
 -- ## From what a run came to, to its reply
 
 -- the four numbers, by what became of the report
-abbrev pub told_of : ℕ → ℕ → ℕ → Report → Reply
-told_of c p u (Written n) = record { code = c; at = p; len = n; units = u }
-told_of c p u (NoRoom n) = record { code = 7; at = 0; len = n; units = u }
+abbrev pub told_of : ℕ → ℕ → ℕ → Outcome ℕ NoRoom → Reply
+told_of c p u (Ok n) = record { code = c; at = p; len = n; units = u }
+told_of c p u (Err r) = record { code = 7; at = 0; len = r.0; units = u }
 
-abbrev pub length_of : Report → ℕ
-length_of (Written n) = n
-length_of (NoRoom n) = n
+abbrev pub length_of : Outcome ℕ NoRoom → ℕ
+length_of (Ok n) = n
+length_of (Err r) = r.0
 
 -- a run from the state s came to z, which is R in the definition, and was charged what R was
 pub record FinishPre (q w : List ℕ) (s : State) (z : Step) : Type 0 where
@@ -133,5 +132,5 @@ pub record Answers (q w w' : List ℕ) (a : Question) (st : State) (z : Step) : 
   pub ends : (acc : Accepted q a) → EndsJ q w' st z (answer acc.asked st.left st.fresh)
   pub charge : (acc : Accepted q a) → charge_of z ≡ charged st.left (answer acc.asked st.left st.fresh)
 
-pub record OutsideOf (k : ℕ) (h : Here) : Type 0 where
-  pub is : {μ : question.Mode} → ModeIs k μ → here h ≡ outside μ
+pub record OutsideOf (m : program.Mode) (h : Here) : Type 0 where
+  pub is : {μ : question.Mode} → ModeIs m μ → here h ≡ outside μ

@@ -3,52 +3,36 @@
 
 ghost use Rattle.std.specs.Prelude.{◌≡◌, ◌++◌, ◌≤◌, ◌<◌, ◌^◌, length, drop, replicate};
 ghost use Rattle.definition.specs.Reply.{work_words};
+ghost use Rattle.layout.specs.Kinds.{kind_number};
 ghost use Rattle.entry.specs.Entry.{OutsideOf, AskPre, Answers, told_of, length_of, FinishPre, Finishes, ResolvePre, Resolves, OpenPre, Prepares, RunPre, Runs, ZeroBits, ClearedPre, Cleared, Replied};
 
 use contexts::Opened;
-use judging::{Answer, Here, Mode, Step};
-use layout::{Made, Span, State};
-use reading::{Question, Reading};
-use replies::Reply;
-use report::Report;
+use judging::{Answer, Here, Mode, Step, Stop};
+use layout::{Kind, Span, State};
+use reading::Question;
+use replies::{Code, Reply};
+use report::NoRoom;
 
 // Work is zeroed in blocks of so many words.
 const BLOCK: usize = 256;
 
 // All bits of a block's words in one: 0 where all words are 0, and nowhere else.
 fn any_bits(block: &[u32]) -> u32
-    requires { length block.now ≡ 256 }
     ensures { ZeroBits block.now result }
 {
-    let mut bits: u32 = 0;
-    let mut i = 0;
-    while i < BLOCK {
-        bits = bits | block[i];
-        i += 1;
+    let mut bits = 0;
+    for word in block {
+        bits |= *word;
     }
     bits
 }
 
-// Zeroes words.
-fn zero(words: &mut [u32])
-    ensures { words.new ≡ replicate (length words.old) 0 }
-{
-    let n = words.len();
-    let mut i = 0;
-    while i < n {
-        words[i] = 0;
-        i += 1;
-    }
-}
-
 // Zeroes a block where it is not zero yet. Most of work is: a call left it so, and to read a word costs less than to write it.
 fn clear_block(block: &mut [u32])
-    requires { length block.old ≡ 256 }
     ensures { block.new ≡ replicate (length block.old) 0 }
 {
-    let bits = any_bits(block);
-    if bits != 0 {
-        zero(block);
+    if any_bits(block) != 0 {
+        block.fill(0);
     }
 }
 
@@ -57,14 +41,11 @@ fn clear(work: &mut [u32], n: usize)
     requires { n ≤ length work.old }
     ensures { work.new ≡ replicate n 0 ++ drop n work.old }
 {
-    let mut i = 0;
-    let mut end: usize = BLOCK;
-    while end <= n {
-        clear_block(&mut work[i..end]);
-        i = end;
-        end = i + BLOCK;
+    let whole = n / BLOCK;
+    for i in 0..whole {
+        clear_block(&mut work[BLOCK * i..BLOCK * (i + 1)]);
     }
-    zero(&mut work[i..n]);
+    work[BLOCK * whole..n].fill(0);
 }
 
 // How many words of work a budget asks for.
@@ -80,12 +61,9 @@ fn prepare(q: &[u32], work: &mut [u32], budget: usize, a: Question) -> Opened
     requires { OpenPre q.now work.old budget a }
     ensures { Prepares q.now work.new budget a result }
 {
-    let low = work_words(budget);
-    let from = a.context;
-    let n = a.entries;
     loading::ends::fill_ends(q, work);
-    let st = layout::start(low, budget);
-    loading::load_context(q, work, st, from, n)
+    let st = layout::start(work_words(budget), budget);
+    loading::load_context(q, work, st, a.context, a.entries)
 }
 
 // Kind 7's type, resolved by the final context; from is the state in which the judgement began.
@@ -93,26 +71,13 @@ fn resolve(q: &[u32], work: &mut [u32], from: State, z: Step) -> Step
     requires { ResolvePre q.now work.old from z }
     ensures { Resolves q.now work.old work.new from z result }
 {
-    let Step::Done(r) = z else {
-        return z;
-    };
-    let st = r.st;
-    let g = r.g;
-    let ty = r.ty;
-    let made = substitution::apply_ctx_type(q, work, st, g, ty);
-    let Made::Done(after, found) = made else {
-        return Step::Spent;
-    };
-    let rule = r.rule;
-    let kids = r.kids;
-    let charge = after.charged_since(from);
-    Step::Done(Answer {
-        st: after,
-        g: g,
-        ty: found,
-        rule: rule,
-        kids: kids,
-        charge: charge,
+    let r = z?;
+    let found = substitution::apply_ctx_type(q, work, r.st, r.g, r.ty)?;
+    Ok(Answer {
+        st: found.st,
+        ty: found.ty,
+        charge: found.st.charged_since(from),
+        ..r
     })
 }
 
@@ -122,7 +87,7 @@ fn spent(budget: usize) -> Reply
     ensures { result ≡ record { code = 6; at = 0; len = 0; units = budget } }
 {
     Reply {
-        code: 6,
+        code: Code::Budget.number(),
         at: 0,
         len: 0,
         units: budget as u32,
@@ -130,24 +95,23 @@ fn spent(budget: usize) -> Reply
 }
 
 // The four numbers, by what became of the report.
-fn told(code: usize, at: u32, units: usize, z: Report) -> Reply
-    requires { (code < 2 ^ 32) × (units < 2 ^ 32) × (length_of z < 2 ^ 32) }
+fn told(code: u32, at: u32, units: usize, z: Result<usize, NoRoom>) -> Reply
+    requires { (units < 2 ^ 32) × (length_of z < 2 ^ 32) }
     ensures { result ≡ told_of code at units z }
 {
-    let c = code as u32;
-    let u = units as u32;
+    let units = units as u32;
     match z {
-        Report::Written(n) => Reply {
-            code: c,
-            at: at,
+        Ok(n) => Reply {
+            code,
+            at,
             len: n as u32,
-            units: u,
+            units,
         },
-        Report::NoRoom(n) => Reply {
-            code: 7,
+        Err(NoRoom(n)) => Reply {
+            code: Code::NoRoom.number(),
             at: 0,
             len: n as u32,
-            units: u,
+            units,
         },
     }
 }
@@ -156,38 +120,32 @@ fn told(code: usize, at: u32, units: usize, z: Report) -> Reply
 fn finish<'a>(
     q: &'a [u32],
     work: &'a [u32],
-    kind: usize,
+    kind: Kind,
     from: State,
     z: Step,
     report: &mut [u32],
 ) -> Reply
     requires { FinishPre q.now work.now from z }
-    ensures { Finishes q.now work.now kind from z report.old report.new result }
+    ensures { Finishes q.now work.now (kind_number kind) from z report.old report.new result }
 {
-    let budget = from.left;
-    let high = from.low;
     match z {
-        Step::Done(a) => {
-            let units = a.charge;
-            let y = report::report_result(q, work, kind, a, high, report);
-            told(0, 0, units, y)
+        Ok(a) => {
+            let y = report::report_result(q, work, kind, a, from.low, report);
+            told(0, 0, a.charge, y)
         }
-        Step::Fail(b) => {
-            let code = b.code;
-            let name = b.name;
-            let units = b.charge;
+        Err(Stop::Fail(b)) => {
             let y = report::report_error(q, work, b, report);
-            told(code, name, units, y)
+            told(b.error.code(), b.name, b.charge, y)
         }
-        Step::Spent => spent(budget),
+        Err(Stop::Spent) => spent(from.left),
     }
 }
 
-// What the question's judgement runs in: mode 0 is plain, mode 1 strict.
-fn outside(mode: usize) -> Here
+// What the question's judgement runs in.
+fn outside(mode: reading::Mode) -> Here
     ensures { OutsideOf mode result }
 {
-    let strict = mode == 1;
+    let strict = matches!(mode, reading::Mode::Strict);
     judging::outside(Mode {
         compares_parameter: strict,
         applies_branches: strict,
@@ -200,19 +158,15 @@ fn judge(q: &[u32], work: &mut [u32], a: Question, st: State, g: Span) -> Step
     ensures { Answers q.now work.old work.new a st result }
 {
     let h = outside(a.mode);
-    let kind = a.kind;
-    let ex = a.expr;
-    let left = a.left;
-    let right = a.right;
-    match kind {
-        1 => inference::infer(q, work, h, st, g, ex),
-        2 => inference::check(q, work, h, st, g, ex, right),
-        3 => inference::infer_app(q, work, h, st, g, left, ex),
-        4 => subtyping::subtype(q, work, h, st, g, left, right),
-        5 => instantiation::inst_l(q, work, h, st, g, left, right),
-        6 => instantiation::inst_r(q, work, h, st, g, left, right),
-        _ => {
-            let z = inference::infer(q, work, h, st, g, ex);
+    match a.kind {
+        Kind::Infer => inference::infer(q, work, h, st, g, a.expr),
+        Kind::Check => inference::check(q, work, h, st, g, a.expr, a.right),
+        Kind::InferApp => inference::infer_app(q, work, h, st, g, a.left, a.expr),
+        Kind::Subtype => subtyping::subtype(q, work, h, st, g, a.left, a.right),
+        Kind::InstL => instantiation::inst_l(q, work, h, st, g, a.left, a.right),
+        Kind::InstR => instantiation::inst_r(q, work, h, st, g, a.left, a.right),
+        Kind::Resolve => {
+            let z = inference::infer(q, work, h, st, g, a.expr);
             resolve(q, work, st, z)
         }
     }
@@ -223,16 +177,12 @@ fn run(q: &[u32], work: &mut [u32], budget: usize, a: Question, report: &mut [u3
     requires { RunPre q.now work.old budget a }
     ensures { Runs q.now budget a report.old report.new result }
 {
-    let n = a.entries;
-    let kind = a.kind;
-    if budget <= n {
+    if budget <= a.entries {
         return spent(budget);
     }
     let o = prepare(q, work, budget, a);
-    let st = o.st;
-    let g = o.g;
-    let z = judge(q, work, a, st, g);
-    finish(q, work, kind, st, z, report)
+    let z = judge(q, work, a, o.st, o.g);
+    finish(q, work, a.kind, o.st, z, report)
 }
 
 // The same in the first words of a longer slice, which end as 0.
@@ -251,24 +201,24 @@ pub fn check(question: &[u32], budget: u32, work: &mut [u32], report: &mut [u32]
     ensures { Replied budget question.now work.old work.new report.old report.new result }
 {
     if budget < 1 {
-        return replies::refusal(1, 0);
+        return replies::refusal(Code::BadBudget.number(), 0);
     }
     if definition::BUDGET_MOST < budget {
-        return replies::refusal(1, 0);
+        return replies::refusal(Code::BadBudget.number(), 0);
     }
-    let b = budget as usize;
-    let need = work_words(b);
+    let budget = budget as usize;
+    let need = work_words(budget);
     if work.len() < need {
-        return replies::refusal(2, 0);
+        return replies::refusal(Code::ShortWork.number(), 0);
     }
     if question.len() < 1 {
-        return replies::refusal(3, 0);
+        return replies::refusal(Code::BadLength.number(), 0);
     }
     if definition::QUESTION_MOST < question.len() {
-        return replies::refusal(3, 0);
+        return replies::refusal(Code::BadLength.number(), 0);
     }
     match reading::read_question(question) {
-        Reading::Fault(code, at) => replies::refusal(code as u32, at as u32),
-        Reading::Asked(a) => run_cleared(question, work, b, a, report),
+        Ok(a) => run_cleared(question, work, budget, a, report),
+        Err(fault) => replies::refusal(fault.why.code(), fault.at as u32),
     }
 }

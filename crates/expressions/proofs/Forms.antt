@@ -9,10 +9,10 @@ use Rattle.layout.specs.Sizes.{ENDS}
 use Rattle.layout.specs.Monotypes.{past}
 use Rattle.layout.specs.Places.{expr_size, size, CodeAt, TyAt, ExprAt, evar_at, app_at, abs_at, tapp_at, tabs_at, ann_at, lit_int_at, lit_bool_at, let_in_at, if_then_else_at, bin_op_at}
 use Rattle.layout.specs.Denotes.{Base}
-use Rattle.layout.proofs.Places.{expr_code_lem, ty_code_lem}
+use Rattle.layout.proofs.Places.{expr_code_lem}
 use Rattle.layout.proofs.Denotes.{past_ty}
 use Rattle.layout.proofs.Numbered.{nth}
-use Rattle.expressions.specs.Forms.{Shaped, IsApp, IsAbs, IsTyped, IsTAbs, IsLet, IsIf, IsBinOp, VarOf, AppOf, AbsOf, TypedOf, TAbsOf, LetOf, IfOf, BinOpOf}
+use Rattle.expressions.specs.Forms.{Shaped, IsApp, IsAbs, IsTyped, IsTAbs, IsLet, IsIf, IsBinOp, AbsOf}
 
 -- ## Forms that no function takes apart
 
@@ -33,8 +33,8 @@ module _ (q w : List ℕ) (p : ℕ) where
   name = get_or q (p + 1) 0
 
   -- what the expression of code k at p is
-  abbrev Form : Expr → ℕ → Type 0
-  Form e k =
+  abbrev IsForm : Expr → ℕ → Type 0
+  IsForm e k =
       nth ((e ≡ evar p (record { number = name }))
       ∷ IsApp q p (record { func = p + 1; arg = past w (p + 1) }) e
       ∷ IsAbs q p (record { x = record { 0 = name }; ty = p + 2; body = past w (p + 2) }) e
@@ -48,7 +48,7 @@ module _ (q w : List ℕ) (p : ℕ) where
       ∷ IsBinOp q p (record { op = name; left = p + 2; right = past w (p + 2) }) e
       ∷ []) (k - 16)
 
-  by : {c k : ℕ} (e : Expr) → CodeAt q p c → get_or q p 0 ≡ k → Form e c → Form e k
+  by : {c k : ℕ} (e : Expr) → CodeAt q p c → get_or q p 0 ≡ k → IsForm e c → IsForm e k
   by e c h f = rw (sym c.is ∙ h) at f
 
 module _ {q w : List ℕ} (b : Base q w (length w)) where
@@ -59,7 +59,7 @@ module _ {q w : List ℕ} (b : Base q w (length w)) where
   after_type : {i m : ℕ} {A : Ty} → TyAt q i A → i + size A ≡ m → past w i ≡ m
   after_type x m = past_ty b x ∙ m
 
-  form : {p : ℕ} {e : Expr} (k : ℕ) → get_or q p 0 ≡ k → ExprAt q p e → Form q w p e k
+  form : {p : ℕ} {e : Expr} (k : ℕ) → get_or q p 0 ≡ k → ExprAt q p e → IsForm q w p e k
   form k h (evar_at {p} {x} c n) = by q w p (evar p x) c h (rw n.is refl)
   form k h (app_at c x m y) = by q w _ _ c h (record { f = _; d = _; is = refl; func = x; arg = rw (after x m) y })
   form k h (abs_at {p = p} {x = x} {A = A} {e = d} c n a m y) = by q w p (abs p x A d) c h (record { A = A; d = d; is = rw n.is refl; type = a; body = rw (after_type a m) y })
@@ -78,7 +78,7 @@ module _ {q w : List ℕ} (b : Base q w (length w)) where
 -- ## Where the functions look
 
 -- every expression has a second word
-second_word : {q : List ℕ} {p : ℕ} {e : Expr} → ExprAt q p e → p + 1 < length q
+pub second_word : {q : List ℕ} {p : ℕ} {e : Expr} → ExprAt q p e → p + 1 < length q
 second_word (evar_at c n) = n.within
 second_word (app_at c x m y) = (expr_code_lem x).within
 second_word (abs_at c n a m y) = n.within
@@ -91,9 +91,6 @@ second_word (let_in_at c n y m z) = n.within
 second_word (if_then_else_at c x m y n z) = (expr_code_lem x).within
 second_word (bin_op_at c n l u y m z) = n.within
 
-pub name_within : {q w : List ℕ} {p k : ℕ} → Shaped q w p k → p + 1 < length q
-name_within s = second_word s.at
-
 -- the table has a word for the place of a part
 in_table : {q w : List ℕ} {p k i : ℕ} {f : Expr} → Shaped q w p k → ExprAt q i f → ENDS + i < length w
 in_table s x = omega (arith, (expr_code_lem x).inside, s.base.floor)
@@ -102,60 +99,13 @@ in_table s x = omega (arith, (expr_code_lem x).inside, s.base.floor)
 
 module _ {q w : List ℕ} {p : ℕ} where
   -- what an expression is that has the code
-  pub told : {k : ℕ} → Shaped q w p k → {e : Expr} → ExprAt q p e → Form q w p e k
+  pub told : {k : ℕ} → Shaped q w p k → {e : Expr} → ExprAt q p e → IsForm q w p e k
   told {k} s x = form s.base k s.code.is x
-
-  pub var_of : Shaped q w p 16 → VarOf q p (record { 0 = get_or q (p + 1) 0 })
-  var_of s = record { is = λ x. told s x }
-
-  pub app_table : Shaped q w p 17 → ENDS + (p + 1) < length w
-  app_table s = in_table s (told s s.at).func
-
-  pub app_of : {m : ℕ} → Shaped q w p 17 → m ≡ past w (p + 1) → AppOf q p (record { func = p + 1; arg = m })
-  app_of s h = record { is = λ x. rw h (told s x) }
-
-  pub abs_table : Shaped q w p 18 → ENDS + (p + 2) < length w
-  abs_table s = omega (arith, (ty_code_lem (told s s.at).type).inside, s.base.floor)
 
   pub abs_of : {m : ℕ} → Shaped q w p 18 → m ≡ past w (p + 2)
       → AbsOf q p (record { x = record { 0 = get_or q (p + 1) 0 }; ty = p + 2; body = m })
   abs_of s h = record { is = λ x. rw h (told s x) }
 
-  pub ann_table : Shaped q w p 21 → ENDS + (p + 1) < length w
-  ann_table s = in_table s (told s s.at).part
-
-  pub ann_of : {m : ℕ} → Shaped q w p 21 → m ≡ past w (p + 1) → TypedOf ann q p (record { e = p + 1; ty = m })
-  ann_of s h = record { is = λ x. rw h (told s x) }
-
-  pub tapp_table : Shaped q w p 19 → ENDS + (p + 1) < length w
-  tapp_table s = in_table s (told s s.at).part
-
-  pub tapp_of : {m : ℕ} → Shaped q w p 19 → m ≡ past w (p + 1) → TypedOf tapp q p (record { e = p + 1; ty = m })
-  tapp_of s h = record { is = λ x. rw h (told s x) }
-
-  pub tabs_of : Shaped q w p 20 → TAbsOf q p (record { a = record { 0 = get_or q (p + 1) 0 }; body = p + 2 })
-  tabs_of s = record { is = λ x. told s x }
-
-  pub let_table : Shaped q w p 24 → ENDS + (p + 2) < length w
-  let_table s = in_table s (told s s.at).first
-
-  pub let_of : {m : ℕ} → Shaped q w p 24 → m ≡ past w (p + 2)
-      → LetOf q p (record { x = record { 0 = get_or q (p + 1) 0 }; first = p + 2; body = m })
-  let_of s h = record { is = λ x. rw h (told s x) }
-
-  pub if_table : Shaped q w p 25 → ENDS + (p + 1) < length w
-  if_table s = in_table s (told s s.at).cond
-
   module _ {m : ℕ} (s : Shaped q w p 25) (h : m ≡ past w (p + 1)) where
     pub if_table₂ : ENDS + m < length w
     if_table₂ = rw h (in_table s (told s s.at).yes)
-
-    pub if_of : {n : ℕ} → n ≡ past w m → IfOf q p (record { cond = p + 1; yes = m; no = n })
-    if_of i = record { is = λ x. rw (i, h) (told s x) }
-
-  pub binop_table : Shaped q w p 26 → ENDS + (p + 2) < length w
-  binop_table s = in_table s (told s s.at).left
-
-  pub binop_of : {o m : ℕ} → Shaped q w p 26 → o ≡ get_or q (p + 1) 0 → m ≡ past w (p + 2)
-      → BinOpOf q p (record { op = o; left = p + 2; right = m })
-  binop_of s i h = record { is = λ x. rw (i, h) (told s x) }

@@ -5,6 +5,7 @@ use Rattle.layout.specs.Names.{tm, ty}
 use Rattle.layout.specs.Places.{CodeAt, TyAt, ExprAt}
 use Rattle.layout.specs.Denotes.{Base}
 use Rattle.layout.specs.declared.TmVar.{TmVar}
+use Rattle.expressions.specs.declared.Form.{Form}
 use Rattle.expressions.specs.declared.App.{App}
 use Rattle.expressions.specs.declared.Abs.{Abs}
 use Rattle.expressions.specs.declared.Typed.{Typed}
@@ -21,6 +22,30 @@ pub record Shaped (q w : List ℕ) (p k : ℕ) : Type 0 where
   pub e : Expr
   pub at : ExprAt q p e
   pub code : CodeAt q p k
+
+-- an expression stands at p
+pub record Stands (q : List ℕ) (p : ℕ) : Type 0 where
+  pub e : Expr
+  pub at : ExprAt q p e
+
+-- one that has a type behind its expression does: an Ann or a TApp
+pub data HasType (q w : List ℕ) (p : ℕ) : Type 0 where
+  an_ann : Shaped q w p 21 → HasType q w p
+  a_tapp : Shaped q w p 19 → HasType q w p
+
+-- a form's number is the code of the expressions of that form
+abbrev pub form_number : Form → ℕ
+form_number Form.Var = 16
+form_number Form.App = 17
+form_number Form.Abs = 18
+form_number Form.TApp = 19
+form_number Form.TAbs = 20
+form_number Form.Ann = 21
+form_number Form.LitInt = 22
+form_number Form.LitBool = 23
+form_number Form.Let = 24
+form_number Form.If = 25
+form_number Form.BinOp = 26
 
 -- ## The expression e, which stands at p, has the parts o
 

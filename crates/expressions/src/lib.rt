@@ -1,12 +1,15 @@
 // An expression's parts by its form: names and places in the question. A part that stands behind another begins where that one ends.
 #![tactic(auto)]
 
+ghost use Rattle.std.specs.Prelude.{◌≡◌, get_or};
 ghost use Rattle.definition.specs.Syntax.{ann, tapp};
-ghost use Rattle.expressions.specs.Forms.{Shaped, VarOf, AppOf, AbsOf, TypedOf, TAbsOf, LetOf, IfOf, BinOpOf};
+ghost use Rattle.layout.specs.Places.{CodeAt};
+ghost use Rattle.expressions.specs.Forms.{form_number, Stands, Shaped, HasType, VarOf, AppOf, AbsOf, TypedOf, TAbsOf, LetOf, IfOf, BinOpOf};
 
 use layout::{TmVar, TyVar, past, word};
 
-// The parts of each form: names, the operator's number, else places of the question.
+// The parts of each form: names, the operator's number, else places of the question. Some look alike, but hold a type where others hold an
+// expression, and their contracts say which.
 #[derive(Clone, Copy)]
 pub struct App {
     pub func: usize,
@@ -54,14 +57,48 @@ pub struct BinOp {
     pub right: usize,
 }
 
-// The name of a Var.
+// An expression's form, numbered as its code.
+#[derive(Clone, Copy, PartialEq, Eq)]
+pub enum Form {
+    Var = 16,
+    App = 17,
+    Abs = 18,
+    TApp = 19,
+    TAbs = 20,
+    Ann = 21,
+    LitInt = 22,
+    LitBool = 23,
+    Let = 24,
+    If = 25,
+    BinOp = 26,
+}
+
+// The form of the expression at ex.
+pub fn form_of(q: &[u32], ex: usize) -> Form
+    requires { Stands q.now ex }
+    ensures { get_or q.now ex 0 ≡ form_number result }
+{
+    match q[ex] {
+        16 => Form::Var,
+        17 => Form::App,
+        18 => Form::Abs,
+        19 => Form::TApp,
+        20 => Form::TAbs,
+        21 => Form::Ann,
+        22 => Form::LitInt,
+        23 => Form::LitBool,
+        24 => Form::Let,
+        25 => Form::If,
+        _ => Form::BinOp,
+    }
+}
+
+// The name of a Var. Here and below no type that question and work are put into: each is asked once, of one expression.
 pub fn var_of(q: &[u32], work: &[u32], ex: usize) -> TmVar
     requires { Shaped q.now work.now ex 16 }
     ensures { VarOf q.now ex result }
 {
-    let at = ex + 1;
-    let name = q[at];
-    TmVar(name)
+    TmVar(q[ex + 1])
 }
 
 // The parts of an App.
@@ -70,10 +107,9 @@ pub fn app_of(q: &[u32], work: &[u32], ex: usize) -> App
     ensures { AppOf q.now ex result }
 {
     let func = ex + 1;
-    let arg = past(work, func);
     App {
-        func: func,
-        arg: arg,
+        func,
+        arg: past(work, func),
     }
 }
 
@@ -82,35 +118,25 @@ pub fn abs_of(q: &[u32], work: &[u32], ex: usize) -> Abs
     requires { Shaped q.now work.now ex 18 }
     ensures { AbsOf q.now ex result }
 {
-    let at = ex + 1;
     let ty = ex + 2;
-    let name = q[at];
-    let body = past(work, ty);
     Abs {
-        x: TmVar(name),
-        ty: ty,
-        body: body,
+        x: TmVar(q[ex + 1]),
+        ty,
+        body: past(work, ty),
     }
 }
 
-// The parts of an Ann.
-pub fn ann_of(q: &[u32], work: &[u32], ex: usize) -> Typed
-    requires { Shaped q.now work.now ex 21 }
-    ensures { TypedOf ann q.now ex result }
+// The parts of an Ann or of a TApp.
+pub fn typed_of(q: &[u32], work: &[u32], ex: usize) -> Typed
+    requires { HasType q.now work.now ex }
+    ensures ann { CodeAt q.now ex 21 → TypedOf ann q.now ex result }
+    ensures tapp { CodeAt q.now ex 19 → TypedOf tapp q.now ex result }
 {
     let e = ex + 1;
-    let ty = past(work, e);
-    Typed { e: e, ty: ty }
-}
-
-// The parts of a TApp.
-pub fn tapp_of(q: &[u32], work: &[u32], ex: usize) -> Typed
-    requires { Shaped q.now work.now ex 19 }
-    ensures { TypedOf tapp q.now ex result }
-{
-    let e = ex + 1;
-    let ty = past(work, e);
-    Typed { e: e, ty: ty }
+    Typed {
+        e,
+        ty: past(work, e),
+    }
 }
 
 // The parts of a TAbs.
@@ -118,12 +144,9 @@ pub fn tabs_of(q: &[u32], work: &[u32], ex: usize) -> TAbs
     requires { Shaped q.now work.now ex 20 }
     ensures { TAbsOf q.now ex result }
 {
-    let at = ex + 1;
-    let body = ex + 2;
-    let name = q[at];
     TAbs {
-        a: TyVar(name),
-        body: body,
+        a: TyVar(q[ex + 1]),
+        body: ex + 2,
     }
 }
 
@@ -132,14 +155,11 @@ pub fn let_of(q: &[u32], work: &[u32], ex: usize) -> Let
     requires { Shaped q.now work.now ex 24 }
     ensures { LetOf q.now ex result }
 {
-    let at = ex + 1;
     let first = ex + 2;
-    let name = q[at];
-    let body = past(work, first);
     Let {
-        x: TmVar(name),
-        first: first,
-        body: body,
+        x: TmVar(q[ex + 1]),
+        first,
+        body: past(work, first),
     }
 }
 
@@ -150,11 +170,10 @@ pub fn if_of(q: &[u32], work: &[u32], ex: usize) -> If
 {
     let cond = ex + 1;
     let yes = past(work, cond);
-    let no = past(work, yes);
     If {
-        cond: cond,
-        yes: yes,
-        no: no,
+        cond,
+        yes,
+        no: past(work, yes),
     }
 }
 
@@ -163,13 +182,10 @@ pub fn binop_of(q: &[u32], work: &[u32], ex: usize) -> BinOp
     requires { Shaped q.now work.now ex 26 }
     ensures { BinOpOf q.now ex result }
 {
-    let at = ex + 1;
     let left = ex + 2;
-    let op = word(q, at);
-    let right = past(work, left);
     BinOp {
-        op: op,
-        left: left,
-        right: right,
+        op: word(q, ex + 1),
+        left,
+        right: past(work, left),
     }
 }

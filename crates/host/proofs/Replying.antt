@@ -3,7 +3,6 @@ use mathlib.Core.Path.{◌≡◌, ap, ◌∙◌}
 use mathlib.Core.List.{List, ◌++◌}
 use Prim.Native.Nat.{ℕ, suc, ◌+◌, ◌-◌, ◌*◌, ◌/◌, ◌≤◌, ◌<◌, min}
 use native.Mathlib.Omega.{arith}
-use native.Mathlib.Nat.{sub-zero}
 use lib.ListN.{length, take, drop}
 use borrow.Author.Tests.{lt-ltb, le-ltb}
 use Rattle.definition.specs.Syntax.{pick}
@@ -25,18 +24,17 @@ capped : (room : ℕ) (b : List ℕ) → byte_reply (min room 4096) b ≡ byte_r
 unfolding byte_reply desk_reply
 capped room b = let e : min (min room 4096) 4096 ≡ min room 4096 = omega arith in rw e
 
-pub answered : {b s s' rep : List ℕ} {r : program.Reply} {room n : ℕ} → 16 ≤ length s → room ≡ min ((length s - 16) / 4) 4096 → Told b room rep r
-    → n ≡ written_of r
-    → s' ≡ bytes_of (numbers_of r ++ take (n - 0) (drop 0 rep)) ++ drop (16 + 4 * length (take (n - 0) (drop 0 rep))) s → Answered b s s' r.code
+pub answered : {b s s' rep ns : List ℕ} {r : program.Reply} {room n : ℕ} → 16 ≤ length s → room ≡ min ((length s - 16) / 4) 4096 → Told b room rep r
+    → ns ≡ numbers_of r → n ≡ written_of r → s' ≡ bytes_of (ns ++ take n rep) ++ drop (16 + 4 * length (take n rep)) s → Answered b s s' r.code
 unfolding host_call pick numbers
-answered {b} {s} {s'} {rep} {r} {room} {n} h e t w f =
+answered {b} {s} {s'} {rep} {ns} {r} {room} {n} h e t v w f =
     let R : Reply = byte_reply ((length s - 16) / 4) b in
     let i : byte_reply room b ≡ R = ap (λ (m : ℕ). byte_reply m b) e ∙ capped ((length s - 16) / 4) b in
     let p : Numbers R r = rw i at t.numbers in
-    let q : take (n - 0) (drop 0 rep) ≡ R.report = rw (w, sub-zero) (rw i at t.report) in
+    let q : take n rep ≡ R.report = rw w (rw i at t.report) in
     let l = le-ltb (length s) 16 h in
     let k : 16 + 4 * length R.report ≡ 4 * suc (suc (suc (suc (length R.report)))) = omega arith in
-    record { returns = rw l p.code; reply = f ∙ rw (l, q, p.code, p.at, p.len, p.units, k) }
+    record { returns = rw l p.code; reply = f ∙ rw (l, v, q, p.code, p.at, p.len, p.units, k) }
 
 -- ## The numbers of the free function
 
@@ -51,3 +49,7 @@ checked a =
       report = a.report;
       work = a.work;
     }
+
+pub checked_in : {budget : ℕ} {q w w' s s' ns : List ℕ} {r : program.Reply} → ns ≡ numbers_of r → Replied budget q w w' s s' r
+    → Checked budget q w w' s s' ns r.code
+checked_in e a = rw e (checked a)

@@ -1,10 +1,11 @@
 -- The rules of infer_app that ask a judgement: InfAppArr, InfAppETVar.
 use mathlib.Core.Path.{◌≡◌, refl, sym}
 use mathlib.Core.List.{List}
-use Prim.Native.Nat.{ℕ, suc, ◌+◌, ◌*◌}
+use Prim.Native.Nat.{ℕ, suc, ◌+◌}
 use native.Mathlib.Omega.{arith}
+use Rattle.std.specs.Prelude.{Ok}
 use Rattle.definition.specs.Syntax
-use Rattle.definition.specs.Syntax.{etvar, arrow, Judgement, check, rule_number, leaf, ◌&◌, children}
+use Rattle.definition.specs.Syntax.{etvar, arrow, Judgement, check, leaf, ◌&◌, children}
 use Rattle.definition.specs.Run.{◌>>=◌, and_then, give, fresh}
 use Rattle.definition.specs.Rules.{judge, on, as_arrow, as_etvar, split, inf_app_arr, inf_app_etvar, infer_app_rule, ◌or_else◌}
 use Rattle.layout.specs.Names.{ty}
@@ -16,21 +17,20 @@ use Rattle.types.specs.Reading.{HeldAs, HeldNamed, Named, LeftOf, RightOf}
 use Rattle.types.proofs.Held.{room_held, held_as}
 use Rattle.judging.specs.declared.Answer.{Answer}
 use Rattle.judging.specs.declared.Here.{Here}
-use Rattle.judging.specs.declared.Step.{Step}
-use Rattle.judging.specs.declared.Step.TheVariants.{Done}
+use Rattle.judging.specs.declared.Rule.TheVariants as rule
 use Rattle.judging.specs.Asking.{here, check_ask, app_ask}
-use Rattle.judging.specs.Ending.{Judged, Fires}
+use Rattle.judging.specs.Ending.{Step, Judged, Fires}
 use Rattle.judging.proofs.Asking.{app_asked}
 use Rattle.rules.specs.declared.Parted.{Parted}
 use Rattle.layout.specs.States.{fresh_name}
-use Rattle.rules.specs.Parting.{PartPre, Parts}
+use Rattle.rules.specs.Parting.{Parts}
 use Rattle.rules.proofs.TypeForms.{IsArrow, is_arrow, IsETVar, is_etvar}
 use Rattle.rules.proofs.Standing.{unknown_named}
 use Rattle.rules.specs.Taking.{AppPre}
 use Rattle.rules.specs.Going.{PlainOut}
 use Rattle.rules.proofs.Ways.{Way, went, finish}
 use Rattle.inference.proofs.Starting.{outcome, begin_app}
-use Rattle.inference.proofs.Premise.{At, Premise, ask_check, returns}
+use Rattle.inference.proofs.Premise.{At, Starts, Premise, ask_check, returns}
 
 -- ## InfAppArr
 
@@ -45,7 +45,7 @@ module _ (m : Here) {q w : List ℕ} {s : State} {g : Span} {r ex : ℕ} (pre : 
   arr_held = held_as (room_held pre.rule.room (app_asked r ex pre.rule.asks).den) pre.tag 5 refl
 
   pub arr_way : {j : Judgement} (k : At pre.rule j)
-      → Way q w w s s leaf (20 + 28 * g.n) (outcome m s j)
+      → Starts m q w s g j
       (judge (here m) (check (app_asked r ex k).Γ (app_asked r ex k).e (arr k).A) >>= λ u. give (Syntax.InfAppArr, (arr k).B, u.1, u.2 & leaf))
   unfolding infer_app_rule on as_arrow ◌or_else◌ inf_app_arr
   arr_way k = begin_app m pre.rule (app_asked r ex k).is (arr k).is refl
@@ -55,9 +55,9 @@ module _ (m : Here) {q w : List ℕ} {s : State} {g : Span} {r ex : ℕ} (pre : 
     arr_asks = record { at = λ j k. let v = app_asked r ex k in ask_check v.run v.at (lf.is _ _ (arr_den k)).den }
 
     module _ {w₁ : List ℕ} {z : Step} (call : Judged m q w w₁ s g (check_ask ex a) z) where
-      pub arr_done : {t : Answer} {y : Step} → z ≡ Done t
-          → PlainOut t.st t.g c 15 1 y → Fires m q w w₁ s g (app_ask r ex) y
-      unfolding rule_number children
+      pub arr_done : {t : Answer} {y : Step} → z ≡ Ok t
+          → PlainOut t.st t.g c rule.InfAppArr 1 y → Fires m q w w₁ s g (app_ask r ex) y
+      unfolding children
       arr_done d fin = record {
         run = λ j k.
             let b = returns arr_asks call d k in
@@ -75,18 +75,6 @@ module _ (m : Here) {q w : List ℕ} {s : State} {g : Span} {r ex : ℕ} (pre : 
 
   pub etvar_held : HeldNamed q w s.top r
   etvar_held = unknown_named pre.rule.room (unknown_den pre.rule.asks)
-
-  pub etvar_part : PartPre q w s g
-  etvar_part =
-      let x = pre.rule.room in
-      record {
-        base = x.base;
-        below = (app_asked r ex pre.rule.asks).run.below;
-        room = omega (arith, x.fits);
-        low = x.low;
-        cap = x.cap;
-        names = omega (arith, pre.rule.names);
-      }
 
   module _ {a : tyvar.TyVar} (n : Named q w s.top r a) {w₁ : List ℕ} {o : Parted} (i : Parts m q w w₁ s g a o) where
     etvar_name : {j : Judgement} (k : At pre.rule j) → ty a ≡ (unknown k).a
@@ -108,9 +96,9 @@ module _ (m : Here) {q w : List ℕ} {s : State} {g : Span} {r ex : ℕ} (pre : 
     etvar_asks = record { at = λ j k. let v = app_asked r ex k in ask_check (rw (etvar_name k) at (i.run v.Γ v.run)) v.at i.first }
 
     module _ {w₂ : List ℕ} {z : Step} (call : Judged m q w₁ w₂ o.st o.g (check_ask ex o.b) z) where
-      pub etvar_done : {t : Answer} {y : Step} → z ≡ Done t
-          → PlainOut t.st t.g o.c 16 1 y → Fires m q w w₂ s g (app_ask r ex) y
-      unfolding rule_number children
+      pub etvar_done : {t : Answer} {y : Step} → z ≡ Ok t
+          → PlainOut t.st t.g o.c rule.InfAppETVar 1 y → Fires m q w w₂ s g (app_ask r ex) y
+      unfolding children
       etvar_done d fin = record {
         run = λ j k.
             let b = returns etvar_asks call d k in

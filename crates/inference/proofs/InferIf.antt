@@ -1,130 +1,100 @@
 -- InfIf: what is known after each premise, and what follows.
-use mathlib.Core.Path.{◌≡◌, refl}
+use mathlib.Core.Path.{◌≡◌, refl, sym, ◌∙◌}
 use mathlib.Core.List.{List}
 use Prim.Native.Nat.{ℕ, ◌+◌, ◌*◌}
 use native.Mathlib.Omega.{arith}
+use Rattle.std.specs.Prelude.{Ok, Err, IsErrAnd}
 use Rattle.definition.specs.Syntax
-use Rattle.definition.specs.Syntax.{bool, Judgement, infer, check, subtype, rule_number, leaf, ◌&◌, children}
+use Rattle.definition.specs.Syntax.{bool, Judgement, infer, check, subtype, leaf, ◌&◌, children}
 use Rattle.definition.specs.Run.{◌>>=◌, give}
 use Rattle.definition.specs.Rules.{judge, infer_rule, inf_if, branch}
 use Rattle.layout.specs.Sizes.{BOOL}
+use Rattle.layout.specs.declared.Span.{Span}
+use Rattle.layout.specs.declared.State.{State}
 use Rattle.layout.proofs.Denotes.{bool_den}
-use Rattle.judging.specs.declared.Answer.{Answer}
+use Rattle.expressions.specs.declared.If.{If}
 use Rattle.expressions.specs.Forms.{IsIf, IfOf}
-use Rattle.judging.specs.declared.Step.{Step}
-use Rattle.judging.specs.declared.Step.TheVariants.{Done}
+use Rattle.judging.specs.declared.Answer.{Answer}
+use Rattle.judging.specs.declared.Here.{Here}
+use Rattle.judging.specs.declared.Rule.TheVariants as rule
+use Rattle.judging.specs.declared.Stop.{Stop}
 use Rattle.judging.specs.Asking.{here, infer_ask, check_ask}
-use Rattle.judging.specs.Ending.{Judged, RunsJ}
+use Rattle.judging.specs.Ending.{Step, Judged, RunsJ, Fires}
+use Rattle.judging.proofs.Steps.{not_done, stop_is}
 use Rattle.judging.proofs.Asking.{infer_asked}
-use Rattle.judging.proofs.Steps.{NotDone}
+use Rattle.rules.specs.Taking.{InferPre}
 use Rattle.rules.specs.Going.{TwoIn, PlainOut}
 use Rattle.rules.proofs.Ways.{Way, otherwise, back, turn, finish}
 use Rattle.inference.specs.Rules.{relate, Related}
 use Rattle.inference.proofs.Starting.{outcome, begin_infer}
 use Rattle.inference.proofs.Related.{regroup}
-use Rattle.inference.proofs.Premise.{At, RuleAsked, Starts, Ends, Premise, ask_infer, ask_check, Returns, returns}
+use Rattle.inference.proofs.Premise.{At, Starts, Premise, ask_infer, ask_check, Returns, returns}
 
--- ## As far as the rule has come
+module _ (m : Here) {q w : List ℕ} {s : State} {g : Span} {ex : ℕ} (pre : InferPre q w s g ex 25) {p : If} (parts : IfOf q ex p) where
+  pub ifs : {j : Judgement} (k : At pre.rule j) → IsIf q ex p (infer_asked ex k).e
+  ifs k = parts.is (infer_asked ex k).at
 
--- its condition was checked
-pub record ConditionChecked (t : ℕ) : Type 0 where
-  pub on : RuleAsked IfOf t
-  pub w : List ℕ
-  pub z : Step
-  pub r : Answer
-  pub call : Judged on.m on.q on.w w on.s on.g (check_ask on.p.cond BOOL) z
-  pub done : z ≡ Done r
-
--- its first branch was inferred
-pub record Inferred (t : ℕ) : Type 0 where
-  pub on : ConditionChecked t
-  pub w : List ℕ
-  pub z : Step
-  pub r : Answer
-  pub call : Judged on.on.m on.on.q on.w w on.r.st on.r.g (infer_ask on.on.p.yes) z
-  pub done : z ≡ Done r
-
--- and its second
-pub record Both (t : ℕ) : Type 0 where
-  pub on : Inferred t
-  pub w : List ℕ
-  pub z : Step
-  pub r : Answer
-  pub call : Judged on.on.on.m on.on.on.q on.w w on.r.st on.r.g (infer_ask on.on.on.p.no) z
-  pub done : z ≡ Done r
-
--- the rule as it was asked
-abbrev pub asked : {t : ℕ} → Both t → RuleAsked IfOf t
-asked b = b.on.on.on
-
--- ## Its condition
-
-module _ {t : ℕ} (i : RuleAsked IfOf t) where
-  pub ifs : {j : Judgement} (k : At i.rule j) → IsIf i.q i.ex i.p (infer_asked i.ex k).e
-  ifs k = i.parts.is (infer_asked i.ex k).at
-
-  pub if_way : {j : Judgement} (k : At i.rule j)
-      → Starts i j (judge (here i.m) (check (infer_asked i.ex k).Γ (ifs k).f bool)
-      >>= λ r₁. judge (here i.m) (infer r₁.1 (ifs k).d)
-      >>= λ r₂. judge (here i.m) (infer r₂.1 (ifs k).d₂)
-      >>= λ r₃. branch i.m.manner.applies_branches r₃.1 r₂.0
-      >>= λ A. branch i.m.manner.applies_branches r₃.1 r₃.0
-      >>= λ B. judge (here i.m) (subtype r₃.1 A B)
+  pub if_way : {j : Judgement} (k : At pre.rule j)
+      → Starts m q w s g j
+      (judge (here m) (check (infer_asked ex k).Γ (ifs k).f bool)
+      >>= λ r₁. judge (here m) (infer r₁.1 (ifs k).d)
+      >>= λ r₂. judge (here m) (infer r₂.1 (ifs k).d₂)
+      >>= λ r₃. branch m.manner.applies_branches r₃.1 r₂.0
+      >>= λ A. branch m.manner.applies_branches r₃.1 r₃.0
+      >>= λ B. judge (here m) (subtype r₃.1 A B)
       >>= λ r₄. give (Syntax.InfIf, r₂.0, r₄.1, r₁.2 & r₂.2 & r₃.2 & r₄.2 & leaf))
   unfolding infer_rule inf_if
-  if_way k = begin_infer i.m i.rule (infer_asked i.ex k).is (ifs k).is refl
+  if_way k = begin_infer m pre.rule (infer_asked ex k).is (ifs k).is refl
 
-  pub if_asks : Premise i.m i.rule _ _ (λ j k. if_way k) i.g (check_ask i.p.cond BOOL)
-  if_asks = record { at = λ j k. ask_check (infer_asked i.ex k).run (ifs k).cond (bool_den i.rule.room.base) }
+  pub if_asks : Premise m pre.rule _ _ (λ j k. if_way k) g (check_ask p.cond BOOL)
+  if_asks = record { at = λ j k. ask_check (infer_asked ex k).run (ifs k).cond (bool_den pre.rule.room.base) }
 
--- ## Its branches
+  -- ## The condition was checked
 
-module _ {t : ℕ} (c : ConditionChecked t) where
-  pub if_back : {j : Judgement} (k : At c.on.rule j) → Returns (if_asks c.on) c.call k c.r
-  if_back k = returns (if_asks c.on) c.call c.done k
+  module _ {w₁ : List ℕ} {z : Step} (call : Judged m q w w₁ s g (check_ask p.cond BOOL) z) {r : Answer} (d : z ≡ Ok r) where
+    pub if_back : {j : Judgement} (k : At pre.rule j) → Returns if_asks call k r
+    if_back k = returns if_asks call d k
 
-  pub if_asks₂ : Premise c.on.m c.on.rule _ _ (λ j k. (if_back k).way) c.r.g (infer_ask c.on.p.yes)
-  if_asks₂ = record { at = λ j k. ask_infer (if_back k).run (ifs c.on k).yes }
+    pub if_asks₂ : Premise m pre.rule _ _ (λ j k. (if_back k).way) r.g (infer_ask p.yes)
+    if_asks₂ = record { at = λ j k. ask_infer (if_back k).run (ifs k).yes }
 
-module _ {t : ℕ} (d : Inferred t) where
-  pub if_back₂ : {j : Judgement} (k : At d.on.on.rule j) → Returns (if_asks₂ d.on) d.call k d.r
-  if_back₂ k = returns (if_asks₂ d.on) d.call d.done k
+    -- ## The first branch was inferred
 
-  pub if_asks₃ : Premise d.on.on.m d.on.on.rule _ _ (λ j k. (if_back₂ k).way) d.r.g (infer_ask d.on.on.p.no)
-  if_asks₃ = record { at = λ j k. ask_infer (if_back₂ k).run (ifs d.on.on k).no }
+    module _ {w₂ : List ℕ} {z₂ : Step} (call₂ : Judged m q w₁ w₂ r.st r.g (infer_ask p.yes) z₂) {u : Answer} (d₂ : z₂ ≡ Ok u) where
+      pub if_back₂ : {j : Judgement} (k : At pre.rule j) → Returns if_asks₂ call₂ k u
+      if_back₂ k = returns if_asks₂ call₂ d₂ k
 
--- ## The second branch's type below the first's
+      pub if_asks₃ : Premise m pre.rule _ _ (λ j k. (if_back₂ k).way) u.g (infer_ask p.no)
+      if_asks₃ = record { at = λ j k. ask_infer (if_back₂ k).run (ifs k).no }
 
-module _ {t : ℕ} (b : Both t) where
-  pub if_back₃ : {j : Judgement} (k : At (asked b).rule j) → Returns (if_asks₃ b.on) b.call k b.r
-  if_back₃ k = returns (if_asks₃ b.on) b.call b.done k
+      -- ## The second was: its type is compared
 
-  pub if_two : TwoIn (asked b).q b.w b.r.st b.r.g b.on.r.ty b.r.ty
-  if_two = let k = (asked b).rule.asks in let u = if_back₃ k in
-      record { two = record { spare = _; room = u.way.room; A = _; B = _; left = u.stays (if_back₂ b.on k).den; right = u.den }; Γ = _; run = u.run }
+      module _ {w₃ : List ℕ} {z₃ : Step} (call₃ : Judged m q w₂ w₃ u.st u.g (infer_ask p.no) z₃) {v : Answer} (d₃ : z₃ ≡ Ok v) where
+        pub if_back₃ : {j : Judgement} (k : At pre.rule j) → Returns if_asks₃ call₃ k v
+        if_back₃ k = returns if_asks₃ call₃ d₃ k
 
-  module _ {w' : List ℕ} {z : Step} (call : Related (asked b).m (asked b).m.manner.applies_branches (asked b).q b.w w' b.r.st b.r.g b.on.r.ty b.r.ty z) where
-    if_way₄ : {j : Judgement} (k : At (asked b).rule j)
-        → Way (asked b).q (asked b).w b.w (asked b).s b.r.st ((if_back b.on.on k).t & (if_back₂ b.on k).t & (if_back₃ k).t & leaf)
-        (4 * b.r.g.n + 4) (outcome (asked b).m (asked b).s j)
-        (relate (asked b).m (asked b).m.manner.applies_branches (if_back₃ k).Δ (if_back₂ b.on k).C (if_back₃ k).C
-        >>= λ r₄. give (Syntax.InfIf, (if_back₂ b.on k).C, r₄.1, (if_back b.on.on k).t & (if_back₂ b.on k).t & (if_back₃ k).t & r₄.2 & leaf))
-    if_way₄ k = turn (if_back₃ k).way (regroup _ _ _ _)
+        pub if_two : TwoIn q w₃ v.st v.g u.ty v.ty
+        if_two = let k = pre.rule.asks in let b = if_back₃ k in
+            record { two = record { spare = _; room = b.way.room; A = _; B = _; left = b.stays (if_back₂ k).den; right = b.den }; Γ = _; run = b.run }
 
-    if_runs : {j : Judgement} (k : At (asked b).rule j)
-        → RunsJ (asked b).q b.w w' b.r.st z
-        (relate (asked b).m (asked b).m.manner.applies_branches (if_back₃ k).Δ (if_back₂ b.on k).C (if_back₃ k).C b.r.st.left b.r.st.fresh)
-    if_runs k = let u = if_back₃ k in
-        call.run u.Δ (if_back₂ b.on k).C u.C u.run (u.stays (if_back₂ b.on k).den) u.den
+        module _ {w₄ : List ℕ} {y : Step} (call₄ : Related m m.manner.applies_branches q w₃ w₄ v.st v.g u.ty v.ty y) where
+          if_way₄ : {j : Judgement} (k : At pre.rule j)
+              → Way q w w₃ s v.st ((if_back k).t & (if_back₂ k).t & (if_back₃ k).t & leaf) (4 * v.g.n + 4) (outcome m s j)
+              (relate m m.manner.applies_branches (if_back₃ k).Δ (if_back₂ k).C (if_back₃ k).C
+              >>= λ r₄. give (Syntax.InfIf, (if_back₂ k).C, r₄.1, (if_back k).t & (if_back₂ k).t & (if_back₃ k).t & r₄.2 & leaf))
+          if_way₄ k = turn (if_back₃ k).way (regroup _ _ _ _)
 
-    pub if_else₄ : NotDone z → Ends (asked b) w' z
-    if_else₄ nd = record { run = λ j k. otherwise _ _ (if_way₄ k) (if_runs k) nd }
+          if_runs : {j : Judgement} (k : At pre.rule j)
+              → RunsJ q w₃ w₄ v.st y (relate m m.manner.applies_branches (if_back₃ k).Δ (if_back₂ k).C (if_back₃ k).C v.st.left v.st.fresh)
+          if_runs k = let b = if_back₃ k in call₄.run b.Δ (if_back₂ k).C b.C b.run (b.stays (if_back₂ k).den) b.den
 
-    pub if_done : {r : Answer} {o : Step} → z ≡ Done r → PlainOut r.st r.g b.on.r.ty 7 4 o
-        → Ends (asked b) w' o
-    unfolding rule_number children
-    if_done d fin = record {
-      run = λ j k.
-          let u = back _ _ (if_way₄ k) (if_runs k) d in
-          finish Syntax.InfIf (fin.finished (asked b).q w') u.run (u.stays ((if_back₃ k).stays (if_back₂ b.on k).den)) u.way (omega arith) refl refl (omega arith);
-    }
+          pub if_unless : {e : Stop} {o : Step} → y ≡ Err e → IsErrAnd o (λ x. x ≡ e) → Fires m q w w₄ s g (infer_ask ex) o
+          if_unless i h = rw (stop_is _ h ∙ sym i) (record { run = λ j k. otherwise _ _ (if_way₄ k) (if_runs k) (not_done i) })
+
+          pub if_done : {x : Answer} {o : Step} → y ≡ Ok x → PlainOut x.st x.g u.ty rule.InfIf 4 o → Fires m q w w₄ s g (infer_ask ex) o
+          unfolding children
+          if_done i fin = record {
+            run = λ j k.
+                let b = back _ _ (if_way₄ k) (if_runs k) i in
+                finish Syntax.InfIf (fin.finished q w₄) b.run (b.stays ((if_back₃ k).stays (if_back₂ k).den)) b.way (omega arith) refl refl (omega arith);
+          }

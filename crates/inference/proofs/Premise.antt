@@ -1,8 +1,9 @@
 -- A premise of a rule: the judgement that is asked on a rule's way, and what follows from it whatever the rule.
-use mathlib.Core.Path.{◌≡◌, refl}
+use mathlib.Core.Path.{◌≡◌, refl, sym, ◌∙◌}
 use mathlib.Core.List.{List}
 use Prim.Native.Nat.{ℕ, ◌+◌, ◌*◌, ◌<◌}
 use native.Mathlib.Omega.{arith}
+use Rattle.std.specs.Prelude.{Ok, Err, IsErrAnd}
 use Rattle.definition.specs.Syntax.{Ty, Expr, Ctx, Judgement, infer, check, infer_app, Trees, leaf}
 use Rattle.definition.specs.Run.{Out, M, ◌>>=◌}
 use Rattle.definition.specs.Rules.{Fired, Result, judge}
@@ -14,11 +15,10 @@ use Rattle.contexts.specs.Build.{Space}
 use Rattle.judging.specs.declared.Answer.{Answer}
 use Rattle.judging.specs.declared.Ask.{Ask}
 use Rattle.judging.specs.declared.Here.{Here}
-use Rattle.judging.specs.declared.Step.{Step}
-use Rattle.judging.specs.declared.Step.TheVariants.{Done}
+use Rattle.judging.specs.declared.Stop.{Stop}
 use Rattle.judging.specs.Asking.{here, Asks, as_infer, as_check, as_app, infer_ask, check_ask, app_ask, JudgePre, RulePre}
-use Rattle.judging.specs.Ending.{Judged, Fires}
-use Rattle.judging.proofs.Steps.{NotDone}
+use Rattle.judging.specs.Ending.{Step, Judged, Fires}
+use Rattle.judging.proofs.Steps.{not_done, stop_is}
 use Rattle.rules.proofs.Standing.{room_space}
 use Rattle.rules.proofs.Ways.{Way, asks_infer, asks_check, asks_app, otherwise, Back, back}
 use Rattle.inference.proofs.Starting.{outcome}
@@ -27,26 +27,9 @@ use Rattle.inference.proofs.Starting.{outcome}
 abbrev pub At : {q w : List ℕ} {s : State} {g : Span} {a : Ask} → RulePre q w s g a → Judgement → Type 0
 At {q} {w} {s} {g} {a} pre j = Asks q w s.top g a j
 
--- a rule of infer is asked, and the parts p of its expression are known; t is the cycle's measure
-pub record RuleAsked {O : Type 0} (Of : List ℕ → ℕ → O → Type 0) (t : ℕ) : Type 0 where
-  pub m : Here
-  pub q : List ℕ
-  pub w : List ℕ
-  pub s : State
-  pub g : Span
-  pub ex : ℕ
-  pub rule : RulePre q w s g (infer_ask ex)
-  pub falls : 3 * s.left + 1 ≡ t
-  pub p : O
-  pub parts : Of q ex p
-
--- how it begins, and how it ends
-module _ {O : Type 0} {Of : List ℕ → ℕ → O → Type 0} {t : ℕ} (i : RuleAsked Of t) where
-  abbrev pub Starts : Judgement → M Fired → Type 0
-  Starts j f = Way i.q i.w i.w i.s i.s leaf (20 + 28 * i.g.n) (outcome i.m i.s j) f
-
-  abbrev pub Ends : List ℕ → Step → Type 0
-  Ends w' z = Fires i.m i.q i.w w' i.s i.g (infer_ask i.ex) z
+-- how a rule begins that starts in s
+abbrev pub Starts : Here → List ℕ → List ℕ → State → Span → Judgement → M Fired → Type 0
+Starts m q w s g j f = Way q w w s s leaf (20 + 28 * g.n) (outcome m s j) f
 
 -- on the way y the judgement i is asked, by the code as b
 pub record Asked (m : Here) {q w w₁ : List ℕ} {s s₁ : State} {ts : Trees} {n : ℕ} {R : Out Fired} (i : Judgement) (f : Result → M Fired)
@@ -83,15 +66,15 @@ module _ {m : Here} {q w w₁ : List ℕ} {s s₁ : State} {g : Span} {a : Ask} 
 
   module _ {w₂ : List ℕ} {z : Step} (call : Judged m q w₁ w₂ s₁ g₁ b z) where
     -- it did not end well
-    pub unless : NotDone z → Fires m q w w₂ s g a z
-    unless nd = record { run = λ j k. otherwise _ _ (y j k) (call.run _ (p.at j k).asks) nd }
+    pub unless : {e : Stop} {r : Step} → z ≡ Err e → IsErrAnd r (λ y. y ≡ e) → Fires m q w w₂ s g a r
+    unless d h = rw (stop_is _ h ∙ sym d) (record { run = λ j k. otherwise _ _ (y j k) (call.run _ (p.at j k).asks) (not_done d) })
 
     -- it came back
     abbrev pub Returns : {j : Judgement} → At rule j → Answer → Type 0
     Returns {j} k r = Back _ _ (y j k) (call.run _ (p.at j k).asks) r
 
-    pub returns : {r : Answer} → z ≡ Done r → {j : Judgement} (k : At rule j) → Returns k r
+    pub returns : {r : Answer} → z ≡ Ok r → {j : Judgement} (k : At rule j) → Returns k r
     returns d {j} k = back _ _ (y j k) (call.run _ (p.at j k).asks) d
 
-    pub space_back : {r : Answer} → z ≡ Done r → Space w₂ r.st r.g 0
+    pub space_back : {r : Answer} → z ≡ Ok r → Space w₂ r.st r.g 0
     space_back {r} d = let b = returns d rule.asks in room_space b.way.room r.g 0 b.run (omega arith)

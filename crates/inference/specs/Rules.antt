@@ -1,6 +1,6 @@
 -- Operators, and subtyping of types with the context applied.
-use Rattle.std.specs.Prelude.{◌≡◌, Bool, List, ℕ, ◌≤◌}
-use Rattle.definition.specs.Syntax.{pick, Ty, Expr, Ctx, infer, check, subtype, Rule, rule_number, leaf, ◌&◌}
+use Rattle.std.specs.Prelude.{◌≡◌, Bool, true, false, List, ℕ, ◌≤◌, Option, Some, None}
+use Rattle.definition.specs.Syntax.{pick, Ty, Expr, Ctx, infer, check, subtype, Rule, leaf, ◌&◌}
 use Rattle.definition.specs.Run.{M, ◌>>=◌, give}
 use Rattle.definition.specs.Rules as rules
 use Rattle.definition.specs.Rules.{Fired, Result, Judge, inf_binop, judge}
@@ -8,9 +8,9 @@ use Rattle.layout.specs.Denotes.{Base, Den, Run}
 use Rattle.layout.specs.declared.Span.{Span}
 use Rattle.layout.specs.declared.State.{State}
 use Rattle.judging.specs.declared.Here.{Here}
-use Rattle.judging.specs.declared.Step.{Step}
+use Rattle.judging.specs.Names.{rule_of}
 use Rattle.judging.specs.Asking.{here}
-use Rattle.judging.specs.Ending.{RunsJ}
+use Rattle.judging.specs.Ending.{RunsJ, Step}
 use Rattle.rules.specs.Going.{apply_both}
 use Rattle.inference.specs.declared.Sides.{Sides}
 
@@ -19,15 +19,20 @@ abbrev pub inf_sides : Judge → Bool → Rule → Ty → Ty → Ctx → Expr �
 inf_sides judge b r A C Γ e e' = judge (pick b (infer Γ e) (check Γ e A)) >>= λ x. judge (check x.1 e' (pick b x.0 A))
     >>= λ y. give (r, C, y.1, x.2 & y.2 & leaf)
 
+-- an operator's left side is inferred where there is no type to check it against
+abbrev pub infers : Option ℕ → Bool
+infers None = true
+infers (Some x) = false
+
 -- what the rule for the operator k asks
 pub record Operates (k : ℕ) (o : Sides) : Type 0 where
   pub r : Rule
   pub A : Ty
   pub C : Ty
-  pub number : o.3 ≡ rule_number r
-  pub side : {q w : List ℕ} {t : ℕ} → Base q w t → Den q w t o.1 A
-  pub gives : {q w : List ℕ} {t : ℕ} → Base q w t → Den q w t o.2 C
-  pub is : 1 ≤ k → (h : rules.Here) (judge : Judge) (Γ : Ctx) (e e' : Expr) → inf_binop h judge Γ k e e' ≡ inf_sides judge o.0 r A C Γ e e'
+  pub rule : rule_of o.rule ≡ r
+  pub side : {x : ℕ} → o.against ≡ Some x → {q w : List ℕ} {t : ℕ} → Base q w t → Den q w t x A
+  pub gives : {q w : List ℕ} {t : ℕ} → Base q w t → Den q w t o.gives C
+  pub is : 1 ≤ k → (h : rules.Here) (judge : Judge) (Γ : Ctx) (e e' : Expr) → inf_binop h judge Γ k e e' ≡ inf_sides judge (infers o.against) r A C Γ e e'
 
 -- the context is applied to both types, where b says so, and then the first is below the second
 abbrev pub relate : Here → Bool → Ctx → Ty → Ty → M Result

@@ -9,7 +9,7 @@ use std::io;
 use std::io::Read;
 
 // Reads until bytes is full, the input ends or a read fails; how many bytes now stand at the start of bytes. A call that a signal
-// interrupts counts as one that failed.
+// interrupts counts as one that failed. No `for`: how many reads there are is known at the end alone.
 pub fn read_full<R: Read>(from: &mut R, bytes: &mut [u8]) -> io::Result<usize>
     ensures within { ReadsAtMost result bytes.new }
     ensures read { IfOk result (λ n. Consumes (R.remaining from.old) (R.remaining from.new) (take n bytes.new)) }

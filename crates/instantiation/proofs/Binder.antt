@@ -2,11 +2,13 @@
 use mathlib.Core.Path.{◌≡◌, ◌∙◌, ap}
 use mathlib.Core.List.{List}
 use Prim.Native.Nat.{ℕ}
+use Rattle.std.specs.Prelude.{Result}
 use Rattle.definition.specs.Syntax.{Ty, forall, Side, Judgement, inst}
 use Rattle.definition.specs.Rules.{other, rule, judge}
 use Rattle.layout.specs.Denotes.{Den}
 use Rattle.layout.specs.Room.{Room}
 use Rattle.layout.specs.declared.Span.{Span}
+use Rattle.layout.specs.declared.Spent.{Spent}
 use Rattle.layout.specs.declared.State.{State}
 use Rattle.layout.proofs.Denotes.{den_frame}
 use Rattle.judging.specs.Asking.{here, Asks, inst_ask, Small}
@@ -14,7 +16,7 @@ use Rattle.judging.specs.declared.Here.{Here}
 use Rattle.judging.proofs.Asking.{small_inst, InstAsked, inst_asked, asks_inst}
 use Rattle.rules.specs.Opening.{ForallPre, OpensOn}
 use Rattle.rules.specs.Sides.{binder}
-use Rattle.rules.specs.declared.Instance.{Instance}
+use Rattle.rules.specs.declared.Body.{Body}
 use Rattle.rules.proofs.TypeForms.{IsForall, is_forall}
 use Rattle.rules.proofs.Standing.{forall_pre, ref_small}
 use Rattle.rules.proofs.Under.{Under}
@@ -48,7 +50,7 @@ module _ {q w : List ℕ} {s : State} {g : Span} {sd : Side} {a t : ℕ} (pre : 
   all_small room T d = small_inst sd (ref_small pre.pre.room (askd pre.pre.asks).unknown) (ref_small room d)
 
   -- the Forall stands on the other side
-  pub under_on : {m : Here} {w₁ : List ℕ} {od : Side} {x : Instance} → od ≡ other sd → OpensOn m q w w₁ s g t od x → (j : Judgement)
+  pub under_on : {m : Here} {w₁ : List ℕ} {od : Side} {x : Result Body Spent} → od ≡ other sd → OpensOn m q w w₁ s g t od x → (j : Judgement)
       → Asks q w s.top g (inst_ask sd a t) j → Under m q w w₁ s g (λ p. inst_ask sd a p.ty) (binder od) (inst_all sd) x j
   under_on {m} eo in₁ j k = record {
     b = (inside k).a;

@@ -1,5 +1,6 @@
 -- Laws of instantiation.
 pub mod Sides
+pub mod Handing
 pub mod Equations
 pub mod Solving
 pub mod Arrow

@@ -2,17 +2,17 @@
 use mathlib.Core.Path.{◌≡◌, refl, sym, ◌∙◌, ap}
 use mathlib.Core.Bool.{Bool, true, false, true≢false}
 use mathlib.Core.List.{List, ◌∷◌, []}
-use Prim.Native.Nat.{ℕ, ◌+◌, ◌*◌, ◌≤◌, ◌<◌, ◌^◌}
+use Prim.Native.Nat.{ℕ, ◌+◌, ◌*◌}
 use native.Mathlib.Nat.{le_refl}
 use native.Mathlib.Omega.{arith}
-use lib.ListN.{length}
+use Rattle.std.specs.Prelude.{Err}
 use Rattle.definition.specs.Syntax as syntax
-use Rattle.definition.specs.Syntax.{Ty, int, etvar, setvar_bnd, Ctx, Side, Judgement, inst, Rule, rule_number, leaf, children, occurs_check}
+use Rattle.definition.specs.Syntax.{Ty, int, etvar, setvar_bnd, Ctx, Side, Judgement, inst, Rule, leaf, children, occurs_check}
 use Rattle.definition.specs.Run.{Out, done}
 use Rattle.definition.specs.Contexts.{before, replace}
 use Rattle.definition.specs.Types.{is_mono, occurs}
 use Rattle.definition.specs.Rules.{Fired, ◌from◌, inst_solve, inst_reach, rule, judge}
-use Rattle.definition.specs.Reply.{error_code, error_at}
+use Rattle.definition.specs.Reply.{error_at}
 use Rattle.layout.specs.Names.{ty}
 use Rattle.layout.specs.Words.{Keep}
 use Rattle.layout.specs.Denotes.{Den, Run}
@@ -21,30 +21,30 @@ use Rattle.layout.specs.declared.Span.{Span}
 use Rattle.layout.specs.declared.State.{State}
 use Rattle.layout.specs.declared.TyVar.{TyVar}
 use Rattle.layout.proofs.Words.{keep_less}
-use Rattle.types.specs.Reading.{Held, HeldNamed, Mono, Named}
-use Rattle.judging.specs.Ending.{Fires}
+use Rattle.types.specs.Reading.{HeldNamed, Mono, Named}
 use Rattle.rules.proofs.TypeForms.{is_etvar}
 use Rattle.walks.specs.Walks.{Occurs}
-use Rattle.types.proofs.Held.{room_held}
-use Rattle.contexts.specs.Build.{Space}
-use Rattle.contexts.specs.Search.{Before}
+use Rattle.contexts.proofs.Build.{replace_one}
 use Rattle.judging.specs.Asking.{here, inst_ask, RulePre}
-use Rattle.judging.specs.Ending.{shown_one, Failed, RunsR}
+use Rattle.judging.specs.Ending.{Step, shown_one, Failed, RunsR, Fires}
+use Rattle.judging.specs.Names.{rule_of}
 use Rattle.judging.specs.declared.Here.{Here}
 use Rattle.judging.specs.declared.Shown.TheVariants.{OneType}
-use Rattle.judging.specs.declared.Step.{Step}
-use Rattle.judging.specs.declared.Step.TheVariants.{Fail}
+use Rattle.judging.specs.declared.Rule as program
+use Rattle.judging.specs.declared.Stop.{Stop}
+use Rattle.judging.specs.declared.Stop.TheVariants.{Fail}
+use Rattle.judging.specs.declared.TypeError.TheVariants.{OccursCheck}
 use Rattle.judging.proofs.Asking.{InstAsked, inst_asked}
 use Rattle.judging.proofs.Entries.{as_solved}
 use Rattle.judging.proofs.Chain.{begin, built, refuses, room_on, room_within}
-use Rattle.instantiation.specs.Sides.{FormPre, Meets, SolvePre, ReachPre, SolvedBy}
+use Rattle.instantiation.specs.Sides.{FormPre, SolvePre, ReachPre, SolvedBy}
 use Rattle.instantiation.proofs.Equations.{leaf_mono, occurs_is, solved_is, reach_is}
-use Rattle.rules.proofs.Standing.{unknown_named, room_space, ref_small}
+use Rattle.rules.proofs.Standing.{unknown_named}
 use Rattle.rules.proofs.Premises.{ends}
 
 -- ## A context that was built by solving an unknown is a rule's output
 
-pub closed : {m : Here} {q w w₁ : List ℕ} {s : State} {g : Span} {x : TyVar} {y : syntax.TyVar} {r n : ℕ} {z : Step} {T : Ty} {Γ : Ctx} (R : Rule) → n ≡ rule_number R
+pub closed : {m : Here} {q w w₁ : List ℕ} {s : State} {g : Span} {x : TyVar} {y : syntax.TyVar} {r : ℕ} {n : program.Rule} {z : Step} {T : Ty} {Γ : Ctx} (R : Rule) → rule_of n ≡ R
     → ty x ≡ y → Room q w s (20 + 28 * g.n) → Run q w s.top g.at g.n Γ → Den q w s.top r T → SolvedBy m w w₁ s g x r n z
     → (O : Out Fired) → O ≡ done (R, int, replace y (setvar_bnd y T from here m ∷ []) Γ, leaf) s.left s.fresh → RunsR q w w₁ s z O
 unfolding children
@@ -59,9 +59,9 @@ closed {w = w} {w₁} {s} {g} R e ex room run d c O eq =
     rw c.is
     (ends c.o.st c.o.g R e refl (omega arith) (built c.o.st begin kp (omega arith) lo (omega arith))
     (room_on c.o.st 4 room kp (omega arith) (omega arith) (omega (arith, room.fits)) (omega (arith, room.names)))
-    (rw ex at (c.replaced.run run (as_solved c.made d))) O (rw (lf, ff) eq))
+    (rw ex at (replace_one c.replaced run (as_solved c.made d))) O (rw (lf, ff) eq))
 
--- ## What the code may read and build
+-- ## What the code may read
 
 module _ {q w : List ℕ} {s : State} {g : Span} (sd : Side) (a t : ℕ) (pre : RulePre q w s g (inst_ask sd a t)) where
   asked : InstAsked q w s.top g sd a t pre.j
@@ -69,22 +69,6 @@ module _ {q w : List ℕ} {s : State} {g : Span} (sd : Side) (a t : ℕ) (pre : 
 
   pub side_unknown : HeldNamed q w s.top a
   side_unknown = unknown_named pre.room asked.unknown
-
-  pub side_held : Held q w s.top t
-  side_held = room_held pre.room asked.den
-
-  pub side_run : g.at + 4 * g.n ≤ length w
-  side_run = omega (arith, asked.run.below, pre.room.fits, pre.room.low)
-
-  space : Space w s g 1
-  space = room_space pre.room g 1 asked.run (omega arith)
-
-  -- to be solved by the type, or by the unknown
-  pub space_type : (Space w s g 1) × (t < 2 ^ 32)
-  space_type = (space, ref_small pre.room asked.den)
-
-  pub space_unknown : (Space w s g 1) × (a < 2 ^ 32)
-  space_unknown = (space, ref_small pre.room asked.unknown)
 
 -- ## The unknown a against a type without parts
 
@@ -107,21 +91,22 @@ module _ {q w : List ℕ} {s : State} {g : Span} {sd : Side} {a t : ℕ} (pre : 
       → (y : syntax.TyVar) → T ≡ etvar y → before Γ v y ≡ false
   late Γ v T r d e y eq = pre.late.is Γ v y r d (rw eq at e)
 
-  pub solve_occurs : {m : Here} {z : Step} → b ≡ true → z ≡ Fail (record { st = s; code = 14; name = x.0; shown = OneType t; charge = 0 })
-      → Fires m q w w s g (inst_ask sd a t) z
-  unfolding error_code error_at
+  pub solve_occurs : {m : Here} {z : Stop} → b ≡ true
+      → z ≡ Fail (record { st = s; error = OccursCheck; name = x.0; shown = OneType t; charge = 0 })
+      → Fires m q w w s g (inst_ask sd a t) (Err z)
+  unfolding error_at
   solve_occurs {m} h i = rw i (record {
     run = λ j k.
         let v = inst_asked sd a t k in
-        let f : Failed q w (record { st = s; code = 14; name = x.0; shown = OneType t; charge = 0 }) (occurs_check v.x v.T) s.left =
-        record { base = pre.pre.room.base; within = room_within pre.pre.room; code = refl; name = ap (λ (y : syntax.TyVar). y.number) (nm.of_etvar v.x v.unknown); shown = shown_one v.den; left = refl } in
+        let f : Failed q w (record { st = s; error = OccursCheck; name = x.0; shown = OneType t; charge = 0 }) (occurs_check v.x v.T) s.left =
+        record { base = pre.pre.room.base; within = room_within pre.pre.room; error = refl; name = ap (λ (y : syntax.TyVar). y.number) (nm.of_etvar v.x v.unknown); shown = shown_one v.den; left = refl } in
         refuses begin f _
         (ap (λ (i : Judgement). rule (here m) (judge (here m)) i s.left s.fresh) v.is
         ∙ occurs_is (here m) (judge (here m)) v.Γ v.x s.left s.fresh sd v.T (pre.plain v.T v.den)
         (late v.Γ v.x v.T v.run v.unknown v.den) (mono_so v.T v.den) (occurs_so v.x v.T v.unknown v.den ∙ h));
   })
 
-  pub solve_done : {m : Here} {w₁ : List ℕ} {n : ℕ} {z : Step} → b ≡ false → n ≡ rule_number (inst_solve sd) → SolvedBy m w w₁ s g x t n z
+  pub solve_done : {m : Here} {w₁ : List ℕ} {n : program.Rule} {z : Step} → b ≡ false → rule_of n ≡ inst_solve sd → SolvedBy m w w₁ s g x t n z
       → Fires m q w w₁ s g (inst_ask sd a t) z
   solve_done {m} h e c = record {
     run = λ j k.
@@ -141,22 +126,8 @@ module _ {q w : List ℕ} {s : State} {g : Span} {sd : Side} {a t : ℕ} (pre : 
       let u = is_etvar v.T (pre.code v.T v.den) in
       unknown_named pre.pre.room (rw u.is at v.den)
 
-  module _ {x y : TyVar} {r : Bool} (nx : Named q w s.top a x) (ny : Named q w s.top t y) (bf : Before w g (ty x) (ty y) r) where
-    meets : {r' : Bool} → r ≡ r' → Meets q w s g a t r'
-    meets e = record {
-      is = λ Γ u v run d f.
-          ap (λ (i : syntax.TyVar). before Γ i v) (sym (nx.of_etvar u d)) ∙ ap (λ (i : syntax.TyVar). before Γ (ty x) i) (sym (ny.of_etvar v f))
-          ∙ sym (bf.is run) ∙ e;
-    }
-
-    pub meet_reach : r ≡ true → ReachPre sd q w s g a t
-    meet_reach e = record { form = pre; early = meets e }
-
-    pub meet_solve : r ≡ false → SolvePre sd q w s g a t
-    meet_solve e = record { pre = pre.pre; plain = λ T d. let c = pre.code T d in omega arith; late = meets e }
-
-pub reach_done : {m : Here} {q w w₁ : List ℕ} {s : State} {g : Span} {sd : Side} {a t n : ℕ} {y : TyVar} {z : Step} → ReachPre sd q w s g a t → Named q w s.top t y
-    → n ≡ rule_number (inst_reach sd) → SolvedBy m w w₁ s g y a n z → Fires m q w w₁ s g (inst_ask sd a t) z
+pub reach_done : {m : Here} {q w w₁ : List ℕ} {s : State} {g : Span} {sd : Side} {a t : ℕ} {n : program.Rule} {y : TyVar} {z : Step} → ReachPre sd q w s g a t → Named q w s.top t y
+    → rule_of n ≡ inst_reach sd → SolvedBy m w w₁ s g y a n z → Fires m q w w₁ s g (inst_ask sd a t) z
 reach_done {m} {s = s} {sd = sd} {a = a} {t = t} pre nm e c = record {
   run = λ j k.
       let v = inst_asked sd a t k in

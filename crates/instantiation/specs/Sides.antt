@@ -1,6 +1,6 @@
 -- What the rules of instantiation require and ensure, on either side.
-use Rattle.std.specs.Prelude.{◌≡◌, Bool, true, false, List, ℕ, ◌<◌}
-use Rattle.definition.specs.Syntax.{TyVar, Ty, etvar, Ctx, Side}
+use Rattle.std.specs.Prelude.{◌≡◌, Bool, true, false, List, [], ◌∷◌, ℕ, ◌<◌, Ok}
+use Rattle.definition.specs.Syntax.{TyVar, Ty, etvar, Ctx, Side, on_l, on_r}
 use Rattle.definition.specs.Contexts.{before}
 use Rattle.definition.specs.Rules.{ty_code}
 use Rattle.layout.specs.Sizes.{INT}
@@ -13,19 +13,19 @@ use Rattle.layout.specs.declared.State.{State}
 use Rattle.layout.specs.declared.TyVar as declared
 use Rattle.judging.specs.Asking.{EntryFrom, inst_ask, RulePre}
 use Rattle.judging.specs.declared.Here.{Here}
-use Rattle.judging.specs.declared.Step.{Step}
-use Rattle.judging.specs.declared.Step.TheVariants.{Done}
+use Rattle.judging.specs.declared.Rule.{Rule}
+use Rattle.judging.specs.Ending.{Step}
 use Rattle.contexts.specs.Build.{Replaced}
 use Rattle.contexts.specs.declared.Opened.{Opened}
 use Rattle.rules.specs.declared.Side as program
 use Rattle.rules.specs.declared.Side.TheVariants.{L, R}
 
--- the number of a side's first rule
-abbrev pub first_rule : program.Side → ℕ
-first_rule L = 30
-first_rule R = 34
+-- the one of the two that stands on it
+abbrev pub on_side : {X : Type 0} → Side → X → X → X
+on_side on_l x y = x
+on_side on_r x y = y
 
--- the other one
+-- the other side
 abbrev pub other_of : program.Side → program.Side
 other_of L = R
 other_of R = L
@@ -52,10 +52,10 @@ pub record ReachPre (side : Side) (q w : List ℕ) (s : State) (g : Span) (a t :
   pub form : FormPre side q w s g a t 4
   pub early : Meets q w s g a t true
 
--- a context with a solved by the type r was built, and the rule of number n gives it
-pub record SolvedBy (h : Here) (w w' : List ℕ) (s : State) (g : Span) (a : declared.TyVar) (r n : ℕ) (z : Step) : Type 0 where
+-- a context with a solved by the type r was built, and the rule n gives it
+pub record SolvedBy (h : Here) (w w' : List ℕ) (s : State) (g : Span) (a : declared.TyVar) (r : ℕ) (n : Rule) (z : Step) : Type 0 where
   pub o : Opened
   pub e : Entry
   pub made : EntryFrom h (SETVar a) r e
-  pub replaced : Replaced w w' s g (ty a) e o
-  pub is : z ≡ Done (record { st = o.st; g = o.g; ty = INT; rule = n; kids = 0; charge = 0 })
+  pub replaced : Replaced w w' s g (ty a) (e ∷ []) o
+  pub is : z ≡ Ok (record { st = o.st; g = o.g; ty = INT; rule = n; kids = 0; charge = 0 })

@@ -5,7 +5,8 @@ use Prim.Native.Nat.{ℕ, ◌+◌, ◌-◌, ◌*◌, ◌≤◌, ◌<◌}
 use native.Mathlib.Nat.{le_refl}
 use native.Mathlib.Omega.{arith}
 use lib.ListN.{length}
-use Rattle.definition.specs.Syntax
+use Rattle.std.specs.Prelude.{Ok, Err}
+use Rattle.definition.specs.Syntax as Syntax
 use Rattle.definition.specs.Syntax.{Judgement, given, Rule, rule_number, node, leaf, ◌&◌, children}
 use Rattle.definition.specs.Run.{done, stop}
 use Rattle.definition.specs.Rules.{rule, judge}
@@ -21,23 +22,17 @@ use Rattle.judging.specs.declared.Ask.{Ask}
 use Rattle.judging.specs.declared.Answer.{Answer}
 use Rattle.judging.specs.declared.Bad.{Bad}
 use Rattle.judging.specs.declared.Here.{Here}
-use Rattle.judging.specs.declared.Step.{Step}
-use Rattle.judging.specs.declared.Step.TheVariants.{Done, Fail, Spent}
+use Rattle.judging.specs.declared.Stop.TheVariants.{Fail, Spent}
 use Rattle.judging.specs.Asking.{here, Asks, JudgePre, RulePre}
 use Rattle.judging.specs.Nodes.{NodeAt, NodesAt, no_nodes, a_node}
-use Rattle.judging.specs.Ending.{Landed, landed, failed, ran_out, RunsJ, charge_of, Judged, Fires}
-use Rattle.judging.specs.Leaving.{Entering, inner, ConcludePre, leaving, Concludes, unpaid_out, wrote, failing}
+use Rattle.judging.specs.Ending.{Step, Landed, landed, failed, ran_out, RunsJ, charge_of, Judged, Fires}
+use Rattle.judging.specs.Leaving.{inner, ConcludePre, leaving, Concludes, unpaid_out, wrote, failing}
 use Rattle.judging.proofs.Nodes.{asks_frame, asks_run, nodes_frame}
 use Rattle.judging.proofs.Steps.{step_none, step_stop, step_fail, step_unpaid, step_paid, FiredBy, fired_by, FailsBy, refused_by, out_by, failed_again}
 
 -- ## Entering
 
-pub may_enter : {q w : List ℕ} {s : State} {g : Span} {a : Ask} → JudgePre q w s g a → Entering s g
-may_enter pre =
-    let b = (asks_run pre.asks).below in
-    record { node = λ h. omega (arith, pre.ready.fits); entries = omega (arith, pre.ready.over, pre.ready.low, pre.ready.cap) }
-
-pub judge_spent : {m : Here} {q w : List ℕ} {s : State} {g : Span} {a : Ask} → s.left ≤ g.n → Judged m q w w s g a Spent
+pub judge_spent : {m : Here} {q w : List ℕ} {s : State} {g : Span} {a : Ask} → s.left ≤ g.n → Judged m q w w s g a (Err Spent)
 unfolding charged
 judge_spent {m} {q} {w} {s} {g} {a} h = record {
   run = λ j k. record { keep = keep_refl _ _ _; ends = rw (stops k) ran_out };
@@ -47,7 +42,8 @@ judge_spent {m} {q} {w} {s} {g} {a} h = record {
     stops : {j : Judgement} → Asks q w s.top g a j → judge (here m) j s.left s.fresh ≡ stop
     stops {j} k = let c = (asks_run k).count in step_none (here m) j s.left s.fresh (omega arith)
 
-rule_small : (r : Rule) → rule_number r < 38
+-- the rules are 1 to 37
+pub rule_small : (r : Rule) → rule_number r < 38
 unfolding rule_number
 rule_small Syntax.InfVar = omega arith
 rule_small Syntax.InfLitInt = omega arith
@@ -121,7 +117,7 @@ module _ {q w : List ℕ} {s : State} {g : Span} {a : Ask} (pre : JudgePre q w s
     keep₁ {j} k = keep_less (le_refl _) (omega (arith, deep)) (call.run j k).keep
 
     -- a judgement ends in a type error as its rule does
-    module _ {b : Bad} (d₁ : z₁ ≡ Fail b) where
+    module _ {b : Bad} (d₁ : z₁ ≡ Err (Fail b)) where
       fails : (j : Judgement) (k : Asks q w s.top g a j) → FailsBy q w₁ b (judge (here m) j s.left s.fresh)
       fails j k =
           let f = refused_by (call.run j k).ends d₁ in
@@ -130,7 +126,7 @@ module _ {q w : List ℕ} {s : State} {g : Span} {a : Ask} (pre : JudgePre q w s
       pub fail_pre : b.st.left ≤ s.left
       fail_pre = let f = fails pre.j pre.asks in rw f.is at (judge_left (here m) pre.j s.left s.fresh)
 
-      pub judge_fail : Judged m q w w₁ s g a (Fail (failing s b))
+      pub judge_fail : Judged m q w w₁ s g a (Err (Fail (failing s b)))
       unfolding charged
       judge_fail = record {
         run = λ j k. let f = fails j k in record { keep = keep₁ k; ends = rw f.is (failed (failed_again f.fails)) };
@@ -138,7 +134,7 @@ module _ {q w : List ℕ} {s : State} {g : Span} {a : Ask} (pre : JudgePre q w s
       }
 
     -- and runs out as its rule does
-    pub judge_out : z₁ ≡ Spent → Judged m q w w₁ s g a Spent
+    pub judge_out : z₁ ≡ Err Spent → Judged m q w w₁ s g a (Err Spent)
     unfolding charged
     judge_out d₁ = record {
       run = λ j k. record { keep = keep₁ k; ends = rw (stops k) ran_out };
@@ -148,7 +144,7 @@ module _ {q w : List ℕ} {s : State} {g : Span} {a : Ask} (pre : JudgePre q w s
         stops : {j : Judgement} → Asks q w s.top g a j → judge (here m) j s.left s.fresh ≡ stop
         stops {j} k = step_stop (here m) j s.left s.fresh _ (cost k) (less k) (out_by (call.run j k).ends d₁)
 
-    module _ {r : Answer} (d₁ : z₁ ≡ Done r) where
+    module _ {r : Answer} (d₁ : z₁ ≡ Ok r) where
       by : (j : Judgement) (k : Asks q w s.top g a j) → FiredBy q w₁ (inner s g) r (rule (here m) (judge (here m)) j (s.left - (g.n + 1)) s.fresh)
       by j k = fired_by (call.run j k).ends d₁
 
@@ -169,7 +165,6 @@ module _ {q w : List ℕ} {s : State} {g : Span} {a : Ask} (pre : JudgePre q w s
             out = omega (arith, x.run.below, x.room.fits, x.room.low, x.room.cap);
             n₂ = omega (arith, x.run.below, x.room.fits, x.room.low, x.room.cap);
             res = omega (arith, x.room.fits, x.room.low, x.room.cap);
-            rule = omega (arith, f.rule_is, rule_small f.r);
             kids = omega (arith, f.kids_is, f.few);
             less = omega (arith, x.less);
           }
@@ -195,14 +190,14 @@ module _ {q w : List ℕ} {s : State} {g : Span} {a : Ask} (pre : JudgePre q w s
               let lf = f.land.left in
               step_paid (here m) j s.left s.fresh _ (cost k) (less k) f.Δ f.is (omega arith)
 
-          pays : (j : Judgement) → Asks q w s.top g a j → charge_of (Done (leaving s r)) ≡ charged s.left (judge (here m) j s.left s.fresh)
+          pays : (j : Judgement) → Asks q w s.top g a j → charge_of (Ok (leaving s r)) ≡ charged s.left (judge (here m) j s.left s.fresh)
           pays j k =
               let f = by j k in
               let c = f.land.run.count in
               let lf = f.land.left in
               rw (ends k, ← lf, ← c) refl
 
-          go : (j : Judgement) → Asks q w s.top g a j → RunsJ q w w₂ s (Done (leaving s r)) (judge (here m) j s.left s.fresh)
+          go : (j : Judgement) → Asks q w s.top g a j → RunsJ q w w₂ s (Ok (leaving s r)) (judge (here m) j s.left s.fresh)
           go j k =
               let f = by j k in
               let x = f.land in

@@ -1,10 +1,10 @@
 -- What a judgement and a rule promise: what comes back is what the definition says, at the same budget and fresh names.
-use Rattle.std.specs.Prelude.{◌≡◌, List, ℕ, ◌+◌, ◌*◌, ◌≤◌, ◌<◌, length}
+use Rattle.std.specs.Prelude.{◌≡◌, List, ℕ, ◌+◌, ◌*◌, ◌≤◌, ◌<◌, length, Result as Outcome, Ok, Err}
 use Rattle.std.proofs.Math.Option.{Option, none, some}
-use Rattle.definition.specs.Syntax.{Ty, Ctx, Judgement, Rule, rule_number, Tree, Trees, leaf, ◌&◌, children, Shown, no_type, one_type, two_types, TypeError}
+use Rattle.definition.specs.Syntax.{Ty, Ctx, Judgement, Rule, Tree, Trees, leaf, ◌&◌, children, Shown, no_type, one_type, two_types, TypeError}
 use Rattle.definition.specs.Run.{Out, done, fail, stop}
 use Rattle.definition.specs.Rules.{Fired, Result, rule, judge}
-use Rattle.definition.specs.Reply.{error_code, error_at}
+use Rattle.definition.specs.Reply.{error_at}
 use Rattle.laws.specs.Count.{charged}
 use Rattle.layout.specs.Words.{Keep}
 use Rattle.layout.specs.Denotes.{Den, Run, Base}
@@ -17,8 +17,9 @@ use Rattle.judging.specs.declared.Bad.{Bad}
 use Rattle.judging.specs.declared.Here.{Here}
 use Rattle.judging.specs.declared.Shown as program
 use Rattle.judging.specs.declared.Shown.TheVariants.{NoType, OneType, TwoTypes}
-use Rattle.judging.specs.declared.Step.{Step}
-use Rattle.judging.specs.declared.Step.TheVariants.{Done, Fail, Spent}
+use Rattle.judging.specs.declared.Stop.{Stop}
+use Rattle.judging.specs.declared.Stop.TheVariants.{Fail, Spent}
+use Rattle.judging.specs.Names.{rule_of, error_of}
 use Rattle.judging.specs.Asking.{here, Asks}
 use Rattle.judging.specs.Nodes.{NodesAt}
 
@@ -43,23 +44,27 @@ pub data ShownAt (q w : List ℕ) (t : ℕ) : program.Shown → Shown → Type 0
 pub record Failed (q w' : List ℕ) (b : Bad) (e : TypeError) (l : ℕ) : Type 0 where
   pub base : Base q w' b.st.top
   pub within : b.st.top ≤ length w'
-  pub code : b.code ≡ error_code e.error
+  pub error : error_of b.error ≡ e.error
   pub name : b.name ≡ error_at e.about
   pub shown : ShownAt q w' b.st.top b.shown e.shown
   pub left : b.st.left ≡ l
 
+-- what a rule or a judgement comes to
+abbrev pub Step : Type 0
+Step = Outcome Answer Stop
+
 -- how a judgement ends, and a rule
 pub data EndsJ (q w' : List ℕ) (s : State) : Step → Out Result → Type 0 where
   landed : {a : Answer} {C : Ty} {Δ : Ctx} {t : Tree} {l n : ℕ} → Landed q w' s a (4 * a.g.n + 4) C Δ (t & leaf) l n
-      → EndsJ q w' s (Done a) (done (C, Δ, t) l n)
-  failed : {b : Bad} {e : TypeError} {l : ℕ} → Failed q w' b e l → EndsJ q w' s (Fail b) (fail e l)
-  ran_out : EndsJ q w' s Spent stop
+      → EndsJ q w' s (Ok a) (done (C, Δ, t) l n)
+  failed : {b : Bad} {e : TypeError} {l : ℕ} → Failed q w' b e l → EndsJ q w' s (Err (Fail b)) (fail e l)
+  ran_out : EndsJ q w' s (Err Spent) stop
 
 pub data EndsR (q w' : List ℕ) (s : State) : Step → Out Fired → Type 0 where
-  fired : {a : Answer} {C : Ty} {Δ : Ctx} {ts : Trees} {r : Rule} {l n : ℕ} → a.rule ≡ rule_number r → a.kids ≡ children ts
-      → children ts < 5 → Landed q w' s a 4 C Δ ts l n → EndsR q w' s (Done a) (done (r, C, Δ, ts) l n)
-  refused : {b : Bad} {e : TypeError} {l : ℕ} → Failed q w' b e l → EndsR q w' s (Fail b) (fail e l)
-  out : EndsR q w' s Spent stop
+  fired : {a : Answer} {C : Ty} {Δ : Ctx} {ts : Trees} {r : Rule} {l n : ℕ} → rule_of a.rule ≡ r → a.kids ≡ children ts
+      → children ts < 5 → Landed q w' s a 4 C Δ ts l n → EndsR q w' s (Ok a) (done (r, C, Δ, ts) l n)
+  refused : {b : Bad} {e : TypeError} {l : ℕ} → Failed q w' b e l → EndsR q w' s (Err (Fail b)) (fail e l)
+  out : EndsR q w' s (Err Spent) stop
 
 pub record RunsJ (q w w' : List ℕ) (s : State) (z : Step) (R : Out Result) : Type 0 where
   pub keep : Keep s.top s.low w w'
@@ -73,9 +78,9 @@ pub record RunsR (q w w' : List ℕ) (s : State) (z : Step) (R : Out Fired) : Ty
 
 -- what is returned as the charge; none where the budget did not suffice
 abbrev pub charge_of : Step → Option ℕ
-charge_of (Done a) = some a.charge
-charge_of (Fail b) = some b.charge
-charge_of Spent = none
+charge_of (Ok a) = some a.charge
+charge_of (Err (Fail b)) = some b.charge
+charge_of (Err Spent) = none
 
 -- what a judgement ensures, and a rule
 pub record Judged (h : Here) (q w w' : List ℕ) (s : State) (g : Span) (a : Ask) (z : Step) : Type 0 where

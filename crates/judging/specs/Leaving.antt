@@ -1,5 +1,5 @@
 -- Entering a judgement and leaving it.
-use Rattle.std.specs.Prelude.{◌≡◌, List, ℕ, ◌+◌, ◌-◌, ◌≤◌, ◌<◌, ◌^◌, length}
+use Rattle.std.specs.Prelude.{◌≡◌, List, ℕ, ◌+◌, ◌-◌, ◌≤◌, ◌<◌, ◌^◌, length, Result, Ok, Err}
 use Rattle.layout.specs.Sizes.{CAP}
 use Rattle.layout.specs.States.{paid, lowered}
 use Rattle.layout.specs.Words.{Keep}
@@ -8,10 +8,11 @@ use Rattle.layout.specs.declared.State.{State}
 use Rattle.judging.specs.declared.Ask.{Ask}
 use Rattle.judging.specs.declared.Answer.{Answer}
 use Rattle.judging.specs.declared.Bad.{Bad}
-use Rattle.judging.specs.declared.Entered.{Entered}
-use Rattle.judging.specs.declared.Entered.TheVariants.{In}
-use Rattle.judging.specs.declared.Step.{Step}
-use Rattle.judging.specs.declared.Step.TheVariants.{Done, Fail}
+use Rattle.layout.specs.declared.Spent as layout
+use Rattle.judging.specs.declared.Stop.TheVariants.{Fail, Spent}
+use Rattle.judging.specs.Names.{rule_of}
+use Rattle.judging.specs.Ending.{Step}
+use Rattle.definition.specs.Syntax.{rule_number}
 use Rattle.judging.specs.Asking.{Small}
 use Rattle.judging.specs.Nodes.{NodeWords}
 
@@ -24,9 +25,9 @@ pub record Entering (s : State) (g : Span) : Type 0 where
 abbrev pub inner : State → Span → State
 inner s g = lowered (paid s (g.n + 1)) 12
 
-pub data EnteredBy (s : State) (g : Span) : Entered → Type 0 where
-  entered : g.n < s.left → EnteredBy s g (In (inner s g))
-  unpaid : s.left ≤ g.n → EnteredBy s g Entered.Spent
+pub data EnteredBy (s : State) (g : Span) : Result State layout.Spent → Type 0 where
+  entered : g.n < s.left → EnteredBy s g (Ok (inner s g))
+  unpaid : {x : layout.Spent} → s.left ≤ g.n → EnteredBy s g (Err x)
 
 -- ## Leaving: s is the state in which the judgement was asked, and its node stands in the 12 words below s .low
 
@@ -40,7 +41,6 @@ pub record ConcludePre (w : List ℕ) (s : State) (g : Span) (k : Ask) (a : Answ
   pub out : a.g.at < 2 ^ 32
   pub n₂ : a.g.n < 2 ^ 32
   pub res : a.ty < 2 ^ 32
-  pub rule : a.rule < 38
   pub kids : a.kids < 5
   pub less : a.st.left ≤ s.left
 
@@ -50,19 +50,19 @@ leaving s a =
     record { st = p; g = a.g; ty = a.ty; rule = a.rule; kids = a.kids; charge = s.left - p.left }
 
 pub data Concludes (w w' : List ℕ) (s : State) (g : Span) (k : Ask) (a : Answer) : Step → Type 0 where
-  unpaid_out : a.st.left < a.g.n → w' ≡ w → Concludes w w' s g k a Step.Spent
-  wrote : a.g.n ≤ a.st.left → Keep (s.low - 12) s.low w w' → NodeWords w' (s.low - 12) a.rule a.kids g k a.g a.ty
-      → Concludes w w' s g k a (Done (leaving s a))
+  unpaid_out : a.st.left < a.g.n → w' ≡ w → Concludes w w' s g k a (Err Spent)
+  wrote : a.g.n ≤ a.st.left → Keep (s.low - 12) s.low w w' → NodeWords w' (s.low - 12) (rule_number (rule_of a.rule)) a.kids g k a.g a.ty
+      → Concludes w w' s g k a (Ok (leaving s a))
 
 -- z is what the rule came to
 pub record LeavePre (w : List ℕ) (s : State) (g : Span) (k : Ask) (z : Step) : Type 0 where
-  pub answers : {a : Answer} → z ≡ Done a → ConcludePre w s g k a
-  pub fails : {b : Bad} → z ≡ Fail b → b.st.left ≤ s.left
+  pub answers : {a : Answer} → z ≡ Ok a → ConcludePre w s g k a
+  pub fails : {b : Bad} → z ≡ Err (Fail b) → b.st.left ≤ s.left
 
 abbrev pub failing : State → Bad → Bad
-failing s b = record { st = b.st; code = b.code; name = b.name; shown = b.shown; charge = s.left - b.st.left }
+failing s b = record { st = b.st; error = b.error; name = b.name; shown = b.shown; charge = s.left - b.st.left }
 
 pub data Left (w w' : List ℕ) (s : State) (g : Span) (k : Ask) : Step → Step → Type 0 where
-  concluded : {a : Answer} {y : Step} → Concludes w w' s g k a y → Left w w' s g k (Done a) y
-  failed_on : {b : Bad} → w' ≡ w → Left w w' s g k (Fail b) (Fail (failing s b))
-  ran_out_on : w' ≡ w → Left w w' s g k Step.Spent Step.Spent
+  concluded : {a : Answer} {y : Step} → Concludes w w' s g k a y → Left w w' s g k (Ok a) y
+  failed_on : {b : Bad} → w' ≡ w → Left w w' s g k (Err (Fail b)) (Err (Fail (failing s b)))
+  ran_out_on : w' ≡ w → Left w w' s g k (Err Spent) (Err Spent)

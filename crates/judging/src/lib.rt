@@ -1,12 +1,16 @@
 // What the six judgements share: what is asked and what comes back, entering and leaving, the nodes of the tree.
 #![tactic(auto)]
 
-ghost use Rattle.std.specs.Prelude.{◌≡◌};
+ghost use Rattle.std.specs.Prelude.{◌≡◌, ◌<◌};
+ghost use Rattle.definition.specs.Syntax.{rule_number};
+ghost use Rattle.definition.specs.Reply.{error_code};
 ghost use Rattle.definition.specs.Rules as rules;
 ghost use Rattle.judging.specs.Asking.{mode, here, EntryFrom};
+ghost use Rattle.judging.specs.Names.{rule_of, error_of};
+ghost use Rattle.judging.specs.declared.Stop.TheVariants as Stop;
 ghost use Rattle.judging.specs.Leaving.{Entering, EnteredBy, ConcludePre, Concludes, LeavePre, Left};
 
-use layout::{Entry, Key, Paid, Span, State, put4};
+use layout::{Entry, Key, Kind, Span, Spent, State, put4};
 
 // The words of a node.
 pub const NODE: usize = 12;
@@ -18,7 +22,9 @@ pub struct Mode {
     pub applies_branches: bool,
 }
 
-// What a judgement runs in: the mode.
+// What a judgement runs in: the mode. Question, work and this are handed on one by one: a struct that lends work as `&mut` needs, at each
+// function, two clauses more, that it lends the same slice and the same question when it comes back. So are state and context: what applies
+// or builds a type goes on with another state in the same context.
 #[derive(Clone, Copy)]
 pub struct Here {
     pub manner: Mode,
@@ -38,25 +44,95 @@ pub fn entry(h: Here, k: Key, ty: usize) -> Entry
     Entry { key: k, ty: ty }
 }
 
-// A judgement besides its context: its kind (1 to 6), the place of its expression, its left and its right type; 0 where there is none.
+// A judgement besides its context: which it is (not Resolve), the place of its expression, its left and its right type; 0 where there is none.
 #[derive(Clone, Copy)]
 pub struct Ask {
-    pub kind: usize,
+    pub kind: Kind,
     pub ex: usize,
     pub left: usize,
     pub right: usize,
 }
 
-// What a rule gives: the output context, the result type (INT where there is none), the rule's number, how many children. Its judgement
-// adds what it was charged, from entering on (0 before).
+// The rules, by their numbers.
+#[derive(Clone, Copy, PartialEq, Eq)]
+pub enum Rule {
+    InfVar = 1,
+    InfLitInt = 2,
+    InfLitBool = 3,
+    InfLam = 4,
+    InfApp = 5,
+    InfLet = 6,
+    InfIf = 7,
+    InfArith = 8,
+    InfBool = 9,
+    InfCmp = 10,
+    InfEq = 11,
+    InfAnn = 12,
+    InfTAbs = 13,
+    InfTApp = 14,
+    InfAppArr = 15,
+    InfAppETVar = 16,
+    ChkLitInt = 17,
+    ChkLitBool = 18,
+    ChkLam = 19,
+    ChkAll = 20,
+    ChkSub = 21,
+    SubRefl = 22,
+    SubReflTVar = 23,
+    SubReflETVar = 24,
+    SubArr = 25,
+    SubAllR = 26,
+    SubAllL = 27,
+    SubInstL = 28,
+    SubInstR = 29,
+    InstLSolve = 30,
+    InstLReach = 31,
+    InstLArr = 32,
+    InstLAllR = 33,
+    InstRSolve = 34,
+    InstRReach = 35,
+    InstRArr = 36,
+    InstRAllL = 37,
+}
+
+impl Rule {
+    pub fn number(self) -> usize
+        ensures { (result ≡ rule_number (rule_of self)) × (result < 38) }
+    {
+        self as usize
+    }
+}
+
+// What a rule gives: the output context, the result type (INT where there is none), the rule, how many children. Its judgement adds what it
+// was charged, from entering on (0 before).
 #[derive(Clone, Copy)]
 pub struct Answer {
     pub st: State,
     pub g: Span,
     pub ty: usize,
-    pub rule: usize,
+    pub rule: Rule,
     pub kids: usize,
     pub charge: usize,
+}
+
+// Type errors, by their codes.
+#[derive(Clone, Copy, PartialEq, Eq)]
+pub enum TypeError {
+    UnboundVariable = 11,
+    ApplicationTypeError = 12,
+    TypeApplicationError = 13,
+    OccursCheck = 14,
+    SubtypingError = 15,
+    InstantiationError = 16,
+    ParameterMismatch = 17,
+}
+
+impl TypeError {
+    pub fn code(self) -> u32
+        ensures { result ≡ error_code (error_of self) }
+    {
+        self as u32
+    }
 }
 
 // The types that a type error shows, by reference.
@@ -67,42 +143,56 @@ pub enum Shown {
     TwoTypes(usize, usize),
 }
 
-// A type error: its code, the name that it is about (0 where there is none), the types that it shows; and what the judgement was charged.
+// A type error: which, the name that it is about (0 where there is none), the types that it shows; and what the judgement was charged.
 #[derive(Clone, Copy)]
 pub struct Bad {
     pub st: State,
-    pub code: usize,
+    pub error: TypeError,
     pub name: u32,
     pub shown: Shown,
     pub charge: usize,
 }
 
-// What a rule or a judgement comes to; Spent where the next charge would pass the budget.
+// Why there is no answer: a type error; or the next charge would pass the budget.
 #[derive(Clone, Copy)]
-pub enum Step {
-    Done(Answer),
+pub enum Stop {
     Fail(Bad),
     Spent,
 }
 
-// The state in which a judgement's rule starts.
-#[derive(Clone, Copy)]
-pub enum Entered {
-    In(State),
-    Spent,
+impl Stop {
+    // A type error; what its judgement was charged is not known yet.
+    pub fn fail(st: State, error: TypeError, name: u32, shown: Shown) -> Stop
+        ensures { result ≡ Stop.Fail (record { st = st; error = error; name = name; shown = shown; charge = 0 }) }
+    {
+        Stop::Fail(Bad {
+            st,
+            error,
+            name,
+            shown,
+            charge: 0,
+        })
+    }
 }
 
-// Pays for entering with a context, and reserves the judgement's node.
-pub fn enter(st: State, g: Span) -> Entered
+impl From<layout::Spent> for Stop {
+    ghost from_gives = { λ _ e. e ≡ Stop.Spent };
+
+    fn from(_spent: layout::Spent) -> Stop {
+        Stop::Spent
+    }
+}
+
+// What a rule or a judgement comes to.
+pub type Step = Result<Answer, Stop>;
+
+// Pays for entering with a context, and reserves the judgement's node: the state in which the judgement's rule starts.
+pub fn enter(st: State, g: Span) -> Result<State, Spent>
     requires { Entering st g }
     ensures { EnteredBy st g result }
 {
-    let n = g.n;
-    let Paid::On(paid) = st.charge(n + 1) else {
-        return Entered::Spent;
-    };
-    let inner = paid.lower(NODE);
-    Entered::In(inner)
+    let paid = st.charge(g.n + 1)?;
+    Ok(paid.lower(NODE))
 }
 
 // Pays for the output context and writes the judgement's node; st is the state in which the judgement was asked.
@@ -110,30 +200,15 @@ fn conclude(work: &mut [u32], st: State, g: Span, ask: Ask, r: Answer) -> Step
     requires { ConcludePre work.old st g ask r }
     ensures { Concludes work.old work.new st g ask r result }
 {
-    let end = r.st;
-    let h = r.g;
-    let ty = r.ty;
-    let rule = r.rule;
-    let kids = r.kids;
-    let out = h.at;
-    let n2 = h.n;
-    let Paid::On(paid) = end.charge(n2) else {
-        return Step::Spent;
-    };
-    let at = g.at;
-    let n = g.n;
+    let paid = r.st.charge(r.g.n)?;
     let m = st.low - NODE;
-    put4(work, m, rule, kids, ask.ex, at);
-    put4(work, m + 4, n, ask.left, ask.right, out);
-    put4(work, m + 8, n2, ty, ask.kind, 0);
-    let charge = paid.charged_since(st);
-    Step::Done(Answer {
+    put4(work, m, r.rule.number(), r.kids, ask.ex, g.at);
+    put4(work, m + 4, g.n, ask.left, ask.right, r.g.at);
+    put4(work, m + 8, r.g.n, r.ty, ask.kind.number(), 0);
+    Ok(Answer {
         st: paid,
-        g: h,
-        ty: ty,
-        rule: rule,
-        kids: kids,
-        charge: charge,
+        charge: paid.charged_since(st),
+        ..r
     })
 }
 
@@ -143,19 +218,11 @@ pub fn leave(work: &mut [u32], st: State, g: Span, ask: Ask, z: Step) -> Step
     ensures { Left work.old work.new st g ask z result }
 {
     match z {
-        Step::Done(r) => conclude(work, st, g, ask, r),
-        Step::Fail(b) => {
-            let end = b.st;
-            let shown = b.shown;
-            let charge = end.charged_since(st);
-            Step::Fail(Bad {
-                st: end,
-                code: b.code,
-                name: b.name,
-                shown: shown,
-                charge: charge,
-            })
-        }
-        Step::Spent => Step::Spent,
+        Ok(r) => conclude(work, st, g, ask, r),
+        Err(Stop::Fail(b)) => Err(Stop::Fail(Bad {
+            charge: b.st.charged_since(st),
+            ..b
+        })),
+        Err(Stop::Spent) => Err(Stop::Spent),
     }
 }

@@ -7,3 +7,4 @@ pub mod Monotypes
 pub mod Places
 pub mod Denotes
 pub mod Room
+pub mod Kinds

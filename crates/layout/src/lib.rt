@@ -6,6 +6,7 @@ ghost use Rattle.definition.specs.Contexts.{kind_of, name_of};
 ghost use Rattle.layout.specs.Sizes.{ENDS, MONO, CAP};
 ghost use Rattle.layout.specs.Monotypes.{with_mono, number_at, mono_at, past};
 ghost use Rattle.layout.specs.Names.{key};
+ghost use Rattle.layout.specs.Kinds.{kind_number, OfNumber};
 ghost use Rattle.layout.specs.Words.{Put2, Put4, Copied};
 ghost use Rattle.layout.specs.Denotes.{SmallEntry, PutEntry};
 ghost use Rattle.layout.specs.States.{started, raised, lowered, Draws, Charges};
@@ -31,11 +32,54 @@ pub const MONO: usize = 4_096;
 pub const MOST: usize = 4_294_967_295;
 
 // A variable's name and a type's name: two kinds, so that a lookup cannot take the other.
-#[derive(Clone, Copy)]
+#[derive(Clone, Copy, PartialEq, Eq)]
 pub struct TmVar(pub u32);
 
-#[derive(Clone, Copy)]
+#[derive(Clone, Copy, PartialEq, Eq)]
 pub struct TyVar(pub u32);
+
+// What is asked, as a question's kind and as a node of the tree say it: one of the six judgements, or infer with its type resolved.
+#[derive(Clone, Copy, PartialEq, Eq)]
+pub enum Kind {
+    Infer = 1,
+    Check = 2,
+    InferApp = 3,
+    Subtype = 4,
+    InstL = 5,
+    InstR = 6,
+    Resolve = 7,
+}
+
+impl Kind {
+    pub fn number(self) -> usize
+        ensures { result ≡ kind_number self }
+    {
+        self as usize
+    }
+}
+
+// A word that is no kind's number.
+#[derive(Clone, Copy)]
+pub struct NoKind;
+
+impl TryFrom<u32> for Kind {
+    type Error = NoKind;
+
+    ghost try_from_gives = { OfNumber };
+
+    fn try_from(number: u32) -> Result<Kind, NoKind> {
+        match number {
+            1 => Ok(Kind::Infer),
+            2 => Ok(Kind::Check),
+            3 => Ok(Kind::InferApp),
+            4 => Ok(Kind::Subtype),
+            5 => Ok(Kind::InstL),
+            6 => Ok(Kind::InstR),
+            7 => Ok(Kind::Resolve),
+            _ => Err(NoKind),
+        }
+    }
+}
 
 // What a search asks for: an entry's kind and name.
 #[derive(Clone, Copy)]
@@ -89,12 +133,9 @@ pub struct Drawn {
     pub name: TyVar,
 }
 
-// The state once units are paid; Spent where the charge would pass the budget.
+// The next charge would pass the budget.
 #[derive(Clone, Copy)]
-pub enum Paid {
-    On(State),
-    Spent,
-}
+pub struct Spent;
 
 // The state in which a run starts: nothing is built above the table of ends, nodes go down from low, the whole budget is left.
 pub fn start(low: usize, budget: usize) -> State
@@ -102,7 +143,7 @@ pub fn start(low: usize, budget: usize) -> State
 {
     State {
         top: FLOOR,
-        low: low,
+        low,
         left: budget,
         fresh: 0,
     }
@@ -110,19 +151,15 @@ pub fn start(low: usize, budget: usize) -> State
 
 impl State {
     // Pays c units.
-    pub fn charge(self, c: usize) -> Paid
+    pub fn charge(self, c: usize) -> Result<State, Spent>
         ensures { Charges self c result }
     {
-        let left = self.left;
-        if left < c {
-            return Paid::Spent;
+        if self.left < c {
+            return Err(Spent);
         }
-        let less = left - c;
-        Paid::On(State {
-            top: self.top,
-            low: self.low,
-            left: less,
-            fresh: self.fresh,
+        Ok(State {
+            left: self.left - c,
+            ..self
         })
     }
 
@@ -139,15 +176,12 @@ impl State {
         requires { self.fresh < CAP }
         ensures { Draws self result }
     {
-        let taken = self.fresh;
         Drawn {
             st: State {
-                top: self.top,
-                low: self.low,
-                left: self.left,
-                fresh: taken + 1,
+                fresh: self.fresh + 1,
+                ..self
             },
-            name: TyVar(definition::FIRST_FRESH + taken as u32),
+            name: TyVar(definition::FIRST_FRESH + self.fresh as u32),
         }
     }
 
@@ -156,12 +190,9 @@ impl State {
         requires { self.top + n ≤ CAP }
         ensures { result ≡ raised self n }
     {
-        let top = self.top;
         State {
-            top: top + n,
-            low: self.low,
-            left: self.left,
-            fresh: self.fresh,
+            top: self.top + n,
+            ..self
         }
     }
 
@@ -170,12 +201,9 @@ impl State {
         requires { n ≤ self.low }
         ensures { result ≡ lowered self n }
     {
-        let low = self.low;
         State {
-            top: self.top,
-            low: low - n,
-            left: self.left,
-            fresh: self.fresh,
+            low: self.low - n,
+            ..self
         }
     }
 }
@@ -188,17 +216,17 @@ pub struct Entry {
 }
 
 // A context: n entries of four words (kind, name, type reference, spare) from a place of work on.
-#[derive(Clone, Copy)]
+#[derive(Clone, Copy, PartialEq, Eq)]
 pub struct Span {
     pub at: usize,
     pub n: usize,
 }
 
-// A type that was made (or found) and the state then; or the next charge would pass the budget.
+// A type that was made (or found), by reference, and the state then.
 #[derive(Clone, Copy)]
-pub enum Made {
-    Done(State, usize),
-    Spent,
+pub struct Made {
+    pub st: State,
+    pub ty: usize,
 }
 
 // The word at i, as a number that indexes.
@@ -252,7 +280,7 @@ pub fn past(work: &[u32], p: usize) -> usize
     number(work, ENDS + p)
 }
 
-// Puts two words.
+// Puts two words. Over an array of N, the contract of this and of put4 would have to say by index what theirs say by name.
 pub fn put2(w: &mut [u32], i: usize, a: usize, b: usize)
     requires { (i + 2 ≤ length w.old) × (a < 2 ^ 32) × (b < 2 ^ 32) }
     ensures { Put2 w.old w.new i a b }
@@ -277,10 +305,7 @@ pub fn put_entry(work: &mut [u32], at: usize, e: Entry)
     requires { (at + 4 ≤ length work.old) × (SmallEntry e) }
     ensures { PutEntry work.old work.new at e }
 {
-    let k = e.key;
-    let kind = k.kind();
-    let name = k.name();
-    put4(work, at, kind, name, e.ty, 0);
+    put4(work, at, e.key.kind(), e.key.name(), e.ty, 0);
 }
 
 // Copies n words to a place past them.
@@ -288,10 +313,6 @@ pub fn copy(words: &mut [u32], from: usize, to: usize, n: usize)
     requires { (from + n ≤ to) × (to + n ≤ length words.old) }
     ensures { Copied words.old words.new from to n }
 {
-    let mut i = 0;
-    while i < n {
-        let x = words[from + i];
-        words[to + i] = x;
-        i += 1;
-    }
+    let (below, above) = words.split_at_mut(to);
+    above[..n].copy_from_slice(&below[from..from + n]);
 }

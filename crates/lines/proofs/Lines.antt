@@ -85,26 +85,28 @@ wrote_number {s} {ys} {ds} {n} p b t mid rest h l d e i =
 pub all_copied : {ys u : List ℕ} → ys ≡ u → ys ≡ take (length u) u ++ []
 all_copied {u = u} e = e ∙ sym (append-nil u) ∙ ap (◌++ []) (sym (take-length u))
 
--- ## Lines, written from the number i on
+-- ## Lines, written from the number i on: the last of them, and those before it
 
-module _ {s s₁ : List ℕ} {p y : ℕ} (ws : List ℕ) where
-  pub line_none : length ws ≡ 0 → PutBytes s s₁ p (10 ∷ []) y → PutBytes s s₁ p (line_of ws) y
+module _ (last : ℕ) where
+  line_cons : (w : ℕ) (ws : List ℕ) → line_of (w ∷ (ws ++ (last ∷ []))) ≡ (decimal w ++ (32 ∷ [])) ++ line_of (ws ++ (last ∷ []))
   unfolding line_of
-  line_none h w = rw (drop_of_length-le ws {i = 0} (omega arith)) w
+  line_cons w [] = sym (append_assoc (decimal w) (32 ∷ []) (line_of (last ∷ [])))
+  line_cons w (v ∷ ws) = sym (append_assoc (decimal w) (32 ∷ []) (line_of (v ∷ (ws ++ (last ∷ [])))))
 
-  pub line_last : (i : ℕ) → length ws ≡ i + 1 → PutBytes s s₁ p (decimal (get_or ws i 0) ++ (10 ∷ [])) y → PutBytes s s₁ p (line_of (drop i ws)) y
-  unfolding line_of
-  line_last i h w = rw (drop-cons ws i 0 (omega arith), drop_of_length-le ws {i = suc i} (omega arith)) w
+  module _ {s s₁ : List ℕ} {p y : ℕ} (rest : List ℕ) (i : ℕ) where
+    pub line_last : length rest ≤ i → PutBytes s s₁ p (decimal last ++ (10 ∷ [])) y → PutBytes s s₁ p (line_of (drop i rest ++ (last ∷ []))) y
+    unfolding line_of
+    line_last h w = rw (drop_of_length-le rest {i = i} h) w
 
-  pub line_more : {s₂ : List ℕ} {z : ℕ} (i : ℕ) → i + 1 < length ws → PutBytes s s₁ p (decimal (get_or ws i 0) ++ (32 ∷ [])) y
-      → PutBytes s₁ s₂ y (line_of (drop (i + 1) ws)) z → PutBytes s s₂ p (line_of (drop i ws)) z
-  unfolding line_of
-  line_more {s₂} {z} i h w k =
-      let l : List ℕ = line_of (drop (i + 1) ws) in
-      let e : line_of (drop i ws) ≡ (decimal (get_or ws i 0) ++ (32 ∷ [])) ++ l =
-      rw (add-one i, drop-cons ws i 0 (omega arith), drop-cons ws (suc i) 0 (omega arith))
-      (sym (append_assoc (decimal (get_or ws i 0)) (32 ∷ []) (line_of (get_or ws (suc i) 0 ∷ drop (suc (suc i)) ws)))) in
-      rw e (wrote_then (decimal (get_or ws i 0) ++ (32 ∷ [])) l w k)
+    pub line_more : {s₂ : List ℕ} {z : ℕ} → i < length rest → PutBytes s s₁ p (decimal (get_or rest i 0) ++ (32 ∷ [])) y
+        → PutBytes s₁ s₂ y (line_of (drop (i + 1) rest ++ (last ∷ []))) z → PutBytes s s₂ p (line_of (drop i rest ++ (last ∷ []))) z
+    line_more h w k =
+        rw (drop-cons rest i 0 h, line_cons (get_or rest i 0) (drop (suc i) rest)) (wrote_then _ _ w (rw add-one at k))
+
+pub line_none : {s s₁ : List ℕ} {p y : ℕ} (ws : List ℕ) → length ws ≡ 0 → PutBytes s s₁ p (10 ∷ []) y → PutBytes s s₁ p (line_of ws) y
+unfolding line_of
+line_none [] h w = w
+line_none (v ∷ ws) h w = absurd (omega arith)
 
 -- case (a)'s first line, and the least and the largest word, computed
 pub computed : (line_of (0 ∷ 0 ∷ 13 ∷ 2 ∷ []) ≡ 48 ∷ 32 ∷ 48 ∷ 32 ∷ 49 ∷ 51 ∷ 32 ∷ 50 ∷ 10 ∷ []) × (decimal 0 ≡ 48 ∷ [])

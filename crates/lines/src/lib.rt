@@ -30,16 +30,13 @@ pub fn line(out: &mut [u8], from: usize, ws: &[u32]) -> usize
     requires { from + 11 * length ws.now + 1 ≤ length out.old }
     ensures { (PutBytes out.old out.new from (line_of ws.now) result) × (result ≤ from + 11 * length ws.now + 1) }
 {
-    if ws.len() == 0 {
+    let Some((last, rest)) = ws.split_last() else {
         out[from] = b'\n';
         return from + 1;
-    }
-    let last = ws.len() - 1;
+    };
     let mut at = from;
-    let mut i = 0;
-    while i < last {
-        at = number(out, at, ws[i], b' ');
-        i += 1;
+    for w in rest {
+        at = number(out, at, *w, b' ');
     }
-    number(out, at, ws[i], b'\n')
+    number(out, at, *last, b'\n')
 }

@@ -2,26 +2,21 @@
 use mathlib.Core.Path.{◌≡◌, refl, sym, ◌∙◌}
 use mathlib.Core.List.{List, [], ◌∷◌}
 use mathlib.Core.Logic.{inl, inr, ⊎_elim}
-use Prim.Native.Nat.{ℕ, ◌+◌, ◌-◌, ◌*◌, ◌≤◌, ◌<◌}
+use Prim.Native.Nat.{ℕ, ◌+◌, ◌-◌, ◌*◌}
 use native.Mathlib.Omega.{arith}
 use native.Mathlib.Nat.{le_refl}
 use lib.ListN.{length, get_or}
 use Rattle.definition.specs.Syntax.{Ty, int, Binding, Entry, Ctx}
 use Rattle.definition.specs.Contexts.{binding_key, kind_of, binding_type, held}
-use Rattle.layout.specs.Sizes.{ENDS}
-use Rattle.layout.specs.States.{raised}
 use Rattle.layout.specs.Monotypes.{past}
 use Rattle.layout.specs.Words.{Keep, Put4}
 use Rattle.layout.specs.Denotes.{Den, written, EntryAt, Base, CtxAt, nil, cons}
-use Rattle.layout.specs.declared.State.{State}
 use Rattle.layout.proofs.Words.{keep_refl, keep_less, keep_trans}
-use Rattle.layout.proofs.Places.{ty_code_lem}
 use Rattle.layout.proofs.Denotes.{den_frame, base_frame, past_ty, int_den, ctx_frame, ctx_join, question_put}
-use Rattle.contexts.proofs.Build.{past_run}
 use Rattle.reading.specs.Items.{TyTo}
 use Rattle.reading.specs.Contexts.{RestTo, var_rest, tvar_rest, etvar_rest, setvar_rest, mark_rest, EntryTo, EntriesTo, none, some, ListTo}
 use Rattle.loading.specs.declared.Rest.{Rest}
-use Rattle.loading.specs.Loading.{TypedKind, EntryRest, Readable, Loads, LoadedFrom, Loaded}
+use Rattle.loading.specs.Loading.{EntryRest, Loads, LoadedFrom}
 
 -- ## The first of some entries
 
@@ -63,18 +58,6 @@ rested {q} {w} {t} {p} {m} {x} {r} b e h = let z = go e.binds.rest e.binds.kind.
     go etvar_rest k = bare_at 34 k (λ f. omega arith) (λ f. omega arith)
     go (setvar_rest d) k = held_at (h.held (inr k)) d
     go mark_rest k = bare_at 36 k (λ f. omega arith) (λ f. omega arith)
-
--- the table has the end of an entry's type
-pub reads : {q w : List ℕ} {t p m : ℕ} {x : Entry} → Base q w t → t ≤ length w → EntryTo q p x m → Readable w (get_or q p 0) p
-unfolding kind_of binding_key
-reads {q} {w} {t} {p} b l e = record { place = e.binds.kind.inside; table = go e.binds.rest e.binds.kind.is }
-  where
-    go : {y : Binding} {m : ℕ} → RestTo q (p + 2) y m → get_or q p 0 ≡ kind_of (binding_key y) → TypedKind (get_or q p 0) → ENDS + (p + 2) < length w
-    go (var_rest d) k h = let c = ty_code_lem d.at in omega (arith, c.inside, b.floor)
-    go tvar_rest k h = absurd (⊎_elim (λ f. omega arith) (λ f. omega arith) h)
-    go etvar_rest k h = absurd (⊎_elim (λ f. omega arith) (λ f. omega arith) h)
-    go (setvar_rest d) k h = let c = ty_code_lem d.at in omega (arith, c.inside, b.floor)
-    go mark_rest k h = absurd (⊎_elim (λ f. omega arith) (λ f. omega arith) h)
 
 -- ## Some entries
 
@@ -118,13 +101,3 @@ module _ {q w w₁ : List ℕ} {p at n : ℕ} {r : Rest} (pre : Loads q w p at n
             rw (← e) (more.run f.others end (rw z.next f.list)) in
             rw f.is (ctx_join (f.x ∷ []) (ctx_frame k₂ (omega arith) one) others);
       }
-
--- ## The whole context, as a run at top
-
-pub loaded : {q w w' : List ℕ} {s e : State} {p n : ℕ} → e ≡ raised s (4 * n) → LoadedFrom q w w' p s.top n
-    → Loaded q w w' s p n (record { st = e; g = record { at = s.top; n = n } })
-loaded h l = record {
-  past = past_run h;
-  keep = l.keep;
-  run = λ Γ end x. rw h (record { ctx = l.run Γ end x; count = x.count; below = le_refl _ });
-}

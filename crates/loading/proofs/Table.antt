@@ -1,21 +1,20 @@
 -- Laws of the table of ends.
 use Prim.Native.Nat.{ℕ, suc, ◌+◌, ◌%◌, ◌≤◌, ◌<◌}
 use mathlib.Core.Path.{◌≡◌, refl, sym, ◌∙◌, ap}
-use mathlib.Core.Logic.{inl, inr, ⊎_elim}
-use mathlib.Core.Bool.{Bool, true, false, ◌&&◌}
+use mathlib.Core.Logic.{inl, inr}
+use mathlib.Core.Bool.{true, ◌&&◌}
 use mathlib.Core.List.{List, [], ◌∷◌}
 use native.Mathlib.Nat.{le_refl, le_antisymm, lt_of_not-le}
 use native.Mathlib.Decide.{dec_le}
 use native.Mathlib.Omega.{arith}
 use lib.ListN.{length, get_or, set}
 use lib.Seq.{get_or-set_same, get_or-set_other}
-use lib.Dec.{T, leb}
+use lib.Dec.{leb}
 use mir.Val.{has_key}
 use borrow.Author.Tests.{le-leb, lt-leb}
-use types.Run.{OneOf, hit}
+use types.Run.{OneOf}
 use Rattle.definition.specs.Syntax.{pick, Ty, int, bool, var, etvar, arrow, forall}
 use Rattle.definition.specs.Types.{is_mono}
-use Rattle.laws.proofs.Steps.{pick_false}
 use Rattle.layout.specs.Sizes.{ENDS, FLOOR, MONO}
 use Rattle.layout.specs.Monotypes.{with_mono, past}
 use Rattle.layout.specs.Places.{size, expr_size, TyAt, int_at, bool_at, var_at, etvar_at, arrow_at, forall_at, evar_at, app_at, abs_at, tapp_at, tabs_at, ann_at, lit_int_at, lit_bool_at, let_in_at, if_then_else_at, bin_op_at}
@@ -116,34 +115,6 @@ each P (k ∷ []) h e = rw e h.0
 each P (k ∷ (k' ∷ ks)) h (inl e) = rw e h.0
 each P (k ∷ (k' ∷ ks)) h (inr r) = each P (k' ∷ ks) h.1 r
 
-abbrev pub Missed : Type 0 → ℕ → Groups → Type 0
-Missed X w [] = X
-Missed X w (g ∷ gs) = Missed (X × (OneOf g.0 w → ⊥)) w gs
-
-no_key : (ks : List ℕ) (w : ℕ) → (OneOf ks w → ⊥) → has_key ks w ≡ false
-no_key ks w n = go (has_key ks w) (hit ks w)
-  where
-    go : (b : Bool) → (T b → OneOf ks w) → b ≡ false
-    go true h = absurd (n (h tt))
-    go false h = refl
-
-looks_none : {X : Type 0} (w : ℕ) (gs : Groups) → Missed X w gs → (look w gs ≡ (1, 0, 0)) × X
-unfolding look
-looks_none w [] h = (refl, h)
-looks_none w (g ∷ gs) h =
-    let k = looks_none w gs h in
-    (pick_false _ _ (no_key g.0 w k.1.1) ∙ k.0, k.1.0)
-
-pub look_none : (w : ℕ) → (1 ≤ w → 5 ≤ w) → Missed (Unit {0}) w others → look w table ≡ (1, 0, 0)
-unfolding look table
-look_none w f h = pick_false _ _ (neither 1 2 (omega arith) (omega arith)) ∙ pick_false _ _ (neither 3 4 (omega arith) (omega arith)) ∙ (looks_none w others h).0
-  where
-    leaf : (k : ℕ) → 1 ≤ k → k ≤ 4 → w ≡ k → ⊥
-    leaf k l m e = omega (arith, f (omega arith))
-
-    neither : (k j : ℕ) → (1 ≤ k) × (k ≤ 4) → (1 ≤ j) × (j ≤ 4) → has_key (k ∷ j ∷ []) w ≡ false
-    neither k j a b = no_key (k ∷ j ∷ []) w (⊎_elim (leaf k a.0 a.1) (leaf j b.0 b.1))
-
 -- what holds of two words in a row holds of one that is between them
 next_to : {w : ℕ} (P : ℕ → Type 0) (k : ℕ) → P k → P (1 + k) → k ≤ w → w ≤ 1 + k → P w
 next_to {w} P k x y l h = elim (dec_le w k) [ yes i ↦ rw (le_antisymm i l) x | no i ↦ let e : w ≡ 1 + k = omega arith in rw e y ]
@@ -221,9 +192,6 @@ module _ {q w : List ℕ} {p : ℕ} (ready : ReadyAt q w p) where
   name_row l h = row_leaf 2 (next_to (λ w. look w table ≡ (2, 0, 1)) 3 refl refl l h) (omega arith) (omega arith)
 
   module _ (n : ℕ) (some : 1 ≤ n) where
-    pub row_none : look (get_or q p 0) table ≡ (n, 0, 0) → n ≤ 3 → RowIs q p (p + n)
-    row_none f few = plain f (omega (arith, ready.within, ready.sized.small)) (ends_none n some f)
-
     module _ {r : ℕ} (x : PastIs q w (p + n) r) where
       pub row_one : look (get_or q p 0) table ≡ (n, 1, 0) → RowIs q p r
       row_one f = plain f x.fits (ends_one n some x f)
@@ -285,9 +253,6 @@ module _ {q w : List ℕ} {p : ℕ} (ready : ReadyAt q w p) where
     }
 
 -- ## Filling the table
-
-pub table_none : (q w : List ℕ) → Table q w (length q)
-table_none q w = record { ends = λ i m h s. absurd (omega (arith, (spans_within s).0)); types = λ i A h d. absurd (omega (arith, (ty_code_lem d).within)) }
 
 -- one place more
 pub table_more : {q w : List ℕ} {i v : ℕ} → ENDS + i < length w → RowIs q i v → Table q w (i + 1) → Table q (set w (ENDS + i) v) i

@@ -5,7 +5,7 @@ ghost use Rattle.layout.specs.Words.{Put2};
 ghost use Rattle.layout.specs.Monotypes.{with_mono};
 ghost use Rattle.loading.specs.Table.{Sized, ReadyAt, NoLeaf, RowAt, PastIs, RowIs, Laid};
 
-// The table's word for i; 0 past the question.
+// The table's word for i; past the question 0, which no item leads to: an Option would be unwrapped to some number just the same.
 fn row(q: &[u32], work: &[u32], i: usize) -> usize
     requires { Sized q.now work.now }
     ensures { RowAt q.now work.now i result }
@@ -37,15 +37,15 @@ fn arrow_row(q: &[u32], work: &[u32], p: usize) -> usize
     right % layout::MONO
 }
 
-// The word for what is no type without parts; some number where no item stands.
+// The word for what is no type without parts; some number where no item stands. By number: any word may stand there, and the code of a type
+// or of an expression, so neither enum of forms fits.
 fn other_row(q: &[u32], work: &[u32], p: usize) -> usize
     requires { ReadyAt q.now work.now p × NoLeaf q.now p }
     ensures { RowIs q.now p result }
 {
-    let code = q[p];
     let one = p + 1;
     let two = p + 2;
-    match code {
+    match q[p] {
         5 => arrow_row(q, work, p),
         16 | 23 => two,
         22 => p + 3,
@@ -57,13 +57,13 @@ fn other_row(q: &[u32], work: &[u32], p: usize) -> usize
     }
 }
 
-// The table's word for p, by those from p + 1 on. Int, Bool, Var and ETVar first: the processor foresees a comparison better than a match.
+// The table's word for p, by those from p + 1 on. By number, as other_row. Int, Bool, Var and ETVar first: the processor foresees a comparison
+// better than a match.
 fn row_of(q: &[u32], work: &[u32], p: usize) -> usize
     requires { ReadyAt q.now work.now p }
     ensures { RowIs q.now p result }
 {
-    let code = q[p];
-    match code {
+    match q[p] {
         1..=2 => p + 1 + layout::MONO,
         3..=4 => p + 2 + layout::MONO,
         _ => other_row(q, work, p),
@@ -75,9 +75,12 @@ fn put_bases(work: &mut [u32])
     requires { 2 ≤ length work.old }
     ensures { Put2 work.old work.new 0 (with_mono 1 true) (with_mono 2 true) }
 {
-    let int = layout::with_mono(1, true);
-    let bool = layout::with_mono(2, true);
-    layout::put2(work, 0, int, bool);
+    layout::put2(
+        work,
+        0,
+        layout::with_mono(1, true),
+        layout::with_mono(2, true),
+    );
 }
 
 // Lays the bottom of work: the records of Int and Bool, and the table of ends, from the question's last word back to its first.
@@ -86,12 +89,8 @@ pub fn fill_ends(q: &[u32], work: &mut [u32])
     ensures { Laid q.now work.old work.new }
 {
     put_bases(work);
-    let mut p = q.len();
-    while 0 < p {
-        let i = p - 1;
-        let row = row_of(q, work, i);
-        let at = layout::ENDS + i;
-        layout::put(work, at, row);
-        p = i;
+    for p in (0..q.len()).rev() {
+        let row = row_of(q, work, p);
+        layout::put(work, layout::ENDS + p, row);
     }
 }

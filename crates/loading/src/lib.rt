@@ -15,20 +15,17 @@ pub struct Rest {
     pub next: usize,
 }
 
-// What stands after the kind and the name of the entry at p.
+// What stands after the kind and the name of the entry at p. By the word that was read there: a Key would need the name besides.
 fn rest_of(work: &[u32], kind: usize, p: usize) -> Rest
     requires { Readable work.now kind p }
     ensures { EntryRest work.now kind p result }
 {
     let first = p + 2;
     match kind {
-        32 | 35 => {
-            let next = past(work, first);
-            Rest {
-                ty: first,
-                next: next,
-            }
-        }
+        32 | 35 => Rest {
+            ty: first,
+            next: past(work, first),
+        },
         _ => Rest {
             ty: INT,
             next: first,
@@ -41,16 +38,14 @@ fn load_from(q: &[u32], work: &mut [u32], p: usize, at: usize, n: usize)
     requires { Loads q.now work.old p at n }
     ensures { LoadedFrom q.now work.old work.new p at n }
 {
-    if n == 0 {
-        return;
+    let mut next = p;
+    for i in 0..n {
+        let kind = word(q, next);
+        let name = word(q, next + 1);
+        let r = rest_of(work, kind, next);
+        put4(work, at + 4 * i, kind, name, r.ty, 0);
+        next = r.next;
     }
-    let kind = word(q, p);
-    let name = word(q, p + 1);
-    let r = rest_of(work, kind, p);
-    let ty = r.ty;
-    let next = r.next;
-    put4(work, at, kind, name, ty, 0);
-    load_from(q, work, next, at + 4, n - 1);
 }
 
 // The context that stands from place p of the question on, n entries, as a run at top.
@@ -58,11 +53,9 @@ pub fn load_context(q: &[u32], work: &mut [u32], st: State, p: usize, n: usize) 
     requires { Loading q.now work.old st p n }
     ensures { Loaded q.now work.old work.new st p n result }
 {
-    let top = st.top;
-    let end = st.raise(4 * n);
-    load_from(q, work, p, top, n);
+    load_from(q, work, p, st.top, n);
     Opened {
-        st: end,
-        g: Span { at: top, n: n },
+        st: st.raise(4 * n),
+        g: Span { at: st.top, n },
     }
 }

@@ -5,17 +5,15 @@ use Prim.Native.Nat.{ℕ, ◌+◌, ◌-◌, ◌*◌, ◌≤◌, ◌<◌}
 use native.Mathlib.Omega.{arith}
 use native.Mathlib.Numerals.{add-one}
 use lib.ListN.{length, set, take, length-set}
-use lib.Seq.{length-take-le, take-suc-set, append_snoc}
+use lib.Seq.{take-suc-set, append_snoc}
 use Rattle.definition.specs.Host.{bytes_of, numbers, byte_reply, host_computes}
 use Rattle.lines.specs.Lines.{line_of, PutBytes}
-use Rattle.lines.proofs.Lines.{wrote_then}
 use Rattle.replies.specs.declared.Reply.{Reply}
 use Rattle.sized.specs.Sized.{Told}
 use Rattle.sections.specs.declared.Section.{Section}
 use Rattle.sections.specs.declared.Section.TheVariants.{Ty, Context, Tree, First, Second}
 use Rattle.sections.specs.declared.Node.{Node}
-use Rattle.sections.specs.declared.Walked.{Walked}
-use Rattle.sections.specs.declared.Walked.TheVariants.{Met, Broken}
+use Rattle.std.specs.Prelude.{Option, None, Some}
 use Rattle.sections.specs.Sections.{part_of}
 use Rattle.sections.specs.Nodes.{node_in, nodes_from, nodes_in, rules_in, nodes_compute}
 use Rattle.sections.proofs.Reports.{written_only, part_short}
@@ -30,16 +28,6 @@ module _ (r : Reply) (x : Section) (s : List ℕ) {words : List ℕ} (is : words
 
   pub part_line : {o o' : List ℕ} {at z : ℕ} → (PutBytes o o' at (line_of words) z) × (z ≤ at + 11 * length words + 1) → PartLine r x s o o' at z
   part_line w = record { wrote = rw is at w.0; short = omega (arith, w.1, words_short) }
-
--- ## The six lines
-
-pub six : {r : Reply} {s o o₁ o₂ o₃ o₄ o₅ o₆ : List ℕ} {a b c d e z : ℕ} → (PutBytes o o₁ 0 (line_of (r.code ∷ r.at ∷ r.len ∷ r.units ∷ [])) a) × (a ≤ 45)
-    → PartLine r Ty s o₁ o₂ a b → PartLine r Context s o₂ o₃ b c → PartLine r Tree s o₃ o₄ c d → PartLine r First s o₄ o₅ d e
-    → PartLine r Second s o₅ o₆ e z → SectionLines r s o₆ z
-six n t c d f g = record {
-  is = (wrote_then _ _ n.0 (wrote_then _ _ t.wrote (wrote_then _ _ c.wrote (wrote_then _ _ d.wrote (wrote_then _ _ f.wrote g.wrote))))).is;
-  short = omega (arith, n.1, t.short, c.short, d.short, f.short, g.short);
-}
 
 -- ## The rules' line
 
@@ -58,14 +46,14 @@ pub none_listed : (ws rules : List ℕ) → length ws ≤ 8 * length rules → L
 unfolding rules_in nodes_in
 none_listed ws rules h = record { sofar = refl; within = omega arith; few = omega arith; room = h }
 
-module _ {ws rules : List ℕ} {at n : ℕ} (l : Listed ws rules at n) {z : Walked} (is : z ≡ node_in ws at) where
-  pub all_listed : z ≡ Broken → RulesOf ws rules n
+module _ {ws rules : List ℕ} {at n : ℕ} (l : Listed ws rules at n) {z : Option Node} (is : z ≡ node_in ws at) where
+  pub all_listed : z ≡ None → RulesOf ws rules n
   all_listed h = record {
     is = sym (l.sofar ∙ rw (walk_ends ws at (sym is ∙ h)) (append-nil (take n rules)));
     within = omega (arith, l.within, l.few, l.room);
   }
 
-  module _ {N : Node} (h : z ≡ Met N) where
+  module _ {N : Node} (h : z ≡ Some N) where
     past : (at + 8 ≤ N.end) × (N.end ≤ length ws)
     past = met_past ws at (sym is ∙ h)
 
@@ -85,13 +73,6 @@ module _ {ws rules : List ℕ} {at n : ℕ} (l : Listed ws rules at n) {z : Walk
       room = rw (length-set rules n N.rule) l.room;
     }
 
-pub rule_line : {r : Reply} {s words rules o o' : List ℕ} {n at z : ℕ} → words ≡ part_in r s Tree → RulesOf words rules n → n ≤ 512
-    → (PutBytes o o' at (line_of (take n rules)) z) × (z ≤ at + 11 * length (take n rules) + 1) → RuleLine r s o o' at z
-rule_line {rules = rules} {n = n} is k h w = record {
-  wrote = rw (← is, ← k.is) w.0;
-  short = omega (arith, w.1, length-take-le n rules k.within, h);
-}
-
 -- ## The definition's lines
 
 -- the definition's sections, in a slice whose first words are its report
@@ -103,11 +84,11 @@ five_same : {f g : Section → List ℕ} → ((x : Section) → f x ≡ g x) →
 five_same h = rw (h Ty, h Context, h Tree, h First, h Second)
 
 pub shown : {input : List ℕ} {r : Reply} {s out out' : List ℕ} {y z : ℕ} → Told input 4096 s r → SectionLines r s out y → RuleLine r s out out' y z
-    → length out' ≡ 230963 → PartsSaid input out' z
+    → z ≤ length out' → PartsSaid input out' z
 unfolding seven_lines six_lines numbers
 shown {s = s} {out} {y = y} t k w l = let m = t.numbers in record {
   is = w.wrote.is ∙ rw (k.is, five_same (part_told t), part_told t Tree, m.code, m.at, m.len, m.units);
-  within = omega (arith, k.short, w.short, l);
+  within = l;
 }
 
 -- case (a): its numbers, a type, no context, a tree, no types of an error, and rule 2, InfLitInt

@@ -35,9 +35,8 @@ use Rattle.layout.specs.declared.Span.{Span}
 use Rattle.layout.specs.declared.State.{State}
 use Rattle.judging.specs.declared.Ask.{Ask}
 use Rattle.judging.specs.declared.Here as judging
-use Rattle.judging.specs.declared.Step.{Step}
 use Rattle.judging.specs.Asking.{here, Asks}
-use Rattle.judging.specs.Ending.{charge_of, Judged}
+use Rattle.judging.specs.Ending.{Step, charge_of, Judged}
 use Rattle.judging.proofs as judging-proofs
 use Rattle.replies.specs.declared.Reply as program
 use Rattle.entry.specs.Entry.{Replied}

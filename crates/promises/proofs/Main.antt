@@ -55,7 +55,7 @@ use Rattle.judging.specs.Marks.{Marked}
 use Rattle.judging.specs.declared.Answer.{Answer}
 use Rattle.judging.specs.declared.Ask.{Ask}
 use Rattle.judging.specs.declared.Here.{Here}
-use Rattle.judging.specs.declared.Step.TheVariants.{Done}
+use Rattle.std.specs.Prelude.{Ok}
 use Rattle.judging.proofs as judging-proofs
 use Rattle.host.specs.Host.{Answered, Checked}
 use Rattle.promises.specs.Common.{SameReplies, SameChecks, SameAnswers, SameTold, AlikeChecks, AlikeAnswers}
@@ -226,5 +226,5 @@ pub mono_is_walk : {q w : List ℕ} {t r : ℕ} {T : Ty} → Base q w t → Den 
 mono_is_walk = layout-proofs.Denotes.mono_is_walk
 
 pub judged_marks : {h : Here} {q w w₁ : List ℕ} {s : State} {g : Span} {a : Ask} {b : Answer} {j : Judgement} {C : Ty} {Δ : Ctx} {t : Tree} {l n : ℕ}
-    → Judged h q w w₁ s g a (Done b) → Asks q w s.top g a j → judge (here h) j s.left s.fresh ≡ done (C, Δ, t) l n → Marked w₁ b C Δ
+    → Judged h q w w₁ s g a (Ok b) → Asks q w s.top g a j → judge (here h) j s.left s.fresh ≡ done (C, Δ, t) l n → Marked w₁ b C Δ
 judged_marks = judging-proofs.Whole.judged_marks

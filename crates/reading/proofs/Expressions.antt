@@ -7,32 +7,34 @@ use native.Mathlib.Decide.{dec_le}
 use native.Mathlib.Omega.{arith}
 use lib.ListN.{get_or}
 use Rattle.definition.specs.Syntax.{pick, Expr, evar, app, abs, tapp, tabs, ann, lit_int, lit_bool, let_in, if_then_else, bin_op}
-use Rattle.definition.specs.Question.{Reader, fault, next, ◌>>=◌, give, bad_shape, any, row, expr_rows, expression}
+use Rattle.definition.specs.Question as definition
+use Rattle.definition.specs.Question.{Reader, fault, next, ◌>>=◌, give, any, row, expr_rows, expression}
 use Rattle.layout.specs.Places.{evar_at, app_at, abs_at, tapp_at, tabs_at, ann_at, lit_int_at, lit_bool_at, let_in_at, if_then_else_at, bin_op_at}
-use Rattle.reading.specs.declared.Item.{Item}
-use Rattle.reading.specs.declared.Item.TheVariants.{Past, Fault}
-use Rattle.reading.specs.Items.{from, Inside, ExprTo, past, refused, NameRead, WithinRead, TypeThen, ExprRead, ExprThen}
+use Rattle.std.specs.Prelude.{Result, Ok, Err}
+use Rattle.reading.specs.declared.Fault.{Fault}
+use Rattle.reading.specs.Faults.{bad_shape}
+use Rattle.reading.specs.Items.{from, Inside, ExprTo, past, refused, Word, NameRead, WithinRead, ExprRead}
 use Rattle.reading.proofs.Depth.{expression_eq}
-use Rattle.reading.proofs.Items.{bad, Nones, one_of_end, one_of_is, one_of_none, reads_at, reads_map, reads_two, reads_three, code_at, after_word, variable_read, type_name_read, any_end, any_is}
+use Rattle.reading.proofs.Items.{TypeThen, ExprThen, one_or, one_of_end, one_of_is, one_of_none, reads_at, reads_map, reads_two, reads_three, code_at, after_word, variable_read, type_name_read, any_end, any_is}
 
-pub expr_end : {q : List ℕ} {p e : ℕ} → Inside q p e → e ≤ p → ExprRead q p e (Fault 4 p)
-expr_end {q} {p} {e} i h = reads_at (expression_eq p _ ∙ one_of_end _ q p e h) (refused (bad i))
+pub expr_end : {q : List ℕ} {p e : ℕ} {f : Fault} → Inside q p e → (e ≤ p) × (f ≡ bad_shape p) → ExprRead q p e (Err f)
+expr_end {q} {p} {e} i h = rw h.1 (reads_at (expression_eq p _ ∙ one_of_end _ q p e h.0) (refused i.low))
 
-module _ {q : List ℕ} {p e : ℕ} (i : Inside q p e) (h : p < e) where
+module _ {q : List ℕ} {p e : ℕ} (i : Inside q p e) {w : ℕ} (h : Word q p e w) where
   -- the row of the code that stands at p
-  expr_row : {w : ℕ} → get_or q p 0 ≡ w → expression p (from q p e) ≡ row w (expr_rows p expression) (bad_shape p) (p + 1) (from q (p + 1) e)
-  expr_row k = expression_eq p _ ∙ one_of_is _ q p e h i.high k
+  expr_row : {k : ℕ} → w ≡ k → expression p (from q p e) ≡ row k (expr_rows p expression) (definition.bad_shape p) (p + 1) (from q (p + 1) e)
+  expr_row k = expression_eq p _ ∙ one_of_is _ q p e i.high h k
 
   -- ## What begins with a name
 
-  module _ {r : Item} (x : NameRead q (p + 1) e r) where
-    pub expr_var : get_or q p 0 ≡ 16 → ExprRead q p e r
+  module _ {r : Result ℕ Fault} (x : NameRead q (p + 1) e r) where
+    pub expr_var : w ≡ 16 → ExprRead q p e r
     unfolding row pick expr_rows ◌>>=◌
     expr_var k =
         reads_at (expr_row k)
         (reads_map (evar p) (λ y m s. record { at = evar_at (code_at i h k) s.at; to = omega arith }) (variable_read x))
 
-    pub expr_abs : {r' r'' : Item} → get_or q p 0 ≡ 18 → TypeThen q e r r' → ExprThen q e r' r'' → ExprRead q p e r''
+    pub expr_abs : {r' r'' : Result ℕ Fault} → w ≡ 18 → TypeThen q e r r' → ExprThen q e r' r'' → ExprRead q p e r''
     unfolding row pick expr_rows ◌>>=◌
     expr_abs k y z =
         reads_at (expr_row k)
@@ -40,7 +42,7 @@ module _ {q : List ℕ} {p e : ℕ} (i : Inside q p e) (h : p < e) where
         (λ v A f j m n s t u. record { at = abs_at (code_at i h k) s.at (rw (after_word p s) at t.at) (omega arith) u.at; to = omega arith })
         (variable_read x) y z)
 
-    pub expr_tabs : {r' : Item} → get_or q p 0 ≡ 20 → ExprThen q e r r' → ExprRead q p e r'
+    pub expr_tabs : {r' : Result ℕ Fault} → w ≡ 20 → ExprThen q e r r' → ExprRead q p e r'
     unfolding row pick expr_rows ◌>>=◌
     expr_tabs k y =
         reads_at (expr_row k)
@@ -48,7 +50,7 @@ module _ {q : List ℕ} {p e : ℕ} (i : Inside q p e) (h : p < e) where
         (λ a f j m s t. record { at = tabs_at (code_at i h k) s.at (rw (after_word p s) at t.at); to = omega arith })
         (type_name_read x) y)
 
-    pub expr_let : {r' r'' : Item} → get_or q p 0 ≡ 24 → ExprThen q e r r' → ExprThen q e r' r'' → ExprRead q p e r''
+    pub expr_let : {r' r'' : Result ℕ Fault} → w ≡ 24 → ExprThen q e r r' → ExprThen q e r' r'' → ExprRead q p e r''
     unfolding row pick expr_rows ◌>>=◌
     expr_let k y z =
         reads_at (expr_row k)
@@ -58,29 +60,32 @@ module _ {q : List ℕ} {p e : ℕ} (i : Inside q p e) (h : p < e) where
 
   -- ## What begins with an expression
 
-  module _ {r : Item} (x : ExprRead q (p + 1) e r) where
-    pub expr_app : {r' : Item} → get_or q p 0 ≡ 17 → ExprThen q e r r' → ExprRead q p e r'
+  module _ {r : Result ℕ Fault} (x : ExprRead q (p + 1) e r) where
+    pub expr_app : {r' : Result ℕ Fault} → w ≡ 17 → ExprThen q e r r' → ExprRead q p e r'
     unfolding row pick expr_rows ◌>>=◌
     expr_app k y =
         reads_at (expr_row k)
         (reads_two (app p)
         (λ f g m n s t. record { at = app_at (code_at i h k) s.at s.to t.at; to = omega arith }) x y)
 
-    pub expr_tapp : {r' : Item} → get_or q p 0 ≡ 19 → TypeThen q e r r' → ExprRead q p e r'
+    expr_tapp : {r' : Result ℕ Fault} → w ≡ 19 → TypeThen q e r r' → ExprRead q p e r'
     unfolding row pick expr_rows ◌>>=◌
     expr_tapp k y =
         reads_at (expr_row k)
         (reads_two (tapp p)
         (λ f A m n s t. record { at = tapp_at (code_at i h k) s.at s.to t.at; to = omega arith }) x y)
 
-    pub expr_ann : {r' : Item} → get_or q p 0 ≡ 21 → TypeThen q e r r' → ExprRead q p e r'
+    expr_ann : {r' : Result ℕ Fault} → w ≡ 21 → TypeThen q e r r' → ExprRead q p e r'
     unfolding row pick expr_rows ◌>>=◌
     expr_ann k y =
         reads_at (expr_row k)
         (reads_two (ann p)
         (λ f A m n s t. record { at = ann_at (code_at i h k) s.at s.to t.at; to = omega arith }) x y)
 
-    pub expr_if : {r' r'' : Item} → get_or q p 0 ≡ 25 → ExprThen q e r r' → ExprThen q e r' r'' → ExprRead q p e r''
+    pub expr_typed : {r' : Result ℕ Fault} → ((w ≡ 19 → ⊥) → w ≡ 21) → TypeThen q e r r' → ExprRead q p e r'
+    expr_typed k y = one_or k (λ k. expr_tapp k y) (λ k. expr_ann k y)
+
+    pub expr_if : {r' r'' : Result ℕ Fault} → w ≡ 25 → ExprThen q e r r' → ExprThen q e r' r'' → ExprRead q p e r''
     unfolding row pick expr_rows ◌>>=◌
     expr_if k y z =
         reads_at (expr_row k)
@@ -89,13 +94,13 @@ module _ {q : List ℕ} {p e : ℕ} (i : Inside q p e) (h : p < e) where
 
   -- ## What begins with a number
 
-  pub expr_bool : {r : Item} → get_or q p 0 ≡ 23 → WithinRead q (p + 1) e 0 1 r → ExprRead q p e r
+  pub expr_bool : {r : Result ℕ Fault} → w ≡ 23 → WithinRead q (p + 1) e 0 1 r → ExprRead q p e r
   unfolding row pick expr_rows ◌>>=◌
   expr_bool k x =
       reads_at (expr_row k)
       (reads_map (lit_bool p) (λ b m s. record { at = lit_bool_at (code_at i h k) s.word.at; to = omega arith }) x)
 
-  pub expr_op : {r r' r'' : Item} → get_or q p 0 ≡ 26 → WithinRead q (p + 1) e 1 12 r → ExprThen q e r r' → ExprThen q e r' r'' → ExprRead q p e r''
+  pub expr_op : {r r' r'' : Result ℕ Fault} → w ≡ 26 → WithinRead q (p + 1) e 1 12 r → ExprThen q e r r' → ExprThen q e r' r'' → ExprRead q p e r''
   unfolding row pick expr_rows ◌>>=◌
   expr_op k x y z =
       reads_at (expr_row k)
@@ -109,11 +114,11 @@ module _ {q : List ℕ} {p e : ℕ} (i : Inside q p e) (h : p < e) where
   halves : Reader Expr
   halves = do l ← any; m ← any; give (lit_int p l m)
 
-  expr_halves : get_or q p 0 ≡ 22 → expression p (from q p e) ≡ halves (p + 1) (from q (p + 1) e)
+  expr_halves : w ≡ 22 → expression p (from q p e) ≡ halves (p + 1) (from q (p + 1) e)
   unfolding row pick expr_rows halves
   expr_halves k = expr_row k
 
-  pub expr_int : get_or q p 0 ≡ 22 → p + 3 ≤ e → ExprRead q p e (Past (p + 3))
+  pub expr_int : w ≡ 22 → p + 3 ≤ e → ExprRead q p e (Ok (p + 3))
   unfolding halves ◌>>=◌ next give
   expr_int k l =
       let a : p + 1 + 1 ≡ p + 2 = omega arith in
@@ -124,16 +129,36 @@ module _ {q : List ℕ} {p e : ℕ} (i : Inside q p e) (h : p < e) where
       } in
       reads_at (expr_halves k) (rw (any_is q (p + 1) e (omega arith) i.high, a, any_is q (p + 2) e (omega arith) i.high, b) (past s l))
 
-  pub expr_short : get_or q p 0 ≡ 22 → e < p + 3 → ExprRead q p e (Fault 4 e)
+  pub expr_short : {f : Fault} → w ≡ 22 → e < p + 3 → f ≡ bad_shape e → ExprRead q p e (Err f)
   unfolding halves ◌>>=◌ next
-  expr_short k l =
+  expr_short k l is =
       let short : halves (p + 1) (from q (p + 1) e) ≡ fault 4 e = elim (dec_le e (p + 1)) [
         | yes m ↦ let a : p + 1 ≡ e = omega arith in rw (any_end q (p + 1) e m) (ap (fault 4) a)
         | no m ↦
             let a : p + 1 + 1 ≡ e = omega arith in
             rw (any_is q (p + 1) e (omega arith) i.high, any_end q (p + 1 + 1) e (omega arith)) (ap (fault 4) a)
       ] in
-      reads_at (expr_halves k ∙ short) (refused (record { least = omega arith; most = omega arith; place = le_refl e }))
+      rw is (reads_at (expr_halves k ∙ short) (refused (le_refl e)))
 
-  pub expr_none : Nones (Unit {0}) (get_or q p 0) (expr_rows p expression) → ExprRead q p e (Fault 4 p)
-  expr_none n = reads_at (expression_eq p _ ∙ one_of_none _ q p e h i.high n) (refused (bad i))
+  pub expr_none : {f : Fault} → (16 ≤ w → 26 < w) → f ≡ bad_shape p → ExprRead q p e (Err f)
+  unfolding expr_rows
+  expr_none n k =
+      rw k
+      (reads_at (expression_eq p _ ∙ one_of_none _ q p e i.high h
+      ((
+        (
+          (
+            (
+              (
+                ((((((tt, (λ k. omega arith)), (λ k. omega arith)), (λ k. omega arith)), (λ k. omega arith)), (λ k. omega arith)), (λ k. omega arith)),
+                (λ k. omega arith),
+              ),
+              (λ k. omega arith),
+            ),
+            (λ k. omega arith),
+          ),
+          (λ k. omega arith),
+        ),
+        (λ k. omega arith),
+      )))
+      (refused i.low))

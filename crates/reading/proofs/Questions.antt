@@ -1,43 +1,39 @@
 -- Reading a question: kind, mode, four sections, the end.
-use Prim.Native.Nat.{ℕ, zero, suc, ◌+◌, ◌≤◌, ◌<◌}
+use Prim.Native.Nat.{ℕ, ◌≤◌, ◌<◌}
 use mathlib.Core.Path.{◌≡◌, refl, sym, ap, ◌∙◌}
 use mathlib.Core.List.{List, [], ◌∷◌}
-use native.Mathlib.Nat.{le_refl, le_antisymm}
+use native.Mathlib.Nat.{le_refl}
 use native.Mathlib.Omega.{arith}
 use lib.ListN.{length, get_or}
 use lib.Seq.{take-length}
 use Rattle.definition.specs.Syntax.{pick, Ctx, Judgement, infer, check, infer_app, subtype, inst, on_l, on_r, given}
 use Rattle.definition.specs.Question as definition
-use Rattle.definition.specs.Question.{Read, got, fault, Reader, next, ◌>>=◌, give, bad_shape, row, end, Mode, plain, strict, mode, kind_rows, question, read_question}
-use Rattle.reading.specs.declared.Item.TheVariants as item
+use Rattle.definition.specs.Question.{Read, got, fault, Reader, next, ◌>>=◌, give, bad_shape, row, end, mode, kind_rows, question, read_question}
+use Rattle.layout.specs.Kinds.{kind_number}
+use Rattle.layout.specs.declared.Kind.{Kind}
+use Rattle.layout.specs.declared.Kind.TheVariants.{Infer, Check, InferApp, Subtype, InstL, InstR, Resolve}
+use Rattle.std.specs.Prelude.{Result, Ok, Err}
+use Rattle.reading.specs.declared.Refusal.{Refusal}
+use Rattle.reading.specs.declared.Refusal.TheVariants.{BadShape, ReservedName}
+use Rattle.reading.specs.declared.Fault.{Fault}
 use Rattle.reading.specs.declared.Part.{Part}
-use Rattle.reading.specs.declared.Part.TheVariants as part
 use Rattle.reading.specs.declared.Holds.{Holds}
-use Rattle.reading.specs.declared.Holds.TheVariants.{Nothing, Expr}
+use Rattle.reading.specs.declared.Holds.TheVariants.{Nothing}
+use Rattle.reading.specs.declared.Mode.{Mode}
+use Rattle.reading.specs.declared.Mode.TheVariants.{Plain, Strict}
 use Rattle.reading.specs.declared.Question.{Question}
-use Rattle.reading.specs.declared.Reading.{Reading}
-use Rattle.reading.specs.declared.Reading.TheVariants.{Asked, Fault}
+use Rattle.reading.specs.Faults as faults
+use Rattle.reading.specs.Faults.{refusal_code, fault_of}
 use Rattle.reading.specs.Items as items
-use Rattle.reading.specs.Items.{from, Inside, FaultIn}
+use Rattle.reading.specs.Items.{from, Inside, Word}
 use Rattle.reading.specs.Contexts.{none, ListTo, Leaves, past, refused}
-use Rattle.reading.specs.Sections.{Content, section, ContentAt, nothing_at, entries_at, expr_at, ty_at, etvar_at, SectionRead, SectionThen, on, off}
+use Rattle.reading.specs.Sections.{Content, section, ContentAt, nothing_at, entries_at, expr_at, ty_at, etvar_at, SectionRead}
 use Rattle.reading.specs.Questions as questions
-use Rattle.reading.specs.Questions.{value_of, Planned, infers, checks, applies, compares, solves_left, solves_right, runs, ContextAt, AsksAt, infers_at, checks_at, applies_at, compares_at, solves_left_at, solves_right_at, runs_at, judgement, JudgementRead, SectionsRead, ModeIs, plainly, strictly, ReadIs}
-use Rattle.reading.proofs.Items.{bad, from_end, one_of_end, one_of_is, one_of_none, reads_fault, within_low, within_high, within_is}
+use Rattle.reading.specs.Questions.{Planned, infers, checks, applies, compares, solves_left, solves_right, runs, ContextAt, AsksAt, infers_at, checks_at, applies_at, compares_at, solves_left_at, solves_right_at, runs_at, judgement, JudgementRead, SectionsRead, ModeIs, plainly, strictly, FaultIn, ReadIs}
+use Rattle.reading.proofs.Items.{from_end, one_of_end, one_of_is, one_of_none, reads_fault, within_none, within_is}
 use Rattle.reading.proofs.Sections.{end_more}
 
 -- ## Four sections by their plan
-
-above : {k : ℕ} (a : ℕ) → (k ≡ a → ⊥) → a ≤ k → a + 1 ≤ k
-above a n h = omega arith
-
--- no kind from 1 to 7 but the last
-pub last_kind : {k : ℕ} → (1 ≤ k) × (k ≤ 7) → ((((((Unit {0} × (k ≡ 1 → ⊥)) × (k ≡ 2 → ⊥)) × (k ≡ 3 → ⊥)) × (k ≡ 4 → ⊥)) × (k ≡ 5 → ⊥)) × (k ≡ 6 → ⊥))
-    → Planned k Nothing Expr Nothing Nothing
-last_kind {k} h n =
-    let low : 7 ≤ k = above 6 n.1 (above 5 n.0.1 (above 4 n.0.0.1 (above 3 n.0.0.0.1 (above 2 n.0.0.0.0.1 (above 1 n.0.0.0.0.0.1 h.0))))) in
-    let e : k ≡ 7 = le_antisymm h.1 low in
-    rw e runs
 
 -- what a kind's four sections ask
 abbrev pub ask : {k : ℕ} {a b c d : Holds} → Planned k a b c d → Content a → Content b → Content c → Content d → Judgement
@@ -63,43 +59,53 @@ row_is solves_left = refl
 row_is solves_right = refl
 row_is runs = refl
 
+-- the answer after the one before: the next section's where that was read, and the same fault where it was not
+pub data SectionThen (q : List ℕ) (h : Holds) : Result Part Fault → Result Part Fault → Type 0 where
+  on : {x : Part} {r : Result Part Fault} → SectionRead q x.past h r → SectionThen q h (Ok x) r
+  off : {f : Fault} → SectionThen q h (Err f) (Err f)
+
+-- what a section left: a place or a number
+abbrev value_of : Result Part Fault → ℕ
+value_of (Ok x) = x.value
+value_of (Err f) = 0
+
 -- all four were read, or the last answer is the first fault
-pub data Four (q : List ℕ) {k : ℕ} {a b c d : Holds} (pl : Planned k a b c d) (r r₁ r₂ : Part) : Part → Read Judgement → Type 0 where
-  all : {x : Content a} {y : Content b} {z : Content c} {w : Content d} {i j m n v : ℕ} → ContentAt q 2 a x (value_of r) i → ContentAt q i b y (value_of r₁) j
-      → ContentAt q j c z (value_of r₂) m → ContentAt q m d w v n → n ≤ length q
-      → Four q pl r r₁ r₂ (part.Past v n) (got (ask pl x y z w) n (from q n (length q)))
-  stopped : {c p : ℕ} → FaultIn (length q) c p → Four q pl r r₁ r₂ (part.Fault c p) (fault c p)
+pub data Four (q : List ℕ) {k : ℕ} {a b c d : Holds} (pl : Planned k a b c d) (r r₁ r₂ : Result Part Fault) : Result Part Fault → Read Judgement → Type 0 where
+  all : {x : Content a} {y : Content b} {z : Content c} {w : Content d} {i j m : ℕ} {v : Part} → ContentAt q 2 a x (value_of r) i
+      → ContentAt q i b y (value_of r₁) j → ContentAt q j c z (value_of r₂) m → ContentAt q m d w v.value v.past → v.past ≤ length q
+      → Four q pl r r₁ r₂ (Ok v) (got (ask pl x y z w) v.past (from q v.past (length q)))
+  stopped : {f : Fault} → f.at ≤ length q → Four q pl r r₁ r₂ (Err f) (fault_of f)
 
 module _ {q : List ℕ} {k : ℕ} {a b c d : Holds} (pl : Planned k a b c d) where
-  four₃ : {x : Content a} {y : Content b} {z : Content c} {i j m : ℕ} {r r₁ r₂ r₃ : Part} {o : Read (Content d)} → ContentAt q 2 a x (value_of r) i
+  four₃ : {x : Content a} {y : Content b} {z : Content c} {i j m : ℕ} {r r₁ r₂ r₃ : Result Part Fault} {o : Read (Content d)} → ContentAt q 2 a x (value_of r) i
       → ContentAt q i b y (value_of r₁) j → ContentAt q j c z (value_of r₂) m → Leaves q (length q) (ContentAt q m d) r₃ o
       → Four q pl r r₁ r₂ r₃ (next o (λ w. give (ask pl x y z w)))
   unfolding next give
   four₃ s t u (past v l) = all s t u v l
   four₃ s t u (refused f) = stopped f
 
-  four₂ : {x : Content a} {y : Content b} {i j : ℕ} {r r₁ r₂ r₃ : Part} {o : Read (Content c)} → ContentAt q 2 a x (value_of r) i
+  four₂ : {x : Content a} {y : Content b} {i j : ℕ} {r r₁ r₂ r₃ : Result Part Fault} {o : Read (Content c)} → ContentAt q 2 a x (value_of r) i
       → ContentAt q i b y (value_of r₁) j → Leaves q (length q) (ContentAt q j c) r₂ o → SectionThen q d r₂ r₃
       → Four q pl r r₁ r₂ r₃ (next o (λ z. ◌>>=◌ (section d) (λ w. give (ask pl x y z w))))
   unfolding next ◌>>=◌
   four₂ s t (past u l) (on v) = four₃ s t u v
   four₂ s t (refused f) off = stopped f
 
-  four₁ : {x : Content a} {i : ℕ} {r r₁ r₂ r₃ : Part} {o : Read (Content b)} → ContentAt q 2 a x (value_of r) i
+  four₁ : {x : Content a} {i : ℕ} {r r₁ r₂ r₃ : Result Part Fault} {o : Read (Content b)} → ContentAt q 2 a x (value_of r) i
       → Leaves q (length q) (ContentAt q i b) r₁ o → SectionThen q c r₁ r₂ → SectionThen q d r₂ r₃
       → Four q pl r r₁ r₂ r₃ (next o (λ y. ◌>>=◌ (section c) (λ z. ◌>>=◌ (section d) (λ w. give (ask pl x y z w)))))
   unfolding next ◌>>=◌
   four₁ s (past t l) (on u) v = four₂ s t u v
   four₁ s (refused f) off off = stopped f
 
-  four₀ : {r r₁ r₂ r₃ : Part} {o : Read (Content a)} → Leaves q (length q) (ContentAt q 2 a) r o → SectionThen q b r r₁ → SectionThen q c r₁ r₂
+  four₀ : {r r₁ r₂ r₃ : Result Part Fault} {o : Read (Content a)} → Leaves q (length q) (ContentAt q 2 a) r o → SectionThen q b r r₁ → SectionThen q c r₁ r₂
       → SectionThen q d r₂ r₃
       → Four q pl r r₁ r₂ r₃ (next o (λ x. ◌>>=◌ (section b) (λ y. ◌>>=◌ (section c) (λ z. ◌>>=◌ (section d) (λ w. give (ask pl x y z w))))))
   unfolding next ◌>>=◌
   four₀ (past s l) (on t) u v = four₁ s t u v
   four₀ (refused f) off off off = stopped f
 
-  pub four : {r r₁ r₂ r₃ : Part} → SectionRead q 2 a r → SectionThen q b r r₁ → SectionThen q c r₁ r₂ → SectionThen q d r₂ r₃
+  pub four : {r r₁ r₂ r₃ : Result Part Fault} → SectionRead q 2 a r → SectionThen q b r r₁ → SectionThen q c r₁ r₂ → SectionThen q d r₂ r₃
       → Four q pl r r₁ r₂ r₃ (row k kind_rows (bad_shape 0) 2 (from q 2 (length q)))
   unfolding sections ◌>>=◌
   four x y z w = rw (row_is pl) (four₀ x y z w)
@@ -139,49 +145,48 @@ asks_context (runs_at c e l r) = c
 
 -- ## And nothing after them
 
-module _ {q : List ℕ} {k : ℕ} {a b c d : Holds} {pl : Planned k a b c d} {r r₁ r₂ r₃ : Part} (mode : ℕ)
-    (f : Four q pl r r₁ r₂ r₃ (row k kind_rows (bad_shape 0) 2 (from q 2 (length q)))) where
-  pub sections_refused : {c p : ℕ} → r₃ ≡ part.Fault c p → SectionsRead q k mode (Fault c p)
+ended : (q : List ℕ) (j : Judgement) {n : ℕ} → n ≡ length q → next (end n (from q n (length q))) (λ u. give j) ≡ got j (length q) []
+unfolding next end give
+ended q j h = rw (h, from_end q (length q) (length q) (le_refl (length q)))
+
+module _ {q : List ℕ} {k : Kind} {a b c d : Holds} {pl : Planned (kind_number k) a b c d} {r r₁ r₂ : Result Part Fault} (mode : Mode) where
+  pub sections_refused : {f : Fault} → Four q pl r r₁ r₂ (Err f) (row (kind_number k) kind_rows (bad_shape 0) 2 (from q 2 (length q)))
+      → SectionsRead q k mode (Err f)
   unfolding ◌>>=◌ next
-  sections_refused {c} {p} h = go (rw h at f)
+  sections_refused {f} x = go x
     where
-      go : {o : Read Judgement} → Four q pl r r₁ r₂ (part.Fault c p) o → JudgementRead q k mode (Fault c p) (next o (λ j. ◌>>=◌ end (λ u. give j)))
+      go : {o : Read Judgement} → Four q pl r r₁ r₂ (Err f) o → JudgementRead q k mode (Err f) (next o (λ j. ◌>>=◌ end (λ u. give j)))
       go (stopped b) = questions.refused b
 
-  pub sections_more : {v n : ℕ} → r₃ ≡ part.Past v n → n < length q → SectionsRead q k mode (Fault 4 n)
-  unfolding ◌>>=◌ next
-  sections_more {v} {n} h l = go (rw h at f)
-    where
-      more : n ≤ length q → FaultIn (length q) 4 n
-      more le = record { least = omega arith; most = omega arith; place = le }
+  module _ {v : Part} (f : Four q pl r r₁ r₂ (Ok v) (row (kind_number k) kind_rows (bad_shape 0) 2 (from q 2 (length q)))) where
+    pub sections_more : {z : Fault} → v.past < length q → z ≡ faults.bad_shape v.past → SectionsRead q k mode (Err z)
+    unfolding ◌>>=◌ next
+    sections_more l is = rw is (go f)
+      where
+        go : {o : Read Judgement} → Four q pl r r₁ r₂ (Ok v) o
+            → JudgementRead q k mode (Err (faults.bad_shape v.past)) (next o (λ j. ◌>>=◌ end (λ u. give j)))
+        go (all s t u w le) = rw (end_more q v.past (length q) l (le_refl (length q))) (questions.refused le)
 
-      go : {o : Read Judgement} → Four q pl r r₁ r₂ (part.Past v n) o → JudgementRead q k mode (Fault 4 n) (next o (λ j. ◌>>=◌ end (λ u. give j)))
-      go (all s t u w le) = rw (end_more q n (length q) l (le_refl (length q))) (questions.refused (more le))
-
-  ended : (j : Judgement) {n : ℕ} → n ≡ length q → next (end n (from q n (length q))) (λ u. give j) ≡ got j (length q) []
-  unfolding next end give
-  ended j h = rw (h, from_end q (length q) (length q) (le_refl (length q)))
-
-  pub sections_asked : {v n : ℕ} (x : Question) → r₃ ≡ part.Past v n → length q ≤ n → x.kind ≡ k → x.mode ≡ mode → x.context ≡ 3
-      → x.entries ≡ value_of r → x.expr ≡ value_of r₁ → x.left ≡ value_of r₂ → x.right ≡ v → SectionsRead q k mode (Asked x)
-  unfolding ◌>>=◌ next
-  sections_asked {v} {n} x h l kind_is mode_is at e₀ e₁ e₂ e₃ = go (rw h at f)
-    where
-      go : {o : Read Judgement} → Four q pl r r₁ r₂ (part.Past v n) o → JudgementRead q k mode (Asked x) (next o (λ j. ◌>>=◌ end (λ u. give j)))
-      go (all {x = y} {y = y₁} {z = y₂} {w = y₃} s t u w le) =
-          rw (ended (ask pl y y₁ y₂ y₃) {n = n} (omega arith))
-          (questions.asked kind_is mode_is (asks pl x at (rw (← e₀) at s) (rw (← e₁) at t) (rw (← e₂) at u) (rw (← e₃) at w)))
+    pub sections_asked : (x : Question) → length q ≤ v.past → x.kind ≡ k → x.mode ≡ mode → x.context ≡ 3
+        → x.entries ≡ value_of r → x.expr ≡ value_of r₁ → x.left ≡ value_of r₂ → x.right ≡ v.value → SectionsRead q k mode (Ok x)
+    unfolding ◌>>=◌ next
+    sections_asked x l kind_is mode_is at e₀ e₁ e₂ e₃ = go f
+      where
+        go : {o : Read Judgement} → Four q pl r r₁ r₂ (Ok v) o → JudgementRead q k mode (Ok x) (next o (λ j. ◌>>=◌ end (λ u. give j)))
+        go (all {x = y} {y = y₁} {z = y₂} {w = y₃} s t u w le) =
+            rw (ended q (ask pl y y₁ y₂ y₃) {n = v.past} (omega arith))
+            (questions.asked kind_is mode_is (asks pl x at (rw (← e₀) at s) (rw (← e₁) at t) (rw (← e₂) at u) (rw (← e₃) at w)))
 
 -- ## Kind and mode
 
-abbrev asked : ℕ → Mode → Judgement → definition.Question
+abbrev asked : ℕ → definition.Mode → Judgement → definition.Question
 asked k m j = record { kind = k; manner = m; asks = j }
 
 -- all that follows kind and mode
-asking : ℕ → Mode → Reader definition.Question
+asking : ℕ → definition.Mode → Reader definition.Question
 asking k m = do j ← row k kind_rows (bad_shape 0); u ← end; give (asked k m j)
 
-asking_is : (k : ℕ) (m : Mode) (p : ℕ) (ws : List ℕ) → asking k m p ws ≡ next (judgement k p ws) (λ j. give (asked k m j))
+asking_is : (k : ℕ) (m : definition.Mode) (p : ℕ) (ws : List ℕ) → asking k m p ws ≡ next (judgement k p ws) (λ j. give (asked k m j))
 unfolding asking ◌>>=◌ next end give
 asking_is k m p ws = go (row k kind_rows (bad_shape 0) p ws)
   where
@@ -190,70 +195,93 @@ asking_is k m p ws = go (row k kind_rows (bad_shape 0) p ws)
     go (got j n (v ∷ vs)) = refl
     go (fault c n) = refl
 
-mode_of : (w : ℕ) → w ≤ 1 → (m : Mode) × ModeIs w m
-mode_of zero h = (plain, plainly)
-mode_of (suc zero) h = (strict, strictly)
-mode_of (suc (suc w)) h = absurd (omega arith)
+fault_in : (r : Refusal) {e p : ℕ} → p ≤ e → FaultIn e (refusal_code r) p
+fault_in BadShape h = record { least = omega arith; most = omega arith; place = h }
+fault_in ReservedName h = record { least = omega arith; most = omega arith; place = h }
+
+-- the mode's number, and the definition's mode
+abbrev pub mode_number : Mode → ℕ
+mode_number Plain = 0
+mode_number Strict = 1
+
+manner_of : (m : Mode) → (μ : definition.Mode) × ModeIs m μ
+manner_of Plain = (definition.plain, plainly)
+manner_of Strict = (definition.strict, strictly)
+
+kind_small : (k : Kind) → (1 ≤ kind_number k) × (kind_number k ≤ 7)
+kind_small Infer = (omega arith, omega arith)
+kind_small Check = (omega arith, omega arith)
+kind_small InferApp = (omega arith, omega arith)
+kind_small Subtype = (omega arith, omega arith)
+kind_small InstL = (omega arith, omega arith)
+kind_small InstR = (omega arith, omega arith)
+kind_small Resolve = (omega arith, omega arith)
 
 module _ (q : List ℕ) (some : 1 ≤ length q) (small : length q ≤ 2048) where
   pub start : Inside q 0 (length q)
   start = record { low = omega arith; high = le_refl (length q); small = small }
+
+  first_word : Word q 0 (length q) (get_or q 0 0)
+  first_word = record { inside = some; is = refl }
 
   -- the question's words are those from 0 to its end
   from_start : read_question q ≡ question 0 (from q 0 (length q))
   unfolding read_question
   from_start = ap (question 0) (sym (take-length q))
 
-  kind_fault : items.WithinRead q 0 (length q) 1 7 (item.Fault 4 0) → ReadIs q (Fault 4 0)
+  pub kind_bad : {f : Fault} → (1 ≤ get_or q 0 0 → 7 < get_or q 0 0) → f ≡ faults.bad_shape 0 → ReadIs q (Err f)
   unfolding question ◌>>=◌ next
-  kind_fault x = let e : question 0 (from q 0 (length q)) ≡ fault 4 0 = rw (reads_fault x) in record { is = from_start ∙ e; within = bad start }
+  kind_bad h is =
+      let x : items.WithinRead q 0 (length q) 1 7 (Err (faults.bad_shape 0)) = within_none start 1 7 first_word (λ l m. omega (arith, h l)) in
+      let e : question 0 (from q 0 (length q)) ≡ fault 4 0 = rw (reads_fault x) in
+      rw is (record { is = from_start ∙ e; within = fault_in BadShape start.low })
 
-  pub kind_low : get_or q 0 0 < 1 → ReadIs q (Fault 4 0)
-  kind_low h = kind_fault (within_low start 1 7 some h)
-
-  pub kind_high : 7 < get_or q 0 0 → ReadIs q (Fault 4 0)
-  kind_high h = kind_fault (within_high start 1 7 some (omega arith) h)
-
-  module _ {k : ℕ} (k-is : k ≡ get_or q 0 0) (low : 1 ≤ k) (high : k ≤ 7) where
+  module _ (k : Kind) (k-is : kind_number k ≡ get_or q 0 0) where
     -- then the mode
-    kind_is : read_question q ≡ next (mode 1 (from q 1 (length q))) (λ m. asking k m)
+    kind_is : read_question q ≡ next (mode 1 (from q 1 (length q))) (λ m. asking (kind_number k) m)
     unfolding question asking ◌>>=◌ next
-    kind_is = from_start ∙ rw (within_is start 1 7 some (omega arith) (omega arith), ← k-is)
+    kind_is =
+        let s = kind_small k in
+        from_start ∙ rw (within_is start 1 7 first_word (omega arith) (omega arith), ← k-is)
 
-    mode_fault : mode 1 (from q 1 (length q)) ≡ fault 4 1 → ReadIs q (Fault 4 1)
+    mode_fault : {f : Fault} → mode 1 (from q 1 (length q)) ≡ fault 4 1 → f ≡ faults.bad_shape 1 → ReadIs q (Err f)
     unfolding next
-    mode_fault e = record { is = kind_is ∙ ap (λ o. next o (λ m. asking k m)) e; within = record { least = omega arith; most = omega arith; place = some } }
+    mode_fault e is =
+        rw is (record { is = kind_is ∙ ap (λ o. next o (λ m. asking (kind_number k) m)) e; within = fault_in BadShape some })
 
-    pub mode_end : length q < 2 → ReadIs q (Fault 4 1)
+    pub mode_end : {f : Fault} → (length q ≤ 1) × (f ≡ faults.bad_shape 1) → ReadIs q (Err f)
     unfolding mode
-    mode_end h = mode_fault (one_of_end _ q 1 (length q) (omega arith))
+    mode_end h = mode_fault (one_of_end _ q 1 (length q) h.0) h.1
 
-    pub mode_bad : 2 ≤ length q → 1 < get_or q 1 0 → ReadIs q (Fault 4 1)
-    unfolding mode
-    mode_bad h l = mode_fault (one_of_none _ q 1 (length q) h (le_refl (length q)) ((tt, (λ x. omega arith)), (λ x. omega arith)))
+    module _ {w : ℕ} (x : Word q 1 (length q) w) where
+      pub mode_bad : {f : Fault} → 1 < w → f ≡ faults.bad_shape 1 → ReadIs q (Err f)
+      unfolding mode
+      mode_bad l is = mode_fault (one_of_none _ q 1 (length q) (le_refl (length q)) x ((tt, (λ k. omega arith)), (λ k. omega arith))) is
 
-    mode_is : {w : ℕ} {m : Mode} → 2 ≤ length q → get_or q 1 0 ≡ w → ModeIs w m → mode 1 (from q 1 (length q)) ≡ got m 2 (from q 2 (length q))
-    unfolding mode row pick give
-    mode_is h e plainly = one_of_is _ q 1 (length q) h (le_refl (length q)) e
-    mode_is h e strictly = one_of_is _ q 1 (length q) h (le_refl (length q)) e
+      mode_is : {m : Mode} {μ : definition.Mode} → w ≡ mode_number m → ModeIs m μ → mode 1 (from q 1 (length q)) ≡ got μ 2 (from q 2 (length q))
+      unfolding mode row pick give
+      mode_is e plainly = one_of_is _ q 1 (length q) (le_refl (length q)) x e
+      mode_is e strictly = one_of_is _ q 1 (length q) (le_refl (length q)) x e
 
-    pub question_read : {w : ℕ} {r : Reading} → 2 ≤ length q → w ≡ get_or q 1 0 → w ≤ 1
-        → SectionsRead q k w r → ReadIs q r
-    unfolding next give
-    question_read {w} {r} h e l x = go refl x
-      where
-        m : Mode
-        m = (mode_of w l).0
+      pub question_read : {m : Mode} {r : Result Question Fault} → w ≡ mode_number m → SectionsRead q k m r → ReadIs q r
+      unfolding next give
+      question_read {m} {r} e x = go refl x
+        where
+          μ : definition.Mode
+          μ = (manner_of m).0
 
-        all_is : read_question q ≡ next (judgement k 2 (from q 2 (length q))) (λ j. give (asked k m j))
-        all_is = kind_is ∙ rw (mode_is h (sym e) (mode_of w l).1) (asking_is k m 2 (from q 2 (length q)))
+          all_is : read_question q ≡ next (judgement (kind_number k) 2 (from q 2 (length q))) (λ j. give (asked (kind_number k) μ j))
+          all_is = kind_is ∙ rw (mode_is e (manner_of m).1) (asking_is (kind_number k) μ 2 (from q 2 (length q)))
 
-        go : {r : Reading} {o : Read Judgement} → judgement k 2 (from q 2 (length q)) ≡ o → JudgementRead q k w r o → ReadIs q r
-        go y (questions.asked {x = a} {j = j} kind_is mode_is s) = record {
-          asked = asked k m j;
-          is = all_is ∙ ap (λ o. next o (λ j. give (asked k m j))) y;
-          kind = kind_is;
-          mode = rw mode_is (mode_of w l).1;
-          asks = s;
-        }
-        go y (questions.refused b) = record { is = all_is ∙ ap (λ o. next o (λ j. give (asked k m j))) y; within = b }
+          go : {r : Result Question Fault} {o : Read Judgement} → judgement (kind_number k) 2 (from q 2 (length q)) ≡ o → JudgementRead q k m r o → ReadIs q r
+          go y (questions.asked {x = a} {j = j} kind_is mode_is s) = record {
+            asked = asked (kind_number k) μ j;
+            is = all_is ∙ ap (λ o. next o (λ j. give (asked (kind_number k) μ j))) y;
+            kind = ap kind_number kind_is;
+            mode = rw mode_is (manner_of m).1;
+            asks = s;
+          }
+          go y (questions.refused {f = f} b) = record {
+            is = all_is ∙ ap (λ o. next o (λ j. give (asked (kind_number k) μ j))) y;
+            within = fault_in f.why b;
+          }

@@ -5,48 +5,49 @@ use mathlib.Core.List.{List, [], ◌∷◌}
 use mathlib.Core.Bool.{true, false}
 use native.Mathlib.Nat.{le_refl, le_trans}
 use native.Mathlib.Omega.{arith}
-use lib.ListN.{length, get_or, take, drop}
+use lib.ListN.{length, take, drop}
 use lib.Seq.{slice-cons, take-length, length-slice, length-take-le, take-add, drop-drop, drop_at}
 use lib.Dec.{leb}
 use borrow.Author.Tests.{le-leb, lt-leb}
 use Rattle.definition.specs.Syntax.{pick}
-use Rattle.definition.specs.Question.{Read, Reader, got, fault, next, ◌>>=◌, give, bad_shape, written, type_name, row, context, end, whole, counted, empty, unknown}
+use Rattle.definition.specs.Question as definition
+use Rattle.definition.specs.Question.{Read, Reader, got, fault, next, ◌>>=◌, give, written, type_name, row, context, end, whole, counted, empty, unknown}
 use Rattle.laws.proofs.Steps.{pick_true, pick_false}
 use Rattle.layout.specs.Places.{etvar_at}
-use Rattle.reading.specs.declared.Item.{Item}
-use Rattle.reading.specs.declared.Item.TheVariants as item
+use Rattle.std.specs.Prelude.{Result, Ok, Err}
+use Rattle.reading.specs.declared.Fault.{Fault}
 use Rattle.reading.specs.declared.Part.{Part}
-use Rattle.reading.specs.declared.Part.TheVariants.{Past, Fault}
 use Rattle.reading.specs.declared.Holds.{Holds}
 use Rattle.reading.specs.declared.Holds.TheVariants.{Nothing, Entries, Expr, Ty, ETVar}
+use Rattle.reading.specs.Faults.{bad_shape}
 use Rattle.reading.specs.Items as items
-use Rattle.reading.specs.Items.{from, Inside, Reads, NameRead}
+use Rattle.reading.specs.Items.{from, Inside, Reads, Word, NameRead}
 use Rattle.reading.specs.Contexts.{ContextTo, Leaves, past, refused, ContextRead}
 use Rattle.reading.specs.Sections as sections
-use Rattle.reading.specs.Sections.{UnknownRead, Whole, exact, early, same, ContentAt, nothing_at, entries_at, expr_at, ty_at, SectionRead, Onwards, SectionThen, on, off}
-use Rattle.reading.proofs.Items.{bad, from_end, word_end, word_is, one_of_end, one_of_is, one_of_none, reads_at, reads_as, code_at, type_name_read, within_end, within_past, within_high}
+use Rattle.reading.specs.Sections.{UnknownRead, Whole, exact, early, ContentAt, nothing_at, entries_at, expr_at, ty_at, SectionRead}
+use Rattle.reading.proofs.Items.{from_end, word_end, word_is, one_of_end, one_of_is, one_of_none, reads_at, reads_as, code_at, type_name_read, within_end, within_past, within_none}
 use Rattle.reading.proofs.Contexts.{leaves_at}
 
 -- ## The one ETVar
 
-pub unknown_end : {q : List ℕ} {p e : ℕ} → Inside q p e → e ≤ p → UnknownRead q p e (item.Fault 4 p)
+pub unknown_end : {q : List ℕ} {p e : ℕ} {f : Fault} → Inside q p e → (e ≤ p) × (f ≡ bad_shape p) → UnknownRead q p e (Err f)
 unfolding unknown
-unknown_end {q} {p} {e} i h = reads_at (one_of_end _ q p e h) (items.refused (bad i))
+unknown_end {q} {p} {e} i h = rw h.1 (reads_at (one_of_end _ q p e h.0) (items.refused i.low))
 
-module _ {q : List ℕ} {p e : ℕ} (i : Inside q p e) (h : p < e) where
-  unknown_row : {w : ℕ} → get_or q p 0 ≡ w → unknown p (from q p e) ≡ row w ((4, type_name written) ∷ []) (bad_shape p) (p + 1) (from q (p + 1) e)
+module _ {q : List ℕ} {p e : ℕ} (i : Inside q p e) {w : ℕ} (h : Word q p e w) where
+  unknown_row : {k : ℕ} → w ≡ k → unknown p (from q p e) ≡ row k ((4, type_name written) ∷ []) (definition.bad_shape p) (p + 1) (from q (p + 1) e)
   unfolding unknown
-  unknown_row k = one_of_is _ q p e h i.high k
+  unknown_row k = one_of_is _ q p e i.high h k
 
-  pub unknown_is : {r : Item} → NameRead q (p + 1) e r → get_or q p 0 ≡ 4 → UnknownRead q p e r
+  pub unknown_is : {r : Result ℕ Fault} → w ≡ 4 → NameRead q (p + 1) e r → UnknownRead q p e r
   unfolding row pick
-  unknown_is x k =
+  unknown_is k x =
       reads_at (unknown_row k)
       (reads_as (λ a m s. record { at = etvar_at (code_at i h k) s.at; to = omega arith }) (type_name_read x))
 
-  pub unknown_none : (get_or q p 0 ≡ 4 → ⊥) → UnknownRead q p e (item.Fault 4 p)
+  pub unknown_none : {f : Fault} → (w ≡ 4 → ⊥) → f ≡ bad_shape p → UnknownRead q p e (Err f)
   unfolding unknown
-  unknown_none n = reads_at (one_of_none _ q p e h i.high (tt, n)) (items.refused (bad i))
+  unknown_none n k = rw k (reads_at (one_of_none _ q p e i.high h (tt, n)) (items.refused i.low))
 
 -- ## Words of a section
 
@@ -71,65 +72,75 @@ end_more q p e h l = rw (slice-cons p e q 0 h l)
 
 -- ## A fault at the count
 
-leaves_fault : {A : Type 0} {q : List ℕ} {e c a : ℕ} {S : A → ℕ → Type 0} {T : A → ℕ → ℕ → Type 0} {o : Read A} → Reads q e S (item.Fault c a) o
-    → Leaves q e T (Fault c a) o
+leaves_fault : {A : Type 0} {q : List ℕ} {e : ℕ} {f : Fault} {S : A → ℕ → Type 0} {T : A → ℕ → ℕ → Type 0} {o : Read A} → Reads q e S (Err f) o
+    → Leaves q e T (Err f) o
 leaves_fault (items.refused b) = refused b
 
 module _ {q : List ℕ} {p : ℕ} (i : Inside q p (length q)) where
   -- the question ends where a count should stand
-  counted_end : {A : Type 0} {T : A → ℕ → ℕ → Type 0} (m : Reader A) → length q ≤ p → Leaves q (length q) T (Fault 4 p) (counted m p (from q p (length q)))
+  counted_end : {A : Type 0} {T : A → ℕ → ℕ → Type 0} (m : Reader A) → length q ≤ p
+      → Leaves q (length q) T (Err (bad_shape p)) (counted m p (from q p (length q)))
   unfolding counted
-  counted_end m h = leaves_at (word_end _ q p (length q) h) (refused (bad i))
+  counted_end m h = leaves_at (word_end _ q p (length q) h) (refused i.low)
 
-  pub section_end : (h : Holds) → length q ≤ p → SectionRead q p h (Fault 4 p)
+  pub section_end : {f : Fault} (h : Holds) → (length q ≤ p) × (f ≡ bad_shape p) → SectionRead q p h (Err f)
   unfolding empty
   section_end Nothing l = leaves_fault (within_end i 0 0 l)
-  section_end Entries l = counted_end _ l
-  section_end Expr l = counted_end _ l
-  section_end Ty l = counted_end _ l
-  section_end ETVar l = counted_end _ l
+  section_end Entries l = rw l.1 (counted_end _ l.0)
+  section_end Expr l = rw l.1 (counted_end _ l.0)
+  section_end Ty l = rw l.1 (counted_end _ l.0)
+  section_end ETVar l = rw l.1 (counted_end _ l.0)
 
-  module _ (l : p < length q) where
+  -- the count n stands there
+  module _ {n : ℕ} (x : Word q p (length q) n) where
     counted_by : {A : Type 0} (m : Reader A) → counted m p (from q p (length q))
-        ≡ pick (leb (get_or q p 0) (length (from q (p + 1) (length q)))) (whole (get_or q p 0) m) (bad_shape p) (p + 1) (from q (p + 1) (length q))
+        ≡ pick (leb n (length (from q (p + 1) (length q)))) (whole n m) (definition.bad_shape p) (p + 1) (from q (p + 1) (length q))
     unfolding counted
-    counted_by m = word_is _ q p (length q) l (le_refl (length q))
+    counted_by m = word_is _ (le_refl (length q)) x
 
     room : length (from q (p + 1) (length q)) ≡ length q - (p + 1)
     room = length-slice (p + 1) (length q) q (le_refl (length q))
 
     -- the count overruns the question
-    counted_over : {A : Type 0} {T : A → ℕ → ℕ → Type 0} (m : Reader A) → length q - (p + 1) < get_or q p 0
-        → Leaves q (length q) T (Fault 4 p) (counted m p (from q p (length q)))
-    unfolding bad_shape
+    counted_over : {A : Type 0} {T : A → ℕ → ℕ → Type 0} (m : Reader A) → length q - (p + 1) < n
+        → Leaves q (length q) T (Err (bad_shape p)) (counted m p (from q p (length q)))
+    unfolding definition.bad_shape
     counted_over m h =
-        let f : leb (get_or q p 0) (length (from q (p + 1) (length q))) ≡ false = lt-leb (get_or q p 0) _ (rw room h) in
-        leaves_at (counted_by m ∙ ap (λ (k : Reader _). k (p + 1) (from q (p + 1) (length q))) (pick_false _ _ f)) (refused (bad i))
+        let f : leb n (length (from q (p + 1) (length q))) ≡ false = lt-leb n _ (rw room h) in
+        leaves_at (counted_by m ∙ ap (λ (k : Reader _). k (p + 1) (from q (p + 1) (length q))) (pick_false _ _ f)) (refused i.low)
 
-    pub section_over : (h : Holds) → length q - (p + 1) < get_or q p 0 → SectionRead q p h (Fault 4 p)
+    pub section_over : {f : Fault} (h : Holds) → length q - (p + 1) < n → f ≡ bad_shape p → SectionRead q p h (Err f)
     unfolding empty
-    section_over Nothing h = leaves_fault (within_high i 0 0 l (omega arith) (omega arith))
-    section_over Entries h = counted_over _ h
-    section_over Expr h = counted_over _ h
-    section_over Ty h = counted_over _ h
-    section_over ETVar h = counted_over _ h
+    section_over Nothing h k = rw k (leaves_fault (within_none i 0 0 x (λ l m. omega arith)))
+    section_over Entries h k = rw k (counted_over _ h)
+    section_over Expr h k = rw k (counted_over _ h)
+    section_over Ty h k = rw k (counted_over _ h)
+    section_over ETVar h k = rw k (counted_over _ h)
 
     -- ## An empty section
 
-    pub section_empty : get_or q p 0 ≡ 0 → SectionRead q p Nothing (Past 0 (p + 1))
+    pub section_empty : n ≡ 0 → SectionRead q p Nothing (Ok (record { value = 0; past = p + 1 }))
     unfolding empty
-    section_empty h = go (within_past i 0 0 l (omega arith) (omega arith))
+    section_empty h = go (within_past i 0 0 x (omega arith) (omega arith))
       where
-        go : {o : Read ℕ} {S : ℕ → ℕ → Type 0} → Reads q (length q) S (item.Past (p + 1)) o → Leaves q (length q) (ContentAt q p Nothing) (Past 0 (p + 1)) o
+        go : {o : Read ℕ} {S : ℕ → ℕ → Type 0} → Reads q (length q) S (Ok (p + 1)) o
+            → Leaves q (length q) (ContentAt q p Nothing) (Ok (record { value = 0; past = p + 1 })) o
         go (items.past s k) = past nothing_at k
 
-    pub section_full : (get_or q p 0 ≡ 0 → ⊥) → SectionRead q p Nothing (Fault 4 p)
+    pub section_full : {f : Fault} → (n ≡ 0 → ⊥) → f ≡ bad_shape p → SectionRead q p Nothing (Err f)
     unfolding empty
-    section_full h = leaves_fault (within_high i 0 0 l (omega arith) (omega arith))
+    section_full h k = rw k (leaves_fault (within_none i 0 0 x (λ l m. h (omega arith))))
 
     -- ## What takes up the words
 
-    module _ {e : ℕ} (e-is : e ≡ p + 1 + get_or q p 0) (fits : e ≤ length q) where
+    module _ (l : n ≤ length q - (p + 1)) where
+      -- where they end
+      abbrev e : ℕ
+      e = p + 1 + n
+
+      fits : e ≤ length q
+      fits = omega (arith, x.inside)
+
       -- what a section says of what a reader said of its words
       closed : {A : Type 0} → Read A → Read A
       closed o = next (next o (λ a. ◌>>=◌ end (λ u. give a))) (λ a k vs. got a k (from q e (length q)))
@@ -137,10 +148,10 @@ module _ {q : List ℕ} {p : ℕ} (i : Inside q p (length q)) where
       counted_is : {A : Type 0} (m : Reader A) → counted m p (from q p (length q)) ≡ closed (m (p + 1) (from q (p + 1) e))
       unfolding whole closed ◌>>=◌
       counted_is m =
-          let f : leb (get_or q p 0) (length (from q (p + 1) (length q))) ≡ true = le-leb (get_or q p 0) _ (rw room (omega arith)) in
+          let f : leb n (length (from q (p + 1) (length q))) ≡ true = le-leb n _ (rw room l) in
           counted_by m
           ∙ ap (λ (k : Reader _). k (p + 1) (from q (p + 1) (length q))) (pick_true _ _ f)
-          ∙ rw (from_take q (p + 1) (get_or q p 0) (omega arith), from_drop q (p + 1) (get_or q p 0), ← e-is)
+          ∙ rw (from_take q (p + 1) n (omega (arith, x.inside)), from_drop q (p + 1) n)
 
       closed_got : {A : Type 0} (a : A) (m : ℕ) → m ≡ e → closed (got a m (from q m e)) ≡ got a m (from q m (length q))
       unfolding closed next ◌>>=◌ give
@@ -150,52 +161,49 @@ module _ {q : List ℕ} {p : ℕ} (i : Inside q p (length q)) where
       unfolding closed next ◌>>=◌
       closed_more a m h = rw (end_more q m e h fits)
 
-      -- an item
-      counted_item : {A : Type 0} {S : A → ℕ → Type 0} {T : A → ℕ → ℕ → Type 0} {r : Item} {r' : Part} (m : Reader A)
-          → ((a : A) → S a e → T a (p + 1) e) → Reads q e S r (m (p + 1) (from q (p + 1) e)) → Whole (p + 1) e r r'
-          → Leaves q (length q) T r' (counted m p (from q p (length q)))
+      -- an item that was read, or a fault in it
+      counted_item : {A : Type 0} {S : A → ℕ → Type 0} {T : A → ℕ → ℕ → Type 0} {j : ℕ} {r : Result Part Fault} (m : Reader A)
+          → ((a : A) → S a e → T a (p + 1) e) → Reads q e S (Ok j) (m (p + 1) (from q (p + 1) e)) → Whole (p + 1) e j r
+          → Leaves q (length q) T r (counted m p (from q p (length q)))
       unfolding closed next
-      counted_item {A} {S} {T} m g x w = leaves_at (counted_is m) (go x w)
+      counted_item {A} {S} {T} m g y z = leaves_at (counted_is m) (go y z)
         where
-          go : {r : Item} {r' : Part} {o : Read A} → Reads q e S r o → Whole (p + 1) e r r' → Leaves q (length q) T r' (closed o)
+          go : {j : ℕ} {r : Result Part Fault} {o : Read A} → Reads q e S (Ok j) o → Whole (p + 1) e j r → Leaves q (length q) T r (closed o)
           go (items.past {a = a} s k) exact = leaves_at (closed_got a e refl) (past (g a s) fits)
-          go (items.past {a = a} {m = n} s k) (early ne) = leaves_at (closed_more a n (omega arith)) (refused (record { least = omega arith; most = omega arith; place = omega arith }))
-          go (items.refused b) same = refused (record { least = b.least; most = b.most; place = le_trans b.place fits })
+          go (items.past {a = a} {m = j} s k) (early ne) = leaves_at (closed_more a j (omega arith)) (refused (le_trans k fits))
 
-      pub section_expr : {r : Item} {r' : Part} → items.ExprRead q (p + 1) e r → Whole (p + 1) e r r' → SectionRead q p Expr r'
-      section_expr x w = counted_item _ (λ f s. expr_at s.at) x w
+      counted_fault : {A : Type 0} {S : A → ℕ → Type 0} {T : A → ℕ → ℕ → Type 0} {f : Fault} (m : Reader A)
+          → Reads q e S (Err f) (m (p + 1) (from q (p + 1) e)) → Leaves q (length q) T (Err f) (counted m p (from q p (length q)))
+      unfolding closed next
+      counted_fault {A} {S} {T} {f} m y = leaves_at (counted_is m) (go y)
+        where
+          go : {o : Read A} → Reads q e S (Err f) o → Leaves q (length q) T (Err f) (closed o)
+          go (items.refused b) = refused (le_trans b fits)
 
-      pub section_type : {r : Item} {r' : Part} → items.TypeRead q (p + 1) e r → Whole (p + 1) e r r' → SectionRead q p Ty r'
-      section_type x w = counted_item _ (λ A s. ty_at s.at) x w
+      module _ {j : ℕ} {r : Result Part Fault} (w : Whole (p + 1) e j r) where
+        pub section_expr : items.ExprRead q (p + 1) e (Ok j) → SectionRead q p Expr r
+        section_expr y = counted_item _ (λ f s. expr_at s.at) y w
 
-      pub section_unknown : {r : Item} {r' : Part} → UnknownRead q (p + 1) e r → Whole (p + 1) e r r' → SectionRead q p ETVar r'
-      section_unknown x w = counted_item _ (λ a s. sections.etvar_at s.at) x w
+        pub section_type : items.TypeRead q (p + 1) e (Ok j) → SectionRead q p Ty r
+        section_type y = counted_item _ (λ A s. ty_at s.at) y w
+
+        pub section_unknown : UnknownRead q (p + 1) e (Ok j) → SectionRead q p ETVar r
+        section_unknown y = counted_item _ (λ a s. sections.etvar_at s.at) y w
+
+      pub expr_fault : {f : Fault} → items.ExprRead q (p + 1) e (Err f) → SectionRead q p Expr (Err f)
+      expr_fault y = counted_fault _ y
+
+      pub type_fault : {f : Fault} → items.TypeRead q (p + 1) e (Err f) → SectionRead q p Ty (Err f)
+      type_fault y = counted_fault _ y
+
+      pub unknown_fault : {f : Fault} → UnknownRead q (p + 1) e (Err f) → SectionRead q p ETVar (Err f)
+      unknown_fault y = counted_fault _ y
 
       -- entries
-      pub section_entries : {r : Part} → ContextRead q (p + 1) e r → SectionRead q p Entries r
+      pub section_entries : {r : Result Part Fault} → ContextRead q (p + 1) e r → SectionRead q p Entries r
       unfolding closed next
-      section_entries x = leaves_at (counted_is (context written)) (go x)
+      section_entries y = leaves_at (counted_is (context written)) (go y)
         where
-          go : {r : Part} {o : Read _} → Leaves q e (ContextTo q (p + 1) e) r o → Leaves q (length q) (ContentAt q p Entries) r (closed o)
-          go (past {a = Γ} {m = m} t k) = leaves_at (closed_got Γ m t.whole) (past (entries_at t.list) (omega arith))
-          go (refused b) = refused (record { least = b.least; most = b.most; place = le_trans b.place fits })
-
--- ## One section after another
-
-pub onwards_past : {q : List ℕ} {v p : ℕ} {r : Part} → r ≡ Past v p → Onwards q r → Inside q p (length q)
-onwards_past h o = rw h at o
-
-pub section_on : {q : List ℕ} {h : Holds} {v p : ℕ} {r r' : Part} → r ≡ Past v p → SectionRead q p h r' → SectionThen q h r r'
-section_on k x = rw k (on x)
-
-pub section_off : {q : List ℕ} {h : Holds} {c p : ℕ} {r : Part} → r ≡ Fault c p → SectionThen q h r (Fault c p)
-section_off k = rw k off
-
-pub read_onwards : {A : Type 0} {q : List ℕ} {S : A → ℕ → ℕ → Type 0} {r : Part} {o : Read A} → length q ≤ 2048 → Leaves q (length q) S r o
-    → Onwards q r
-read_onwards {q = q} h (past s l) = record { low = l; high = le_refl (length q); small = h }
-read_onwards h (refused b) = tt
-
-pub then_onwards : {q : List ℕ} {h : Holds} {r r' : Part} → length q ≤ 2048 → SectionThen q h r r' → Onwards q r'
-then_onwards h (on x) = read_onwards h x
-then_onwards h off = tt
+          go : {r : Result Part Fault} {o : Read _} → Leaves q e (ContextTo q (p + 1) e) r o → Leaves q (length q) (ContentAt q p Entries) r (closed o)
+          go (past {a = Γ} {x = v} t k) = leaves_at (closed_got Γ v.past t.whole) (past (entries_at t.list) (omega arith))
+          go (refused b) = refused (le_trans b fits)

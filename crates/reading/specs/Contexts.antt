@@ -1,13 +1,13 @@
 -- A context as it stands in the question: entries one after the other.
-use Rattle.std.specs.Prelude.{ℕ, ◌+◌, ◌≤◌, ◌≡◌, List, [], ◌∷◌, length}
+use Rattle.std.specs.Prelude.{ℕ, ◌+◌, ◌≤◌, ◌≡◌, List, [], ◌∷◌, length, Result, Ok, Err}
 use Rattle.definition.specs.Syntax.{TmVar, TyVar, Ty, Binding, var_bnd, tvar_bnd, etvar_bnd, setvar_bnd, mark, Entry, of_question, Ctx}
 use Rattle.definition.specs.Contexts.{binding_key, kind_of, name_of}
-use Rattle.definition.specs.Question.{Read, got, fault, written, binding, entry, context}
+use Rattle.definition.specs.Question.{Read, got, written, binding, entry, context}
 use Rattle.layout.specs.Places.{CodeAt, WordAt}
-use Rattle.reading.specs.declared.Item.{Item}
+use Rattle.reading.specs.declared.Fault.{Fault}
 use Rattle.reading.specs.declared.Part.{Part}
-use Rattle.reading.specs.declared.Part.TheVariants.{Past, Fault}
-use Rattle.reading.specs.Items.{from, TyTo, FaultIn, Reads}
+use Rattle.reading.specs.Faults.{fault_of}
+use Rattle.reading.specs.Items.{from, TyTo, Reads}
 
 -- what a binding has after its kind and name, from p up to m: a type or nothing
 pub data RestTo (q : List ℕ) (p : ℕ) : Binding → ℕ → Type 0 where
@@ -44,15 +44,15 @@ pub record ContextTo (q : List ℕ) (p e : ℕ) (Γ : Ctx) (n m : ℕ) : Type 0 
   pub whole : m ≡ e
 
 -- the answer r is what a reader says of words up to e: what it got, by a number (a place, or how many), stands up to the next place
-pub data Leaves {A : Type 0} (q : List ℕ) (e : ℕ) (Stands : A → ℕ → ℕ → Type 0) : Part → Read A → Type 0 where
-  past : {a : A} {v m : ℕ} → Stands a v m → m ≤ e → Leaves q e Stands (Past v m) (got a m (from q m e))
-  refused : {c p : ℕ} → FaultIn e c p → Leaves q e Stands (Fault c p) (fault c p)
+pub data Leaves {A : Type 0} (q : List ℕ) (e : ℕ) (Stands : A → ℕ → ℕ → Type 0) : Result Part Fault → Read A → Type 0 where
+  past : {a : A} {x : Part} → Stands a x.value x.past → x.past ≤ e → Leaves q e Stands (Ok x) (got a x.past (from q x.past e))
+  refused : {f : Fault} → f.at ≤ e → Leaves q e Stands (Err f) (fault_of f)
 
-abbrev pub BindingRead : List ℕ → ℕ → ℕ → Item → Type 0
+abbrev pub BindingRead : List ℕ → ℕ → ℕ → Result ℕ Fault → Type 0
 BindingRead q p e r = Reads q e (BindingTo q p) r (binding written p (from q p e))
 
-abbrev pub EntryRead : List ℕ → ℕ → ℕ → Item → Type 0
+abbrev pub EntryRead : List ℕ → ℕ → ℕ → Result ℕ Fault → Type 0
 EntryRead q p e r = Reads q e (EntryTo q p) r (entry written p (from q p e))
 
-abbrev pub ContextRead : List ℕ → ℕ → ℕ → Part → Type 0
+abbrev pub ContextRead : List ℕ → ℕ → ℕ → Result Part Fault → Type 0
 ContextRead q p e r = Leaves q e (ContextTo q p e) r (context written p (from q p e))

@@ -1,11 +1,11 @@
 -- Reading an item: what the program answers is what the definition's reader says, and what was read stands in the question.
-use Rattle.std.specs.Prelude.{ℕ, ◌+◌, ◌≤◌, ◌≡◌, List, length}
+use Rattle.std.specs.Prelude.{ℕ, ◌+◌, ◌≤◌, ◌<◌, ◌≡◌, List, length, get_or, Result, Ok, Err, MatchResult}
 use Rattle.std.proofs.Math.Seq.{slice}
 use Rattle.definition.specs.Syntax.{Ty, Expr}
-use Rattle.definition.specs.Question.{Read, got, fault, Reader, within, written, type, expression}
+use Rattle.definition.specs.Question.{Read, got, within, written, type, expression}
 use Rattle.layout.specs.Places.{size, expr_size, WordAt, TyAt, ExprAt}
-use Rattle.reading.specs.declared.Item.{Item}
-use Rattle.reading.specs.declared.Item.TheVariants.{Past, Fault}
+use Rattle.reading.specs.declared.Fault.{Fault}
+use Rattle.reading.specs.Faults.{bad_shape, fault_of}
 
 -- the question's words from p up to e
 abbrev pub from : List ℕ → ℕ → ℕ → List ℕ
@@ -35,43 +35,29 @@ pub record ExprTo (q : List ℕ) (p : ℕ) (e : Expr) (m : ℕ) : Type 0 where
   pub at : ExprAt q p e
   pub to : p + expr_size e ≡ m
 
--- a fault of reading: 4 or 5, and a place not past the end e
-pub record FaultIn (e c p : ℕ) : Type 0 where
-  pub least : 4 ≤ c
-  pub most : c ≤ 5
-  pub place : p ≤ e
-
 -- the answer r is what a reader says of a section's words up to e; what it got stands up to the next place
-pub data Reads {A : Type 0} (q : List ℕ) (e : ℕ) (Stands : A → ℕ → Type 0) : Item → Read A → Type 0 where
-  past : {a : A} {m : ℕ} → Stands a m → m ≤ e → Reads q e Stands (Past m) (got a m (from q m e))
-  refused : {c p : ℕ} → FaultIn e c p → Reads q e Stands (Fault c p) (fault c p)
-
--- a next item can be read
-abbrev pub Onward : List ℕ → ℕ → Item → Type 0
-Onward q e (Past p) = Inside q p e
-Onward q e (Fault c p) = Unit {0}
-
--- the answer after the one before: the next item's where that was read, and the same fault where it was not
-pub data NextRead {A : Type 0} (q : List ℕ) (e : ℕ) (Stands : ℕ → A → ℕ → Type 0) (m : Reader A) : Item → Item → Type 0 where
-  on : {p : ℕ} {r : Item} → Reads q e (Stands p) r (m p (from q p e)) → NextRead q e Stands m (Past p) r
-  off : {c p : ℕ} → NextRead q e Stands m (Fault c p) (Fault c p)
+pub data Reads {A : Type 0} (q : List ℕ) (e : ℕ) (Stands : A → ℕ → Type 0) : Result ℕ Fault → Read A → Type 0 where
+  past : {a : A} {m : ℕ} → Stands a m → m ≤ e → Reads q e Stands (Ok m) (got a m (from q m e))
+  refused : {f : Fault} → f.at ≤ e → Reads q e Stands (Err f) (fault_of f)
 
 -- ## Each reader
 
-abbrev pub NameRead : List ℕ → ℕ → ℕ → Item → Type 0
+-- the word w stands at p, before the section's end
+pub record Word (q : List ℕ) (p e w : ℕ) : Type 0 where
+  pub inside : p < e
+  pub is : get_or q p 0 ≡ w
+
+abbrev pub WordRead : List ℕ → ℕ → ℕ → Result ℕ Fault → Type 0
+WordRead q p e r = MatchResult r (Word q p e) (λ f. (e ≤ p) × (f ≡ bad_shape p))
+
+abbrev pub NameRead : List ℕ → ℕ → ℕ → Result ℕ Fault → Type 0
 NameRead q p e r = Reads q e (WordTo q p) r (written p (from q p e))
 
-abbrev pub WithinRead : List ℕ → ℕ → ℕ → ℕ → ℕ → Item → Type 0
+abbrev pub WithinRead : List ℕ → ℕ → ℕ → ℕ → ℕ → Result ℕ Fault → Type 0
 WithinRead q p e low high r = Reads q e (WithinTo q p low high) r (within low high p (from q p e))
 
-abbrev pub TypeRead : List ℕ → ℕ → ℕ → Item → Type 0
+abbrev pub TypeRead : List ℕ → ℕ → ℕ → Result ℕ Fault → Type 0
 TypeRead q p e r = Reads q e (TyTo q p) r (type written p (from q p e))
 
-abbrev pub TypeThen : List ℕ → ℕ → Item → Item → Type 0
-TypeThen q e before r = NextRead q e (TyTo q) (type written) before r
-
-abbrev pub ExprRead : List ℕ → ℕ → ℕ → Item → Type 0
+abbrev pub ExprRead : List ℕ → ℕ → ℕ → Result ℕ Fault → Type 0
 ExprRead q p e r = Reads q e (ExprTo q p) r (expression p (from q p e))
-
-abbrev pub ExprThen : List ℕ → ℕ → Item → Item → Type 0
-ExprThen q e before r = NextRead q e (ExprTo q) expression before r

@@ -1,24 +1,21 @@
 -- The whole question: what is asked, and where its parts stand.
-use Rattle.std.specs.Prelude.{ℕ, ◌≡◌, List, [], length}
+use Rattle.std.specs.Prelude.{ℕ, ◌≤◌, ◌≡◌, List, [], length, Result, Ok, Err}
 use Rattle.definition.specs.Syntax as syntax
 use Rattle.definition.specs.Syntax.{TyVar, Ctx, Judgement, infer, check, infer_app, subtype, inst, on_l, on_r}
 use Rattle.definition.specs.Question as question
-use Rattle.definition.specs.Question.{Read, got, fault, Reader, ◌>>=◌, give, bad_shape, row, end, Mode, plain, strict, kind_rows, read_question}
+use Rattle.definition.specs.Question.{Read, got, fault, Reader, ◌>>=◌, give, bad_shape, row, end, plain, strict, kind_rows, read_question}
 use Rattle.layout.specs.Places.{TyAt, ExprAt}
-use Rattle.reading.specs.declared.Part.{Part}
-use Rattle.reading.specs.declared.Part.TheVariants as part
+use Rattle.layout.specs.Kinds.{kind_number}
+use Rattle.layout.specs.declared.Kind.{Kind}
+use Rattle.reading.specs.declared.Fault.{Fault}
 use Rattle.reading.specs.declared.Holds.{Holds}
 use Rattle.reading.specs.declared.Holds.TheVariants.{Nothing, Entries, Expr, Ty, ETVar}
+use Rattle.reading.specs.declared.Mode.{Mode}
+use Rattle.reading.specs.declared.Mode.TheVariants.{Plain, Strict}
 use Rattle.reading.specs.declared.Question.{Question}
-use Rattle.reading.specs.declared.Reading.{Reading}
-use Rattle.reading.specs.declared.Reading.TheVariants.{Asked, Fault}
-use Rattle.reading.specs.Items.{from, FaultIn}
+use Rattle.reading.specs.Faults.{refusal_code, fault_of}
+use Rattle.reading.specs.Items.{from}
 use Rattle.reading.specs.Contexts.{ListTo}
-
--- what a section left: a place or a number
-abbrev pub value_of : Part → ℕ
-value_of (part.Past v m) = v
-value_of (part.Fault c p) = 0
 
 -- "sections filled": the kind, and what the context, the expression, the left and the right type's sections hold
 pub data Planned : ℕ → Holds → Holds → Holds → Holds → Type 0 where
@@ -54,25 +51,32 @@ pub data AsksAt (q : List ℕ) (x : Question) : ℕ → Judgement → Type 0 whe
 abbrev pub judgement : ℕ → Reader Judgement
 judgement k = do j ← row k kind_rows (bad_shape 0); u ← end; give j
 
-pub data JudgementRead (q : List ℕ) (kind mode : ℕ) : Reading → Read Judgement → Type 0 where
-  asked : {x : Question} {j : Judgement} → x.kind ≡ kind → x.mode ≡ mode → AsksAt q x kind j → JudgementRead q kind mode (Asked x) (got j (length q) [])
-  refused : {c p : ℕ} → FaultIn (length q) c p → JudgementRead q kind mode (Fault c p) (fault c p)
+pub data JudgementRead (q : List ℕ) (kind : Kind) (mode : Mode) : Result Question Fault → Read Judgement → Type 0 where
+  asked : {x : Question} {j : Judgement} → x.kind ≡ kind → x.mode ≡ mode → AsksAt q x (kind_number kind) j
+      → JudgementRead q kind mode (Ok x) (got j (length q) [])
+  refused : {f : Fault} → f.at ≤ length q → JudgementRead q kind mode (Err f) (fault_of f)
 
-abbrev pub SectionsRead : List ℕ → ℕ → ℕ → Reading → Type 0
-SectionsRead q kind mode r = JudgementRead q kind mode r (judgement kind 2 (from q 2 (length q)))
+abbrev pub SectionsRead : List ℕ → Kind → Mode → Result Question Fault → Type 0
+SectionsRead q kind mode r = JudgementRead q kind mode r (judgement (kind_number kind) 2 (from q 2 (length q)))
 
--- "Mode is 0 plain or 1 strict."
-pub data ModeIs : ℕ → Mode → Type 0 where
-  plainly : ModeIs 0 plain
-  strictly : ModeIs 1 strict
+-- the definition's mode
+pub data ModeIs : Mode → question.Mode → Type 0 where
+  plainly : ModeIs Plain plain
+  strictly : ModeIs Strict strict
 
 -- the definition accepts the question, and its parts stand where the answer x says
 pub record Accepted (q : List ℕ) (x : Question) : Type 0 where
   pub asked : question.Question
   pub is : read_question q ≡ got asked (length q) []
-  pub kind : x.kind ≡ asked.kind
+  pub kind : kind_number x.kind ≡ asked.kind
   pub mode : ModeIs x.mode asked.manner
   pub asks : AsksAt q x asked.kind asked.asks
+
+-- a fault of reading: 4 or 5, and a place not past the end e
+pub record FaultIn (e c p : ℕ) : Type 0 where
+  pub least : 4 ≤ c
+  pub most : c ≤ 5
+  pub place : p ≤ e
 
 -- the definition refuses it, with the same code at the same place
 pub record Refused (q : List ℕ) (c p : ℕ) : Type 0 where
@@ -80,6 +84,6 @@ pub record Refused (q : List ℕ) (c p : ℕ) : Type 0 where
   pub within : FaultIn (length q) c p
 
 -- the answer is the definition's
-abbrev pub ReadIs : List ℕ → Reading → Type 0
-ReadIs q (Asked x) = Accepted q x
-ReadIs q (Fault c p) = Refused q c p
+abbrev pub ReadIs : List ℕ → Result Question Fault → Type 0
+ReadIs q (Ok x) = Accepted q x
+ReadIs q (Err f) = Refused q (refusal_code f.why) f.at

@@ -1,16 +1,15 @@
 -- Sections: what each kind's hold, and what reading one leaves.
-use Rattle.std.specs.Prelude.{ℕ, ◌+◌, ◌≡◌, List, length}
+use Rattle.std.specs.Prelude.{ℕ, ◌+◌, ◌≡◌, List, length, Result, Ok, Err}
 use Rattle.definition.specs.Syntax as syntax
 use Rattle.definition.specs.Syntax.{TyVar, Ctx}
 use Rattle.definition.specs.Question.{Reader, written, type, expression, context, counted, empty, unknown}
 use Rattle.layout.specs.Places.{TyAt, ExprAt}
-use Rattle.reading.specs.declared.Item.{Item}
-use Rattle.reading.specs.declared.Item.TheVariants as item
+use Rattle.reading.specs.declared.Fault.{Fault}
 use Rattle.reading.specs.declared.Part.{Part}
-use Rattle.reading.specs.declared.Part.TheVariants.{Past, Fault}
 use Rattle.reading.specs.declared.Holds.{Holds}
 use Rattle.reading.specs.declared.Holds.TheVariants.{Nothing, Entries, Expr, Ty, ETVar}
-use Rattle.reading.specs.Items.{from, Inside, TyTo, Reads}
+use Rattle.reading.specs.Faults.{bad_shape}
+use Rattle.reading.specs.Items.{from, TyTo, Reads}
 use Rattle.reading.specs.Contexts.{ListTo, Leaves}
 
 -- ## One item that takes up a section
@@ -19,14 +18,13 @@ use Rattle.reading.specs.Contexts.{ListTo, Leaves}
 abbrev pub UnknownTo : List ℕ → ℕ → TyVar → ℕ → Type 0
 UnknownTo q p a m = TyTo q p (syntax.etvar a) m
 
-abbrev pub UnknownRead : List ℕ → ℕ → ℕ → Item → Type 0
+abbrev pub UnknownRead : List ℕ → ℕ → ℕ → Result ℕ Fault → Type 0
 UnknownRead q p e r = Reads q e (UnknownTo q p) r (unknown p (from q p e))
 
--- the item from p on takes up the words to e; one that ends before them is a fault there
-pub data Whole (p e : ℕ) : Item → Part → Type 0 where
-  exact : Whole p e (item.Past e) (Past p e)
-  early : {m : ℕ} → (m ≡ e → ⊥) → Whole p e (item.Past m) (Fault 4 m)
-  same : {c a : ℕ} → Whole p e (item.Fault c a) (Fault c a)
+-- the item from p up to m takes up the words to e; one that ends before them is a fault there
+pub data Whole (p e : ℕ) : ℕ → Result Part Fault → Type 0 where
+  exact : Whole p e e (Ok (record { value = p; past = e }))
+  early : {m : ℕ} → (m ≡ e → ⊥) → Whole p e m (Err (bad_shape m))
 
 -- ## What a section holds, how it is read, and what stands after its count at p
 
@@ -51,15 +49,5 @@ pub data ContentAt (q : List ℕ) (p : ℕ) : (h : Holds) → Content h → ℕ 
   ty_at : {A : syntax.Ty} {v m : ℕ} → TyAt q v A → ContentAt q p Ty A v m
   etvar_at : {a : TyVar} {v m : ℕ} → TyAt q v (syntax.etvar a) → ContentAt q p ETVar a v m
 
-abbrev pub SectionRead : List ℕ → ℕ → Holds → Part → Type 0
+abbrev pub SectionRead : List ℕ → ℕ → Holds → Result Part Fault → Type 0
 SectionRead q p h r = Leaves q (length q) (ContentAt q p h) r (section h p (from q p (length q)))
-
--- a next section can be read
-abbrev pub Onwards : List ℕ → Part → Type 0
-Onwards q (Past v p) = Inside q p (length q)
-Onwards q (Fault c p) = Unit {0}
-
--- the answer after the one before: the next section's where that was read, and the same fault where it was not
-pub data SectionThen (q : List ℕ) (h : Holds) : Part → Part → Type 0 where
-  on : {v p : ℕ} {r : Part} → SectionRead q p h r → SectionThen q h (Past v p) r
-  off : {c p : ℕ} → SectionThen q h (Fault c p) (Fault c p)

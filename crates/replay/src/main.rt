@@ -26,14 +26,16 @@ fn ask(f: Frame, bytes: &[u8], words: &mut [u32], work: &mut [u32], report: &mut
     requires { FrameFits f bytes.now words.old work.old report.old }
     ensures { FrameAnswered f bytes.now report.new result }
 {
-    let n = f.count;
-    let w = f.work;
-    let s = f.report;
-    wire::read_words(bytes, words, n);
-    entry::check(&words[0..n], f.budget, &mut work[0..w], &mut report[0..s])
+    wire::read_words(bytes, words, f.count);
+    entry::check(
+        &words[..f.count],
+        f.budget,
+        &mut work[..f.work],
+        &mut report[..f.report],
+    )
 }
 
-// The reply's bytes at the start of out; how many they are.
+// The reply's bytes at the start of out; how many they are. Of slices of any length, as it was promised, and so no struct has the five.
 fn answer(
     f: Frame,
     bytes: &[u8],
@@ -46,16 +48,9 @@ fn answer(
     ensures { Replayed f bytes.now out.new result }
 {
     let r = ask(f, bytes, words, work, report);
-    let n = replies::written(r);
-    wire::put_reply(out, r.code, r.at, r.len, r.units, &report[0..n]);
+    let n = r.written();
+    wire::put_reply(out, r.numbers(), &report[..n]);
     16 + 4 * n
-}
-
-// The least of two.
-fn least(a: usize, b: usize) -> usize
-    ensures { result ≡ min a b }
-{
-    if a < b { a } else { b }
 }
 
 // The frame in the first 16 bytes; no budget asks for more work than is lent, so that the rest of it is left out.
@@ -63,16 +58,11 @@ fn frame_at_start(bytes: &[u8], lent: usize) -> Frame
     requires { 16 ≤ length bytes.now }
     ensures { Framed bytes.now lent result }
 {
-    let budget = wire::word_at(bytes, 0);
-    let asked = wire::word_at(bytes, 1) as usize;
-    let report = wire::word_at(bytes, 2) as usize;
-    let count = wire::word_at(bytes, 3) as usize;
-    let work = least(asked, lent);
     Frame {
-        budget: budget,
-        work: work,
-        report: report,
-        count: count,
+        budget: wire::word_at(bytes, 0),
+        work: (wire::word_at(bytes, 1) as usize).min(lent),
+        report: wire::word_at(bytes, 2) as usize,
+        count: wire::word_at(bytes, 3) as usize,
     }
 }
 
@@ -80,8 +70,7 @@ fn frame_at_start(bytes: &[u8], lent: usize) -> Frame
 fn fill<R: Read>(from: &mut R, bytes: &mut [u8], n: usize) -> io::Result<bool>
     requires { n ≤ length bytes.old }
 {
-    let got = input::read_full(from, &mut bytes[0..n])?;
-    Ok(got == n)
+    Ok(input::read_full(from, &mut bytes[..n])? == n)
 }
 
 // One frame: false where the input ends, or a frame asks for more than is lent.
@@ -110,12 +99,11 @@ fn turn<R: Read, W: Write>(
         return Ok(false);
     }
     let z = answer(f, bytes, words, work, report, out);
-    to.write_all(&out[0..z])?;
+    to.write_all(&out[..z])?;
     Ok(true)
 }
 
-// Frame after frame. A proved loop has to end, and nothing says that the input does: the turns are counted down from a number that no run
-// uses up.
+// Frame after frame. A proved loop has to end, and nothing says that the input does: no run uses up so many turns.
 fn all<R: Read, W: Write>(
     from: &mut R,
     to: &mut W,
@@ -127,9 +115,10 @@ fn all<R: Read, W: Write>(
 ) -> io::Result<()>
     requires { LentByMain bytes.old words.old report.old out.old }
 {
-    let mut turns = u64::MAX;
-    while turns > 0 && turn(from, to, bytes, words, work, report, out)? {
-        turns -= 1;
+    for _ in 0..u64::MAX {
+        if !turn(from, to, bytes, words, work, report, out)? {
+            break;
+        }
     }
     Ok(())
 }

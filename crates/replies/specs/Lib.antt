@@ -1,2 +1,3 @@
 -- What a reply's four numbers are.
+pub mod Codes
 pub mod Numbers

@@ -1,26 +1,27 @@
 -- Nodes by their parts, and the tree by its nodes.
 use mathlib.Core.Path.{◌≡◌, refl, sym, ◌∙◌, ap}
-use mathlib.Core.Bool.{true, false}
 use mathlib.Core.List.{List, [], ◌∷◌, ◌++◌, append_assoc}
 use Prim.Native.Nat.{ℕ, ◌+◌, ◌-◌, ◌≤◌, ◌<◌}
 use native.Mathlib.Omega.{arith}
 use lib.ListN.{length, get_or}
+use Rattle.std.specs.Prelude.{Option, Some}
+use Rattle.std.specs.Bool.{then_some}
 use Rattle.definition.specs.Syntax.{Ty, ty_words, Ctx, ctx_words, Judgement, section, no_section, sections, ctx_section, ty_section, judgement_words, Trees, leaf, ◌&◌, children, tree_words, trees_words}
 use Rattle.layout.specs.Denotes.{Den, Run}
+use Rattle.layout.specs.Kinds.{kind_number}
 use Rattle.layout.specs.declared.Span.{Span}
 use Rattle.layout.proofs.Places.{expr_place}
 use Rattle.judging.specs.Asking.{Asks, as_infer, as_check, as_app, as_sub, as_inst_l, as_inst_r}
 use Rattle.judging.specs.Nodes.{NodesAt, no_nodes, a_node}
 use Rattle.judging.specs.declared.Ask.{Ask}
 use Rattle.judging.proofs.Nodes.{◌+++◌, nodes_join}
-use Rattle.writing.specs.Spelling.{◌Then◌, AfterCount}
+use Rattle.writing.specs.Spelling.{Just, ◌Then◌, AfterCount, Spelled}
 use Rattle.writing.specs.Types.{OfPart}
-use Rattle.writing.specs.Contexts.{OfEntries}
-use Rattle.writing.proofs.Spelling.{join, if_filled, if_unused}
+use Rattle.writing.specs.Contexts.{OfEntries, OfContext}
+use Rattle.writing.proofs.Spelling.{join, spelled_as, spelled_first, spelled_second}
 use Rattle.writing.proofs.After.{span}
-use Rattle.report.specs.declared.Filled.{Filled}
 use Rattle.report.specs.declared.Node.{Node}
-use Rattle.report.specs.Nodes.{fills, NodeRead, Three, NodeSaid, said_words, OfNode, OfNodes, output_at}
+use Rattle.report.specs.Nodes.{Filled, fills, NodeRead, Three, NodeSaid, said_words, OfNode, OfNodes, output_at}
 
 -- ## Sections
 
@@ -28,37 +29,40 @@ pub context_section : {q w : List ℕ} {t at n : ℕ} {Γ : Ctx} → Run q w t a
 unfolding ctx_section
 context_section {Γ = Γ} r = record { inner = ctx_words Γ; spelled = record { it = Γ; stands = r; is = refl }; is = refl }
 
-pub type_section : {q w : List ℕ} {t r : ℕ} {A : Ty} → Den q w t r A → AfterCount (OfPart q w t true r) (ty_section A)
+pub type_section : {q w : List ℕ} {t r : ℕ} {A : Ty} → Den q w t r A → AfterCount (OfPart q w t (Some r)) (ty_section A)
 unfolding ty_section
-type_section {A = A} d = record { inner = ty_words A; spelled = if_filled (ty_words A) (record { it = A; stands = d; is = refl }); is = refl }
+type_section {A = A} d = record { inner = ty_words A; spelled = record { it = A; stands = d; is = refl }; is = refl }
 
-pub unused_section : {q w : List ℕ} {t r : ℕ} → AfterCount (OfPart q w t false r) no_section
+pub unused_section : AfterCount (Just []) no_section
 unfolding no_section section
-unused_section = record { inner = []; spelled = if_unused; is = refl }
+unused_section = record { inner = []; spelled = record { is = refl }; is = refl }
 
 -- ## A node: three words and five sections
 
-abbrev pub Sections : List ℕ → List ℕ → ℕ → Span → ℕ → ℕ → Span → ℕ → Filled → List ℕ → Type 0
-Sections q w t g l r h ty f =
+abbrev pub Sections : List ℕ → List ℕ → ℕ → Span → Option ℕ → Option ℕ → Span → Option ℕ → List ℕ → Type 0
+Sections q w t g l r h c =
     AfterCount (OfEntries q w t g.at g.n)
-    Then AfterCount (OfPart q w t f.left l)
-    Then AfterCount (OfPart q w t f.right r)
+    Then AfterCount (OfPart q w t l)
+    Then AfterCount (OfPart q w t r)
     Then AfterCount (OfEntries q w t h.at h.n)
-    Then AfterCount (OfPart q w t f.result ty)
+    Then AfterCount (OfPart q w t c)
 
 abbrev pub NodeParts : List ℕ → List ℕ → ℕ → Node → List ℕ → Type 0
-NodeParts q w t n = Three n.rule n.kids n.place Then Sections q w t n.input n.left n.right n.output n.result n.filled
+NodeParts q w t n = Three n.rule n.kids n.place Then Sections q w t n.input n.left n.right n.output n.result
 
 -- what a judgement's node says after rule and number of children
+abbrev Filling : List ℕ → List ℕ → ℕ → Span → Ask → Span → ℕ → Filled → List ℕ → Type 0
+Filling q w t g a h ty f = Sections q w t g (then_some f.left a.left) (then_some f.right a.right) h (then_some f.result ty)
+
 record SaidOf (q w : List ℕ) (t : ℕ) (g : Span) (a : Ask) (h : Span) (ty : ℕ) (ws : List ℕ) : Type 0 where
   rest : List ℕ
-  parts : Sections q w t g a.left a.right h ty (fills a.kind) rest
+  parts : Filling q w t g a h ty (fills (kind_number a.kind)) rest
   is : ws ≡ a.ex ∷ rest
 
 module _ {q w : List ℕ} {t ty : ℕ} {g h : Span} {k : Ask} where
-  said_by : {p : ℕ} {a b c d e : List ℕ} (n : ℕ) → k.kind ≡ n → p ≡ k.ex → AfterCount (OfEntries q w t g.at g.n) a
-      → AfterCount (OfPart q w t (fills n).left k.left) b → AfterCount (OfPart q w t (fills n).right k.right) c
-      → AfterCount (OfEntries q w t h.at h.n) d → AfterCount (OfPart q w t (fills n).result ty) e → SaidOf q w t g k h ty (p ∷ sections a b c d e)
+  said_by : {p : ℕ} {a b c d e : List ℕ} (n : ℕ) → kind_number k.kind ≡ n → p ≡ k.ex → AfterCount (OfEntries q w t g.at g.n) a
+      → AfterCount (OfPart q w t (then_some (fills n).left k.left)) b → AfterCount (OfPart q w t (then_some (fills n).right k.right)) c
+      → AfterCount (OfEntries q w t h.at h.n) d → AfterCount (OfPart q w t (then_some (fills n).result ty)) e → SaidOf q w t g k h ty (p ∷ sections a b c d e)
   unfolding sections
   said_by {a = a} {b = b} {c = c} {d = d} {e = e} n f i x y z u v = record {
     rest = a ++ (b ++ (c ++ (d ++ e)));
@@ -69,12 +73,12 @@ module _ {q w : List ℕ} {t ty : ℕ} {g h : Span} {k : Ask} where
   said_of : {j : Judgement} {C : Ty} {Δ : Ctx} → Asks q w t g k j → Run q w t h.at h.n Δ → Den q w t ty C
       → SaidOf q w t g k h ty (judgement_words j C Δ)
   unfolding judgement_words
-  said_of (as_infer f r x) o c = said_by 1 f (expr_place x) (context_section r) unused_section unused_section (context_section o) (type_section c)
-  said_of (as_check f r x d) o c = said_by 2 f (expr_place x) (context_section r) unused_section (type_section d) (context_section o) unused_section
-  said_of (as_app f r x d) o c = said_by 3 f (expr_place x) (context_section r) (type_section d) unused_section (context_section o) (type_section c)
-  said_of (as_sub f z r d e) o c = said_by 4 f (sym z) (context_section r) (type_section d) (type_section e) (context_section o) unused_section
-  said_of (as_inst_l f z r d e) o c = said_by 5 f (sym z) (context_section r) (type_section d) (type_section e) (context_section o) unused_section
-  said_of (as_inst_r f z r d e) o c = said_by 6 f (sym z) (context_section r) (type_section d) (type_section e) (context_section o) unused_section
+  said_of (as_infer f r x) o c = said_by 1 (ap kind_number f) (expr_place x) (context_section r) unused_section unused_section (context_section o) (type_section c)
+  said_of (as_check f r x d) o c = said_by 2 (ap kind_number f) (expr_place x) (context_section r) unused_section (type_section d) (context_section o) unused_section
+  said_of (as_app f r x d) o c = said_by 3 (ap kind_number f) (expr_place x) (context_section r) (type_section d) unused_section (context_section o) (type_section c)
+  said_of (as_sub f z r d e) o c = said_by 4 (ap kind_number f) (sym z) (context_section r) (type_section d) (type_section e) (context_section o) unused_section
+  said_of (as_inst_l f z r d e) o c = said_by 5 (ap kind_number f) (sym z) (context_section r) (type_section d) (type_section e) (context_section o) unused_section
+  said_of (as_inst_r f z r d e) o c = said_by 6 (ap kind_number f) (sym z) (context_section r) (type_section d) (type_section e) (context_section o) unused_section
 
 pub node_parts : {q w : List ℕ} {t m : ℕ} {n : Node} → NodeRead w m n → (ws : List ℕ) → OfNode q w t m ws → NodeParts q w t n ws
 node_parts {q} {w} {t} {m} {n} y ws x =
@@ -83,9 +87,30 @@ node_parts {q} {w} {t} {m} {n} y ws x =
     let s = said_of a.asks a.out a.den in
     let e : ws ≡ n.rule ∷ n.kids ∷ n.place ∷ s.rest =
     x.is ∙ rw (s.is, y.rule, y.kids, y.place, k.rule_is, k.kids_is, k.place_is) in
-    let p : Sections q w t n.input n.left n.right n.output n.result n.filled s.rest =
-    rw (y.in_at, y.in_n, y.left, y.right, y.out_at, y.out_n, y.result, y.filled, k.in_at, k.in_n, k.left_is, k.right_is, k.out_at, k.out_n, k.ty_is, k.kind_is) s.parts in
+    let p : Sections q w t n.input n.left n.right n.output n.result s.rest =
+    rw (y.in_at, y.in_n, y.left, y.right, y.out_at, y.out_n, y.result, k.in_at, k.in_n, k.left_is, k.right_is, k.out_at, k.out_n, k.ty_is, k.kind_is) s.parts in
     rw e (join (n.rule ∷ n.kids ∷ n.place ∷ []) s.rest (record { is = refl }) p)
+
+pub record Parts (q w : List ℕ) (t : ℕ) (n : Node) : Type 0 where
+  pub input : Spelled q w t (AfterCount (OfContext q w t n.input))
+  pub left : Spelled q w t (AfterCount (OfPart q w t n.left))
+  pub right : Spelled q w t (AfterCount (OfPart q w t n.right))
+  pub output : Spelled q w t (AfterCount (OfContext q w t n.output))
+  pub result : Spelled q w t (AfterCount (OfPart q w t n.result))
+
+pub node_spelled : {q w : List ℕ} {t m : ℕ} {n : Node} → NodeRead w m n → Spelled q w t (OfNode q w t m) → Parts q w t n
+node_spelled y x =
+    let from_input = spelled_second (spelled_as (node_parts y) x) in
+    let from_left = spelled_second from_input in
+    let from_right = spelled_second from_left in
+    let from_output = spelled_second from_right in
+    record {
+      input = spelled_first from_input;
+      left = spelled_first from_left;
+      right = spelled_first from_right;
+      output = spelled_first from_output;
+      result = spelled_second from_output;
+    }
 
 pub output_read : {w : List ℕ} {m : ℕ} {n : Node} → NodeRead w m n → n.output ≡ output_at w m
 output_read {w} {m} {n} y = ap (λ (i : ℕ). span i n.output.n) y.out_at ∙ ap (λ (i : ℕ). span (get_or w (m + 7) 0) i) y.out_n

@@ -1,9 +1,9 @@
 -- For callers: from how a run ended to what is reported.
 use mathlib.Core.Path.{refl}
-use mathlib.Core.List.{List}
-use Prim.Native.Nat.{ℕ, ◌≤◌}
+use Prim.Native.Nat.{◌≤◌}
 use native.Mathlib.Omega.{arith}
 use lib.ListN.{length}
+use Rattle.std.specs.Prelude.{List, Result as Outcome, ℕ}
 use Rattle.definition.specs.Syntax.{Ty, Ctx, Tree, leaf, ◌&◌, TypeError}
 use Rattle.definition.specs.Rules.{Result}
 use Rattle.definition.specs.Reply.{error_words, result_words}
@@ -13,7 +13,7 @@ use Rattle.judging.specs.Ending.{Landed, Failed}
 use Rattle.judging.specs.declared.Answer.{Answer}
 use Rattle.judging.specs.declared.Bad.{Bad}
 use Rattle.writing.specs.Spelling.{Ground, Spelled}
-use Rattle.report.specs.declared.Report.{Report}
+use Rattle.report.specs.declared.NoRoom.{NoRoom}
 use Rattle.report.specs.Reports.{ResultAt, OfResult, OfError, Reported, Reports}
 
 -- ## From how a run ended
@@ -29,12 +29,12 @@ module _ {q w : List ℕ} {a : Answer} {high : ℕ} {r : Result} (kind : ℕ) (x
   pub result_spelled : Ground q w a.st.top → Spelled q w a.st.top (OfResult q w kind a high)
   result_spelled g = record { ground = g; words = result_words kind r; says = record { it = r; stands = x; is = refl } }
 
-  pub result_reported : {s s' : List ℕ} {z : Report} → Reports (OfResult q w kind a high) s s' z → Reported s s' (result_words kind r) z
+  pub result_reported : {s s' : List ℕ} {z : Outcome ℕ NoRoom} → Reports (OfResult q w kind a high) s s' z → Reported s s' (result_words kind r) z
   result_reported k = k.is (result_words kind r) (record { it = r; stands = x; is = refl })
 
 module _ {q w : List ℕ} {b : Bad} {e : TypeError} {l : ℕ} (x : Failed q w b e l) where
   pub error_spelled : Ground q w b.st.top → Spelled q w b.st.top (OfError q w b)
   error_spelled g = record { ground = g; words = error_words e.shown; says = record { it = e.shown; stands = x.shown; is = refl } }
 
-  pub error_reported : {s s' : List ℕ} {z : Report} → Reports (OfError q w b) s s' z → Reported s s' (error_words e.shown) z
+  pub error_reported : {s s' : List ℕ} {z : Outcome ℕ NoRoom} → Reports (OfError q w b) s s' z → Reported s s' (error_words e.shown) z
   error_reported k = k.is (error_words e.shown) (record { it = e.shown; stands = x.shown; is = refl })

@@ -17,13 +17,13 @@ module _ {q w : List ℕ} {t m : ℕ} {n : Node} {s : List ℕ} {p : ℕ} {last 
     (can : Writable q w t (OfNode q w t m) s p) (stood : Stands q w t s p last) where
   -- the sections that have a type, and those of the two contexts
   abbrev LeftWords : List ℕ → Type 0
-  LeftWords = AfterCount (OfPart q w t n.filled.left n.left)
+  LeftWords = AfterCount (OfPart q w t n.left)
 
   abbrev RightWords : List ℕ → Type 0
-  RightWords = AfterCount (OfPart q w t n.filled.right n.right)
+  RightWords = AfterCount (OfPart q w t n.right)
 
   abbrev ResultWords : List ℕ → Type 0
-  ResultWords = AfterCount (OfPart q w t n.filled.result n.result)
+  ResultWords = AfterCount (OfPart q w t n.result)
 
   abbrev Input : List ℕ → Type 0
   Input = AfterCount (OfContext q w t n.input)

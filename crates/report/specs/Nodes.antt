@@ -1,16 +1,21 @@
 -- The nodes of the tree by their words.
-use Rattle.std.specs.Prelude.{◌≡◌, ◌||◌, not, List, [], ◌∷◌, ℕ, ◌+◌, ◌≤◌, ◌<◌, ◌^◌, eqb, length, get_or}
+use Rattle.std.specs.Prelude.{◌≡◌, Bool, ◌||◌, not, List, [], ◌∷◌, ℕ, ◌+◌, ◌≤◌, ◌<◌, ◌^◌, eqb, length, get_or}
+use Rattle.std.specs.Bool.{then_some}
 use Rattle.definition.specs.Syntax.{Ty, Ctx, Judgement, Rule, rule_number, judgement_words, Trees, trees_words}
 use Rattle.layout.specs.declared.Span.{Span}
 use Rattle.judging.specs.Nodes.{NodeAt, NodesAt}
 use Rattle.writing.specs.Spelling.{Spells, Just, Long, Writes}
 use Rattle.writing.specs.After.{Measures, Stands}
-use Rattle.report.specs.declared.Filled.{Filled}
 use Rattle.report.specs.declared.Node.{Node}
 use Rattle.report.specs.declared.Measured.{Measured}
 use Rattle.report.specs.declared.Wrote.{Wrote}
 
 -- which type sections are filled, by the judgement's kind
+pub record Filled : Type 0 where
+  pub left : Bool
+  pub right : Bool
+  pub result : Bool
+
 abbrev pub fills : ℕ → Filled
 fills k = record { left = not (eqb k 1 || eqb k 2); right = not (eqb k 1 || eqb k 3); result = eqb k 1 || eqb k 3 }
 
@@ -21,12 +26,11 @@ pub record NodeRead (w : List ℕ) (m : ℕ) (n : Node) : Type 0 where
   pub place : n.place ≡ get_or w (m + 2) 0
   pub in_at : n.input.at ≡ get_or w (m + 3) 0
   pub in_n : n.input.n ≡ get_or w (m + 4) 0
-  pub left : n.left ≡ get_or w (m + 5) 0
-  pub right : n.right ≡ get_or w (m + 6) 0
+  pub left : n.left ≡ then_some (fills (get_or w (m + 10) 0)).left (get_or w (m + 5) 0)
+  pub right : n.right ≡ then_some (fills (get_or w (m + 10) 0)).right (get_or w (m + 6) 0)
   pub out_at : n.output.at ≡ get_or w (m + 7) 0
   pub out_n : n.output.n ≡ get_or w (m + 8) 0
-  pub result : n.result ≡ get_or w (m + 9) 0
-  pub filled : n.filled ≡ fills (get_or w (m + 10) 0)
+  pub result : n.result ≡ then_some (fills (get_or w (m + 10) 0)).result (get_or w (m + 9) 0)
   pub small : (n.rule < 2 ^ 32) × (n.kids < 2 ^ 32) × (n.place < 2 ^ 32)
 
 -- three words and their room

@@ -1,5 +1,5 @@
 -- Results and type errors by their words, and what becomes of a report.
-use Rattle.std.specs.Prelude.{◌≡◌, Bool, true, false, List, ◌++◌, ℕ, ◌≤◌, ◌<◌, min, length, drop}
+use Rattle.std.specs.Prelude.{◌≡◌, Option, Some, None, Result as Outcome, Ok, Err, List, ◌++◌, ℕ, ◌≤◌, ◌<◌, min, length, drop}
 use Rattle.definition.specs.Syntax.{leaf, ◌&◌}
 use Rattle.definition.specs.Rules.{Result}
 use Rattle.definition.specs.Reply.{most, error_words, result_words}
@@ -13,10 +13,7 @@ use Rattle.judging.specs.declared.Shown.TheVariants.{NoType, OneType, TwoTypes}
 use Rattle.writing.specs.Spelling.{Spells, ◌Then◌, AfterCount}
 use Rattle.writing.specs.Types.{OfPart}
 use Rattle.writing.specs.Contexts.{OfContext}
-use Rattle.report.specs.declared.Slot.{Slot}
-use Rattle.report.specs.declared.Slots.{Slots}
-use Rattle.report.specs.declared.Report.{Report}
-use Rattle.report.specs.declared.Report.TheVariants.{Written, NoRoom}
+use Rattle.report.specs.declared.NoRoom.{NoRoom}
 use Rattle.report.specs.Nodes.{OfNodes}
 
 -- ## A result
@@ -32,11 +29,11 @@ abbrev pub OfResult : List ℕ → List ℕ → ℕ → Answer → ℕ → List 
 OfResult q w kind a high = Spells (ResultAt q w a high) (result_words kind)
 
 -- its three sections
-abbrev pub ResultParts : List ℕ → List ℕ → Bool → Answer → ℕ → List ℕ → Type 0
-ResultParts q w gives a high =
-    AfterCount (OfPart q w a.st.top gives a.ty)
-    Then AfterCount (OfContext q w a.st.top a.g)
-    Then AfterCount (OfNodes q w a.st.top a.st.low high)
+abbrev pub ResultParts : List ℕ → List ℕ → ℕ → Option ℕ → Answer → ℕ → List ℕ → Type 0
+ResultParts q w t ty a high =
+    AfterCount (OfPart q w t ty)
+    Then AfterCount (OfContext q w t a.g)
+    Then AfterCount (OfNodes q w t a.st.low high)
 
 -- ## A type error: the types that it shows
 
@@ -44,29 +41,26 @@ abbrev pub OfError : List ℕ → List ℕ → Bad → List ℕ → Type 0
 OfError q w b = Spells (ShownAt q w b.st.top b.shown) error_words
 
 -- what fills its two sections
-abbrev pub slots_of : Shown → Slots
-slots_of NoType = ((false, 0), (false, 0))
-slots_of (OneType l) = ((true, l), (false, 0))
-slots_of (TwoTypes l r) = ((true, l), (true, r))
-
-abbrev pub OfSlot : List ℕ → List ℕ → ℕ → Slot → List ℕ → Type 0
-OfSlot q w t s = AfterCount (OfPart q w t s.0 s.1)
+abbrev pub slots_of : Shown → Option ℕ × Option ℕ
+slots_of NoType = (None, None)
+slots_of (OneType l) = (Some l, None)
+slots_of (TwoTypes l r) = (Some l, Some r)
 
 -- the two sections
-abbrev pub ErrorParts : List ℕ → List ℕ → ℕ → Slots → List ℕ → Type 0
-ErrorParts q w t s = OfSlot q w t s.0 Then OfSlot q w t s.1
+abbrev pub ErrorParts : List ℕ → List ℕ → ℕ → Option ℕ × Option ℕ → List ℕ → Type 0
+ErrorParts q w t s = AfterCount (OfPart q w t s.0) Then AfterCount (OfPart q w t s.1)
 
--- ## What becomes of a report
+-- ## What becomes of a report: its length, or the one that is needed
 
 -- by its length, which stops past the longest
-pub data ByLength (n room : ℕ) : Report → Type 0 where
-  fits : n ≤ most → n ≤ room → ByLength n room (Written n)
-  too_long : {m : ℕ} → (n ≤ most → room < n) → m ≡ min n most → ByLength n room (NoRoom m)
+pub data ByLength (n room : ℕ) : Outcome ℕ NoRoom → Type 0 where
+  fits : n ≤ most → n ≤ room → ByLength n room (Ok n)
+  too_long : {e : NoRoom} → (n ≤ most → room < n) → e.0 ≡ min n most → ByLength n room (Err e)
 
 -- the words ws are written, and the slice past them is unchanged; or nothing is
-pub data Reported (s s' ws : List ℕ) : Report → Type 0 where
-  reported : {n : ℕ} → length ws ≤ length s → length ws ≤ most → n ≡ length ws → s' ≡ ws ++ drop (length ws) s → Reported s s' ws (Written n)
-  no_room : {n : ℕ} → (length ws ≤ length s → length ws ≤ most → ⊥) → n ≡ min (length ws) most → s' ≡ s → Reported s s' ws (NoRoom n)
+pub data Reported (s s' ws : List ℕ) : Outcome ℕ NoRoom → Type 0 where
+  reported : {n : ℕ} → length ws ≤ length s → length ws ≤ most → n ≡ length ws → s' ≡ ws ++ drop (length ws) s → Reported s s' ws (Ok n)
+  no_room : {e : NoRoom} → (length ws ≤ length s → length ws ≤ most → ⊥) → e.0 ≡ min (length ws) most → s' ≡ s → Reported s s' ws (Err e)
 
-pub record Reports (S : List ℕ → Type 0) (s s' : List ℕ) (z : Report) : Type 0 where
+pub record Reports (S : List ℕ → Type 0) (s s' : List ℕ) (z : Outcome ℕ NoRoom) : Type 0 where
   pub is : (ws : List ℕ) → S ws → Reported s s' ws z

@@ -3,105 +3,67 @@
 
 ghost use Rattle.std.specs.Prelude.{◌≡◌, ◌+◌, ◌≤◌, ◌^◌, length};
 ghost use Rattle.definition.specs.Reply.{gives_type};
+ghost use Rattle.layout.specs.Kinds.{kind_number};
 ghost use Rattle.writing.specs.Spelling.{AfterCount, Long, Spelled, Writable, Writes};
 ghost use Rattle.writing.specs.After.{Measures, Stands};
-ghost use Rattle.report.specs.Nodes.{fills, NodeRead, WordsFit, Three, OfNode, OfNodes, NodeLong, WritesNode};
+ghost use Rattle.report.specs.Nodes.{NodeRead, WordsFit, Three, OfNode, OfNodes, NodeLong, WritesNode};
 ghost use Rattle.report.specs.Reports.{OfResult, ResultParts, OfError, slots_of, ErrorParts, ByLength, Reports};
 
-use judging::{Answer, Bad, Shown};
-use layout::{MOST, Span, put, word};
+use judging::{Answer, Bad, NODE, Shown};
+use layout::{Kind, MOST, Span, put, word};
+use types::Store;
 use writing::{
     Known, Standing, context_length, length_after, section_length, sum, write_after, write_context,
     write_section,
 };
 
-// What became of a report: its length; or the slice is too short for it, and the length that is needed (at most MOST).
+// The slice is too short for a report: the length that is needed (at most MOST).
 #[derive(Clone, Copy)]
-pub enum Report {
-    Written(usize),
-    NoRoom(usize),
-}
+pub struct NoRoom(pub usize);
 
-// Which of a node's type sections are filled.
-#[derive(Clone, Copy)]
-struct Filled {
-    left: bool,
-    right: bool,
-    result: bool,
-}
-
-// A node as its words in work give it.
+// A node as its words in work give it: a type where its kind has one.
 #[derive(Clone, Copy)]
 struct Node {
     rule: usize,
     kids: usize,
     place: usize,
     input: Span,
-    left: usize,
-    right: usize,
+    left: Option<usize>,
+    right: Option<usize>,
     output: Span,
-    result: usize,
-    filled: Filled,
+    result: Option<usize>,
 }
 
-// As in the question of the judgement: 1 infer, 2 check, 3 infer_app, 4 subtype, 5 inst_l, 6 inst_r; the result only for 1 and 3.
-fn fills(kind: usize) -> Filled
-    ensures { result ≡ fills kind }
-{
-    match kind {
-        1 => Filled {
-            left: false,
-            right: false,
-            result: true,
-        },
-        2 => Filled {
-            left: false,
-            right: true,
-            result: false,
-        },
-        3 => Filled {
-            left: true,
-            right: false,
-            result: true,
-        },
-        _ => Filled {
-            left: true,
-            right: true,
-            result: false,
-        },
-    }
-}
-
-// Reads the node at m.
+// Reads the node at m. Its kind, a word that is asked here alone and so by its number, is as in the question of the judgement: 1 infer,
+// 2 check, 3 infer_app, 4 subtype, 5 inst_l, 6 inst_r; a result only for 1 and 3.
 fn node_at(work: &[u32], m: usize) -> Node
     requires { m + 12 ≤ length work.now }
     ensures { NodeRead work.now m result }
 {
-    let rule = word(work, m);
-    let kids = word(work, m + 1);
-    let place = word(work, m + 2);
-    let in_at = word(work, m + 3);
-    let in_n = word(work, m + 4);
-    let left = word(work, m + 5);
-    let right = word(work, m + 6);
-    let out_at = word(work, m + 7);
-    let out_n = word(work, m + 8);
-    let result = word(work, m + 9);
-    let kind = word(work, m + 10);
-    let f = fills(kind);
+    let l = word(work, m + 5);
+    let r = word(work, m + 6);
+    let ty = word(work, m + 9);
+    let (left, right, result) = match word(work, m + 10) {
+        1 => (None, None, Some(ty)),
+        2 => (None, Some(r), None),
+        3 => (Some(l), None, Some(ty)),
+        _ => (Some(l), Some(r), None),
+    };
     Node {
-        rule: rule,
-        kids: kids,
-        place: place,
-        input: Span { at: in_at, n: in_n },
-        left: left,
-        right: right,
-        output: Span {
-            at: out_at,
-            n: out_n,
+        rule: word(work, m),
+        kids: word(work, m + 1),
+        place: word(work, m + 2),
+        input: Span {
+            at: word(work, m + 3),
+            n: word(work, m + 4),
         },
-        result: result,
-        filled: f,
+        left,
+        right,
+        output: Span {
+            at: word(work, m + 7),
+            n: word(work, m + 8),
+        },
+        result,
     }
 }
 
@@ -113,26 +75,19 @@ struct Measured {
 }
 
 // How long the node at m is, after another context.
-fn node_length(q: &[u32], work: &[u32], top: usize, m: usize, last: Known) -> Measured
-    requires { (Spelled q.now work.now top (OfNode q.now work.now top m)) × Measures q.now work.now top last.g last }
-    ensures { NodeLong q.now work.now top m result }
+fn node_length(store: Store, m: usize, last: Known) -> Measured
+    requires { (Spelled store.q.now store.work.now store.top (OfNode store.q.now store.work.now store.top m)) × Measures store.q.now store.work.now store.top last.g last }
+    ensures { NodeLong store.entry.q.now store.entry.work.now store.entry.top m result }
 {
-    let n = node_at(work, m);
-    let f = n.filled;
-    let input = length_after(q, work, top, n.input, last);
-    let left = section_length(q, work, top, f.left, n.left);
-    let right = section_length(q, work, top, f.right, n.right);
-    let output = length_after(q, work, top, n.output, input);
-    let result = section_length(q, work, top, f.result, n.result);
-    let end = sum(output.length, result);
-    let types = sum(right, end);
-    let rest = sum(left, types);
-    let sections = sum(input.length, rest);
-    let length = sum(3, sections);
-    Measured {
-        length: length,
-        output: output,
-    }
+    let n = node_at(store.work, m);
+    let input = length_after(store, n.input, last);
+    let left = section_length(store, n.left);
+    let right = section_length(store, n.right);
+    let output = length_after(store, n.output, input);
+    let result = section_length(store, n.result);
+    let types = sum(left, sum(right, sum(output.length, result)));
+    let length = sum(3, sum(input.length, types));
+    Measured { length, output }
 }
 
 // Writes three words.
@@ -140,13 +95,10 @@ fn write_three(report: &mut [u32], at: usize, a: usize, b: usize, c: usize) -> u
     requires { WordsFit report.old at a b c }
     ensures { Writes (Three a b c) report.old report.new at result }
 {
-    let second = at + 1;
-    let third = at + 2;
-    let next = at + 3;
     put(report, at, a);
-    put(report, second, b);
-    put(report, third, c);
-    next
+    put(report, at + 1, b);
+    put(report, at + 2, c);
+    at + 3
 }
 
 // Where a node ends that was written, and where its output context stands.
@@ -157,50 +109,32 @@ struct Wrote {
 }
 
 // Writes the node at m, after another context: rule, number of children, place, five sections.
-fn write_node<'a>(
-    q: &'a [u32],
-    work: &'a [u32],
-    top: usize,
-    m: usize,
-    report: &mut [u32],
-    at: usize,
-    last: Standing,
-) -> Wrote
-    requires { (Writable q.now work.now top (OfNode q.now work.now top m) report.old at) × Stands q.now work.now top report.old at last }
-    ensures { WritesNode q.now work.now top m report.old report.new at result }
+fn write_node(store: Store, m: usize, report: &mut [u32], at: usize, last: Standing) -> Wrote
+    requires { (Writable store.q.now store.work.now store.top (OfNode store.q.now store.work.now store.top m) report.old at) × Stands store.q.now store.work.now store.top report.old at last }
+    ensures { WritesNode store.entry.q.now store.entry.work.now store.entry.top m report.old report.new at result }
 {
-    let n = node_at(work, m);
-    let f = n.filled;
+    let n = node_at(store.work, m);
     let first = write_three(report, at, n.rule, n.kids, n.place);
-    let input = write_after(q, work, top, n.input, report, first, last);
-    let right = write_section(q, work, top, f.left, n.left, report, input.end);
-    let next = write_section(q, work, top, f.right, n.right, report, right);
-    let output = write_after(q, work, top, n.output, report, next, input);
-    let end = write_section(q, work, top, f.result, n.result, report, output.end);
-    Wrote {
-        end: end,
-        output: output,
-    }
+    let input = write_after(store, n.input, report, first, last);
+    let right = write_section(store, n.left, report, input.end);
+    let next = write_section(store, n.right, report, right);
+    let output = write_after(store, n.output, report, next, input);
+    let end = write_section(store, n.result, report, output.end);
+    Wrote { end, output }
 }
 
 // How long the tree's section is, whose nodes stand from high down to low, after another context.
-fn tree_length(
-    q: &[u32],
-    work: &[u32],
-    top: usize,
-    low: usize,
-    high: usize,
-    context: Known,
-) -> usize
-    requires { (Spelled q.now work.now top (AfterCount (OfNodes q.now work.now top low high))) × Measures q.now work.now top context.g context }
-    ensures { Long (2 ^ 32) (AfterCount (OfNodes q.now work.now top low high)) result }
+// A `for` would count the nodes by a division, and find each by the count; the places themselves fall by NODE.
+fn tree_length(store: Store, low: usize, high: usize, context: Known) -> usize
+    requires { (Spelled store.q.now store.work.now store.top (AfterCount (OfNodes store.q.now store.work.now store.top low high))) × Measures store.q.now store.work.now store.top context.g context }
+    ensures { Long (2 ^ 32) (AfterCount (OfNodes store.entry.q.now store.entry.work.now store.entry.top low high)) result }
 {
-    let mut total: usize = 0;
+    let mut total = 0;
     let mut m = high;
     let mut last = context;
     while low < m {
-        m -= judging::NODE;
-        let z = node_length(q, work, top, m, last);
+        m -= NODE;
+        let z = node_length(store, m, last);
         total = sum(total, z.length);
         last = z.output;
     }
@@ -208,179 +142,140 @@ fn tree_length(
 }
 
 // Writes the tree's section after another context: its nodes, parent first, and before them the count of their words.
-fn write_tree<'a>(
-    q: &'a [u32],
-    work: &'a [u32],
-    top: usize,
+fn write_tree(
+    store: Store,
     low: usize,
     high: usize,
     report: &mut [u32],
     at: usize,
     context: Standing,
 ) -> usize
-    requires { (Writable q.now work.now top (AfterCount (OfNodes q.now work.now top low high)) report.old at) × Stands q.now work.now top report.old at context }
-    ensures { Writes (AfterCount (OfNodes q.now work.now top low high)) report.old report.new at result }
+    requires { (Writable store.q.now store.work.now store.top (AfterCount (OfNodes store.q.now store.work.now store.top low high)) report.old at) × Stands store.q.now store.work.now store.top report.old at context }
+    ensures { Writes (AfterCount (OfNodes store.entry.q.now store.entry.work.now store.entry.top low high)) report.old report.new at result }
 {
     let first = at + 1;
     let mut next = first;
     let mut m = high;
     let mut last = context;
+    // As in tree_length.
     while low < m {
-        m -= judging::NODE;
-        let z = write_node(q, work, top, m, report, next, last);
+        m -= NODE;
+        let z = write_node(store, m, report, next, last);
         next = z.end;
         last = z.output;
     }
-    let count = next - first;
-    put(report, at, count);
+    put(report, at, next - first);
     next
 }
 
 // Whether a question of this kind is answered by a type: infer, infer_app, and infer with its type resolved.
-fn gives_type(kind: usize) -> bool
-    ensures { result ≡ gives_type kind }
+fn gives_type(kind: Kind) -> bool
+    ensures { result ≡ gives_type (kind_number kind) }
 {
-    match kind {
-        1 => true,
-        3 => true,
-        7 => true,
-        _ => false,
-    }
+    matches!(kind, Kind::Infer | Kind::InferApp | Kind::Resolve)
 }
 
 // How long a result is: type, context, tree.
-fn result_length(q: &[u32], work: &[u32], gives: bool, a: Answer, high: usize) -> usize
-    requires { Spelled q.now work.now a.st.top (ResultParts q.now work.now gives a high) }
-    ensures { Long (2 ^ 32) (ResultParts q.now work.now gives a high) result }
+fn result_length(store: Store, ty: Option<usize>, a: Answer, high: usize) -> usize
+    requires { Spelled store.q.now store.work.now store.top (ResultParts store.q.now store.work.now store.top ty a high) }
+    ensures { Long (2 ^ 32) (ResultParts store.entry.q.now store.entry.work.now store.entry.top ty a high) result }
 {
-    let st = a.st;
-    let g = a.g;
-    let ty = section_length(q, work, st.top, gives, a.ty);
-    let context = context_length(q, work, st.top, g);
-    let known = Known {
-        g: g,
-        length: context,
-    };
-    let tree = tree_length(q, work, st.top, st.low, high, known);
-    let rest = sum(context, tree);
-    sum(ty, rest)
+    let first = section_length(store, ty);
+    let length = context_length(store, a.g);
+    let tree = tree_length(store, a.st.low, high, Known { g: a.g, length });
+    sum(first, sum(length, tree))
 }
 
 // Writes a result.
-fn write_result<'a>(
-    q: &'a [u32],
-    work: &'a [u32],
-    gives: bool,
+fn write_result(
+    store: Store,
+    ty: Option<usize>,
     a: Answer,
     high: usize,
     report: &mut [u32],
 ) -> usize
-    requires { Writable q.now work.now a.st.top (ResultParts q.now work.now gives a high) report.old 0 }
-    ensures { Writes (ResultParts q.now work.now gives a high) report.old report.new 0 result }
+    requires { Writable store.q.now store.work.now store.top (ResultParts store.q.now store.work.now store.top ty a high) report.old 0 }
+    ensures { Writes (ResultParts store.entry.q.now store.entry.work.now store.entry.top ty a high) report.old report.new 0 result }
 {
-    let st = a.st;
-    let g = a.g;
-    let context = write_section(q, work, st.top, gives, a.ty, report, 0);
-    let tree = write_context(q, work, st.top, g, report, context);
-    let standing = Standing {
-        g: g,
-        at: context,
-        end: tree,
-    };
-    write_tree(q, work, st.top, st.low, high, report, tree, standing)
+    let at = write_section(store, ty, report, 0);
+    let end = write_context(store, a.g, report, at);
+    let context = Standing { g: a.g, at, end };
+    write_tree(store, a.st.low, high, report, end, context)
 }
 
-// A section for a type: whether it is filled, and by which type.
-#[derive(Clone, Copy)]
-struct Slot(bool, usize);
-
-// A type error's two sections.
-#[derive(Clone, Copy)]
-struct Slots(Slot, Slot);
+// What fills a type error's two sections.
+type Slots = (Option<usize>, Option<usize>);
 
 // Each type that is shown fills a section, the first one first.
 fn slots_of(shown: Shown) -> Slots
     ensures { result ≡ slots_of shown }
 {
-    let none = Slot(false, 0);
     match shown {
-        Shown::NoType => Slots(none, none),
-        Shown::OneType(a) => Slots(Slot(true, a), none),
-        Shown::TwoTypes(a, b) => Slots(Slot(true, a), Slot(true, b)),
+        Shown::NoType => (None, None),
+        Shown::OneType(a) => (Some(a), None),
+        Shown::TwoTypes(a, b) => (Some(a), Some(b)),
     }
 }
 
 // How long a type error's report is: its two sections.
-fn error_length(q: &[u32], work: &[u32], top: usize, s: Slots) -> usize
-    requires { Spelled q.now work.now top (ErrorParts q.now work.now top s) }
-    ensures { Long (2 ^ 32) (ErrorParts q.now work.now top s) result }
+fn error_length(store: Store, s: Slots) -> usize
+    requires { Spelled store.q.now store.work.now store.top (ErrorParts store.q.now store.work.now store.top s) }
+    ensures { Long (2 ^ 32) (ErrorParts store.entry.q.now store.entry.work.now store.entry.top s) result }
 {
-    let a = s.0;
-    let b = s.1;
-    let first = section_length(q, work, top, a.0, a.1);
-    let second = section_length(q, work, top, b.0, b.1);
-    sum(first, second)
+    sum(section_length(store, s.0), section_length(store, s.1))
 }
 
 // Writes a type error's report.
-fn write_error<'a>(q: &'a [u32], work: &'a [u32], top: usize, s: Slots, report: &mut [u32]) -> usize
-    requires { Writable q.now work.now top (ErrorParts q.now work.now top s) report.old 0 }
-    ensures { Writes (ErrorParts q.now work.now top s) report.old report.new 0 result }
+fn write_error(store: Store, s: Slots, report: &mut [u32]) -> usize
+    requires { Writable store.q.now store.work.now store.top (ErrorParts store.q.now store.work.now store.top s) report.old 0 }
+    ensures { Writes (ErrorParts store.entry.q.now store.entry.work.now store.entry.top s) report.old report.new 0 result }
 {
-    let a = s.0;
-    let b = s.1;
-    let second = write_section(q, work, top, a.0, a.1, report, 0);
-    write_section(q, work, top, b.0, b.1, report, second)
+    let second = write_section(store, s.0, report, 0);
+    write_section(store, s.1, report, second)
 }
 
 // What becomes of a report of length n in a slice of so many words.
-fn outcome(n: usize, room: usize) -> Report
+fn outcome(n: usize, room: usize) -> Result<usize, NoRoom>
     ensures { ByLength n room result }
 {
     if MOST < n {
-        return Report::NoRoom(MOST);
+        return Err(NoRoom(MOST));
     }
     if room < n {
-        return Report::NoRoom(n);
+        return Err(NoRoom(n));
     }
-    Report::Written(n)
+    Ok(n)
 }
 
-// Reports an answer whose nodes stand from high down: three sections, or that there is no room for them.
-pub fn report_result<'a>(
-    q: &'a [u32],
-    work: &'a [u32],
-    kind: usize,
+// Reports an answer whose nodes stand from high down: three sections, and how long they are; or that there is no room for them.
+pub fn report_result(
+    q: &[u32],
+    work: &[u32],
+    kind: Kind,
     a: Answer,
     high: usize,
     report: &mut [u32],
-) -> Report
-    requires { Spelled q.now work.now a.st.top (OfResult q.now work.now kind a high) }
-    ensures { Reports (OfResult q.now work.now kind a high) report.old report.new result }
+) -> Result<usize, NoRoom>
+    requires { Spelled q.now work.now a.st.top (OfResult q.now work.now (kind_number kind) a high) }
+    ensures { Reports (OfResult q.now work.now (kind_number kind) a high) report.old report.new result }
 {
-    let gives = gives_type(kind);
-    let n = result_length(q, work, gives, a, high);
-    let z = outcome(n, report.len());
-    let Report::Written(_) = z else {
-        return z;
-    };
-    write_result(q, work, gives, a, high, report);
-    z
+    let top = a.st.top;
+    let store = Store { q, work, top };
+    let ty = gives_type(kind).then_some(a.ty);
+    let n = outcome(result_length(store, ty, a, high), report.len())?;
+    write_result(store, ty, a, high, report);
+    Ok(n)
 }
 
-// Reports a type error: two sections, or that there is no room for them.
-pub fn report_error<'a>(q: &'a [u32], work: &'a [u32], b: Bad, report: &mut [u32]) -> Report
+// Reports a type error: two sections, and how long they are; or that there is no room for them.
+pub fn report_error(q: &[u32], work: &[u32], b: Bad, report: &mut [u32]) -> Result<usize, NoRoom>
     requires { Spelled q.now work.now b.st.top (OfError q.now work.now b) }
     ensures { Reports (OfError q.now work.now b) report.old report.new result }
 {
-    let st = b.st;
-    let shown = b.shown;
-    let s = slots_of(shown);
-    let n = error_length(q, work, st.top, s);
-    let z = outcome(n, report.len());
-    let Report::Written(_) = z else {
-        return z;
-    };
-    write_error(q, work, st.top, s, report);
-    z
+    let top = b.st.top;
+    let store = Store { q, work, top };
+    let s = slots_of(b.shown);
+    let n = outcome(error_length(store, s), report.len())?;
+    write_error(store, s, report);
+    Ok(n)
 }

@@ -1,6 +1,6 @@
 -- Before a judgement is asked: what InfLam makes, the fresh unknown and its arrow.
 use mathlib.Core.Path.{◌≡◌, ◌∙◌, ap}
-use mathlib.Core.List.{List}
+use mathlib.Core.List.{List, [], ◌∷◌}
 use Prim.Native.Nat.{ℕ, ◌+◌, ◌≤◌}
 use native.Mathlib.Nat.{le_refl}
 use native.Mathlib.Omega.{arith}
@@ -10,7 +10,7 @@ use Rattle.layout.specs.Sizes.{INT, CAP}
 use Rattle.layout.specs.Names.{ty}
 use Rattle.layout.specs.States.{fresh_name, named, raised, Draws}
 use Rattle.layout.specs.Words.{Keep}
-use Rattle.layout.specs.Denotes.{Den, Base, SmallEntry}
+use Rattle.layout.specs.Denotes.{Den, Base}
 use Rattle.layout.specs.declared.Drawn.{Drawn}
 use Rattle.layout.specs.declared.Entry.{Entry}
 use Rattle.layout.specs.declared.Key.TheVariants.{Var, ETVar}
@@ -21,17 +21,15 @@ use Rattle.layout.specs.declared.TyVar as tyvar
 use Rattle.layout.proofs.Words.{keep_less, keep_trans}
 use Rattle.layout.proofs.Denotes.{den_frame, den_small, run_frame, base_frame}
 use Rattle.types.specs.Making.{ArrowRoom, PutETVar, PutArrow}
-use Rattle.contexts.specs.Build.{Space, Pushed2}
+use Rattle.contexts.specs.Build.{Space, SmallEntries, Pushed}
 use Rattle.contexts.specs.declared.Opened.{Opened}
+use Rattle.contexts.proofs.Build.{small_two, push_two}
 use Rattle.judging.specs.Asking.{EntryFrom}
 use Rattle.judging.specs.declared.Here.{Here}
 use Rattle.judging.proofs.Entries.{entry_small, as_var, as_unsolved}
 use Rattle.rules.specs.Going.{LamPre, LamIn}
 
 -- ## A lambda
-
-pub lam_raise : {q w : List ℕ} {s : State} {g : Span} {a : ℕ} {d : Drawn} → LamPre q w s g a → Draws s d → d.st.top + 6 ≤ CAP
-lam_raise pre one = rw one.st (omega (arith, pre.room.fits, pre.room.low, pre.room.cap))
 
 module _ {q w w₁ : List ℕ} {s : State} {g : Span} {a k : ℕ} {b : tyvar.TyVar} (pre : LamPre q w s g a) (e : PutETVar w w₁ s.top b k) where
   kept : Keep s.top s.low w w₁
@@ -61,20 +59,19 @@ module _ {q w w₁ : List ℕ} {s : State} {g : Span} {a k : ℕ} {b : tyvar.TyV
       is_past = ep ∙ ap (λ (t : State). raised t 6) one.st
 
       module _ {h : Here} {n n₂ : Entry} {x : TmVar} (en : EntryFrom h (Var x) a n) (en₂ : EntryFrom h (ETVar b) INT n₂) where
-        pub lam_space : Space w₂ p g 2 × SmallEntry n × SmallEntry n₂
+        pub lam_space : Space w₂ p g 2 × SmallEntries (n ∷ n₂ ∷ [])
         lam_space =
             let l = kept₂.long in
             let u = den_small pre.den in
             rw is_past (
               record { below = omega (arith, pre.below); room = omega (arith, pre.room.fits); low = omega (arith, pre.room.low); cap = omega (arith, pre.room.cap) },
-              entry_small en (omega (arith, pre.room.fits, pre.room.low, pre.room.cap)),
-              entry_small en₂ (omega arith),
+              small_two (entry_small en (omega (arith, pre.room.fits, pre.room.low, pre.room.cap))) (entry_small en₂ (omega arith)),
             )
 
-        pub lam_opened : {w₃ : List ℕ} {o : Opened} → b ≡ d.name → Pushed2 w₂ w₃ p g n n₂ o
+        pub lam_opened : {w₃ : List ℕ} {o : Opened} → b ≡ d.name → Pushed w₂ w₃ p g (n ∷ n₂ ∷ []) o
             → LamIn h q w w₃ s g x a (record { st = o.st; g = o.g; b = k; ty = l })
         lam_opened {w₃} {o} eb pushed =
-            let i : Pushed2 w₂ w₃ s₁ g n n₂ o = rw is_past at pushed in
+            let i : Pushed w₂ w₃ s₁ g (n ∷ n₂ ∷ []) o = rw is_past at pushed in
             let past = i.grown.past in
             let top = past.top in
             let name : ty b ≡ fresh_name s.fresh = rw eb one.name in
@@ -88,7 +85,7 @@ module _ {q w w₁ : List ℕ} {s : State} {g : Span} {a k : ℕ} {b : tyvar.TyV
               low = past.low;
               left = past.left;
               fresh = omega (arith, past.fresh);
-              run = λ Γ A r y. rw name at (i.run (run_frame kept₂ (omega arith) r) (as_var en (den_frame kept₂ (omega arith) y)) (as_unsolved en₂ bs));
+              run = λ Γ A r y. rw name at (push_two i (run_frame kept₂ (omega arith) r) (as_var en (den_frame kept₂ (omega arith) y)) (as_unsolved en₂ bs));
               unknown =
                   let u : Den q w₂ s₁.top k (etvar (ty b)) = den_frame f_keep (omega arith) (e.den q) in
                   let v : Den q w₃ o.st.top k (etvar (ty b)) = den_frame k₃ (omega arith) u in

@@ -1,18 +1,17 @@
 -- What `part` builds: two unknowns, their arrow, and the context with a solved by it.
 use mathlib.Core.Path.{◌≡◌, ◌∙◌, ap}
-use mathlib.Core.List.{List}
-use Prim.Native.Nat.{ℕ, suc, ◌+◌, ◌*◌, ◌≤◌, ◌<◌}
+use mathlib.Core.List.{List, [], ◌∷◌}
+use Prim.Native.Nat.{ℕ, suc, ◌+◌, ◌*◌, ◌≤◌}
 use native.Mathlib.Nat.{le_trans, le_refl}
 use native.Mathlib.Omega.{arith}
 use lib.ListN.{length}
-use Rattle.definition.specs.Syntax.{Ty, etvar, arrow, Ctx}
+use Rattle.definition.specs.Syntax.{Ty, etvar, arrow}
 use Rattle.definition.specs.Rules.{split}
-use Rattle.layout.specs.Sizes.{INT, CAP}
+use Rattle.layout.specs.Sizes.{INT}
 use Rattle.layout.specs.Names.{ty}
 use Rattle.layout.specs.States.{fresh_name, named, raised, Draws}
 use Rattle.layout.specs.Words.{Keep}
-use Rattle.layout.specs.Denotes.{Den, Run, Base, SmallEntry}
-use Rattle.layout.specs.Room.{Room}
+use Rattle.layout.specs.Denotes.{Den, Base}
 use Rattle.layout.specs.declared.Drawn.{Drawn}
 use Rattle.layout.specs.declared.Entry.{Entry}
 use Rattle.layout.specs.declared.Key.{Key}
@@ -24,8 +23,9 @@ use Rattle.layout.proofs.Words.{keep_less, keep_trans}
 use Rattle.layout.proofs.Denotes.{den_frame, den_small, run_frame, base_frame}
 use Rattle.types.specs.Making.{ArrowRoom, PutETVar, PutArrow}
 use Rattle.types.specs.Reading.{Held}
-use Rattle.contexts.specs.Build.{Space, Replaced3}
+use Rattle.contexts.specs.Build.{Space, SmallEntries, Replaced}
 use Rattle.contexts.specs.declared.Opened.{Opened}
+use Rattle.contexts.proofs.Build.{small_three, replace_three}
 use Rattle.judging.specs.Asking.{EntryFrom}
 use Rattle.judging.specs.declared.Here.{Here}
 use Rattle.judging.proofs.Entries.{entry_small, as_solved, as_unsolved}
@@ -35,19 +35,12 @@ use Rattle.rules.specs.Parting.{PartPre, Parts}
 
 -- ## Two names
 
-module _ {q w : List ℕ} {s : State} {g : Span} (pre : PartPre q w s g) {d : Drawn} (one : Draws s d) where
-  pub draw_again : d.st.fresh < CAP
-  draw_again = rw one.st (omega (arith, pre.names))
+module _ {s : State} {d e : Drawn} (one : Draws s d) (two : Draws d.st e) where
+  twice : e.st ≡ named (named s)
+  twice = two.st ∙ ap named one.st
 
-  module _ {e : Drawn} (two : Draws d.st e) where
-    twice : e.st ≡ named (named s)
-    twice = two.st ∙ ap named one.st
-
-    second_name : ty e.name ≡ fresh_name (suc s.fresh)
-    second_name = two.name ∙ ap (λ (t : State). fresh_name t.fresh) one.st
-
-    pub may_raise : e.st.top + 8 ≤ CAP
-    may_raise = rw twice (omega (arith, pre.room, pre.low, pre.cap))
+  second_name : ty e.name ≡ fresh_name (suc s.fresh)
+  second_name = two.name ∙ ap (λ (t : State). fresh_name t.fresh) one.st
 
 -- ## Three records
 
@@ -88,18 +81,17 @@ module _ {q w w₁ w₂ : List ℕ} {s : State} {g : Span} {x y : TyVar} {b c : 
     den_r = let t : s.top + 4 + 4 ≡ s.top + 8 = omega arith in rw t at (put.den _ _ den_b den_c)
 
     space : {h : Here} {n n₂ n₃ : Entry} {k k₂ k₃ : Key} → EntryFrom h k r n → EntryFrom h k₂ INT n₂ → EntryFrom h k₃ INT n₃
-        → Space w₃ past g 3 × SmallEntry n × SmallEntry n₂ × SmallEntry n₃
+        → Space w₃ past g 3 × SmallEntries (n ∷ n₂ ∷ n₃ ∷ [])
     space en en₂ en₃ =
         let l = keep₃.long in (
           record { below = omega (arith, pre.below); room = omega (arith, pre.room); low = omega (arith, pre.low); cap = omega (arith, pre.cap) },
-          entry_small en (omega (arith, den_small den_r, pre.room, pre.low, pre.cap)),
-          entry_small en₂ (omega arith),
-          entry_small en₃ (omega arith),
+          small_three (entry_small en (omega (arith, den_small den_r, pre.room, pre.low, pre.cap))) (entry_small en₂ (omega arith))
+              (entry_small en₃ (omega arith)),
         )
 
     module _ {h : Here} {n n₂ n₃ : Entry} {a : TyVar} (en : EntryFrom h (SETVar a) r n) (en₂ : EntryFrom h (ETVar x) INT n₂)
         (en₃ : EntryFrom h (ETVar y) INT n₃) where
-      parted : {w₄ : List ℕ} {o : Opened} → ty x ≡ fresh_name s.fresh → ty y ≡ fresh_name (suc s.fresh) → Replaced3 w₃ w₄ past g (ty a) n n₂ n₃ o
+      parted : {w₄ : List ℕ} {o : Opened} → ty x ≡ fresh_name s.fresh → ty y ≡ fresh_name (suc s.fresh) → Replaced w₃ w₄ past g (ty a) (n ∷ n₂ ∷ n₃ ∷ []) o
           → Parts h q w w₄ s g a (record { st = o.st; g = o.g; b = b; c = c })
       unfolding split
       parted {w₄} {o} ex ey in₁ =
@@ -119,7 +111,7 @@ module _ {q w w₁ w₂ : List ℕ} {s : State} {g : Span} {x y : TyVar} {b c : 
             fresh = p.fresh;
             first = rw ex at db;
             second = rw ey at dc;
-            run = λ Γ rn. rw (ex, ey) at (in₁.run (run_frame keep₃ (omega arith) rn) (as_solved en den_r) (as_unsolved en₂ bs) (as_unsolved en₃ bs));
+            run = λ Γ rn. rw (ex, ey) at (replace_three in₁ (run_frame keep₃ (omega arith) rn) (as_solved en den_r) (as_unsolved en₂ bs) (as_unsolved en₃ bs));
           }
 
 -- ## The run with three entries more, from the state past them
@@ -128,29 +120,18 @@ module _ {q w w₁ w₂ w₃ : List ℕ} {s p : State} {g : Span} {d e : Drawn} 
     (put : PutETVar w w₁ s.top d.name b) (put₂ : PutETVar w₁ w₂ (s.top + 2) e.name c) (put₃ : PutArrow q w₂ w₃ (s.top + 4) b c r)
     (ep : p ≡ raised e.st 8) where
   is_past : p ≡ raised (named (named s)) 8
-  is_past = ep ∙ ap (λ (t : State). raised t 8) (twice pre one two)
+  is_past = ep ∙ ap (λ (t : State). raised t 8) (twice one two)
 
   pub part_space : {h : Here} {n n₂ n₃ : Entry} {k k₂ k₃ : Key} → EntryFrom h k r n → EntryFrom h k₂ INT n₂ → EntryFrom h k₃ INT n₃
-      → Space w₃ p g 3 × SmallEntry n × SmallEntry n₂ × SmallEntry n₃
+      → Space w₃ p g 3 × SmallEntries (n ∷ n₂ ∷ n₃ ∷ [])
   part_space en en₂ en₃ = rw is_past (space pre put put₂ put₃ en en₂ en₃)
 
   module _ {h : Here} {n n₂ n₃ : Entry} {a : TyVar} (en : EntryFrom h (SETVar a) r n) (en₂ : EntryFrom h (ETVar d.name) INT n₂)
       (en₃ : EntryFrom h (ETVar e.name) INT n₃) where
-    pub parts : {w₄ : List ℕ} {o : Opened} → Replaced3 w₃ w₄ p g (ty a) n n₂ n₃ o → Parts h q w w₄ s g a (record { st = o.st; g = o.g; b = b; c = c })
-    parts in₁ = parted pre put put₂ put₃ en en₂ en₃ one.name (second_name pre one two) (rw is_past at in₁)
+    pub parts : {w₄ : List ℕ} {o : Opened} → Replaced w₃ w₄ p g (ty a) (n ∷ n₂ ∷ n₃ ∷ []) o → Parts h q w w₄ s g a (record { st = o.st; g = o.g; b = b; c = c })
+    parts in₁ = parted pre put put₂ put₃ en en₂ en₃ one.name (second_name one two) (rw is_past at in₁)
 
 -- ## Before and after
-
-pub part_pre : {q w : List ℕ} {s : State} {g : Span} {Γ : Ctx} → Room q w s (20 + 28 * g.n) → s.fresh + 2 * s.left + 2 ≤ CAP
-    → Run q w s.top g.at g.n Γ → PartPre q w s g
-part_pre room names run = record {
-  base = room.base;
-  below = run.below;
-  room = omega (arith, room.fits);
-  low = room.low;
-  cap = room.cap;
-  names = omega arith;
-}
 
 pub parts_built : {h : Here} {q w w' : List ℕ} {s : State} {g : Span} {a : TyVar} {o : Parted} → Parts h q w w' s g a o → Built w w' s o.st (4 * g.n + 20)
 parts_built p = let lf = p.left in record { keep = p.keep; up = p.up; low = p.low; less = omega arith; built = omega (arith, p.built) }

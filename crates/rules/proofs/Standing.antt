@@ -19,6 +19,7 @@ use Rattle.types.specs.Reading.{HeldAs, HeldNamed}
 use Rattle.expressions.specs.Forms.{Shaped}
 use Rattle.contexts.specs.Build.{Space}
 use Rattle.substitution.specs.Passing.{Passed}
+use Rattle.judging.specs.declared.Rule.{Rule}
 use Rattle.judging.proofs.Asking.{infer_asked, check_asked}
 use Rattle.judging.proofs.Chain.{room_on, Sofar, built}
 use Rattle.rules.specs.Built.{Built}
@@ -46,9 +47,6 @@ module _ {q w : List ℕ} {s : State} {k : ℕ} (room : Room q w s k) where
   pub ref_small : {r : ℕ} {T : Ty} → Den q w s.top r T → r < 2 ^ 32
   ref_small d = omega (arith, den_small d, room.fits, room.low, room.cap)
 
-  pub room_less : (k₁ : ℕ) → k₁ ≤ k → Room q w s k₁
-  room_less k₁ h = record { base = room.base; fits = omega (arith, room.fits); low = room.low; cap = room.cap; names = room.names }
-
   -- what was built leaves room
   pub built_room : {w₁ : List ℕ} {s₁ : State} {n : ℕ} (k₁ : ℕ) → Built w w₁ s s₁ n → n + k₁ ≤ k → s₁.fresh + 2 * s₁.left ≤ CAP → Room q w₁ s₁ k₁
   built_room k₁ b h f =
@@ -68,7 +66,7 @@ module _ {q w : List ℕ} {s : State} {g : Span} {ex : ℕ} where
   pub infer_shaped : {k : ℕ} → InferPre q w s g ex k → Shaped q w ex k
   infer_shaped pre = room_shaped pre.rule.room (infer_asked ex pre.rule.asks).at pre.code
 
-  pub check_shaped : {ty r k : ℕ} (pre : CheckPre q w s g ex ty r) → pre.k ≡ k → Shaped q w ex k
+  pub check_shaped : {ty k : ℕ} {r : Rule} (pre : CheckPre q w s g ex ty r) → pre.k ≡ k → Shaped q w ex k
   check_shaped {ty} pre e = room_shaped pre.rule.room (check_asked ex ty pre.rule.asks).at (pre.code ∙ e)
 
 -- a rule may open a Forall

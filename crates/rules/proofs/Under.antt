@@ -5,7 +5,8 @@ use mathlib.Core.List.{List}
 use Prim.Native.Nat.{ℕ, ◌+◌, ◌*◌, ◌≤◌}
 use native.Mathlib.Nat.{le_refl}
 use native.Mathlib.Omega.{arith}
-use Rattle.definition.specs.Syntax.{TyVar, Ty, int, Ctx, Judgement, Rule, rule_number, leaf, ◌&◌, children}
+use Rattle.std.specs.Prelude.{Result, Ok, Err}
+use Rattle.definition.specs.Syntax.{TyVar, Ty, int, Ctx, Judgement, Rule, leaf, ◌&◌, children}
 use Rattle.definition.specs.Run.{Out, done, and_then, give}
 use Rattle.definition.specs.Contexts.{Key, right_of}
 use Rattle.definition.specs.Rules.{rule, judge}
@@ -14,29 +15,29 @@ use Rattle.layout.specs.Names.{ty}
 use Rattle.layout.specs.Denotes.{Den}
 use Rattle.layout.specs.Room.{Room}
 use Rattle.layout.specs.declared.Span.{Span}
+use Rattle.layout.specs.declared.Spent as layout
 use Rattle.layout.specs.declared.State.{State}
 use Rattle.contexts.specs.Build.{Space}
 use Rattle.judging.specs.Asking.{here, Asks, Small, JudgePre, RulePre}
 use Rattle.judging.specs.declared.Answer.{Answer}
 use Rattle.judging.specs.declared.Ask.{Ask}
 use Rattle.judging.specs.declared.Here.{Here}
-use Rattle.judging.specs.Ending.{Judged, Fires}
-use Rattle.judging.specs.declared.Step.{Step}
-use Rattle.judging.specs.declared.Step.TheVariants.{Done, Spent}
+use Rattle.judging.specs.Ending.{Step, Judged, Fires}
+use Rattle.judging.specs.declared.Rule as program
+use Rattle.judging.specs.declared.Stop.TheVariants.{Spent}
+use Rattle.judging.specs.Names.{rule_of}
 use Rattle.judging.proofs.Steps.{NotDone}
 use Rattle.judging.proofs.Chain.{room_ready, Sofar, begin, built, stopped}
 use Rattle.rules.specs.Built.{Built}
 use Rattle.rules.specs.Going.{KeepOut}
 use Rattle.rules.specs.Opening.{Opens, Instances}
 use Rattle.rules.specs.declared.Body.{Body}
-use Rattle.rules.specs.declared.Instance.{Instance}
-use Rattle.rules.specs.declared.Instance.TheVariants as instance
 use Rattle.rules.proofs.Standing.{built_room, built_on}
 use Rattle.rules.proofs.Premises.{else_fires, then_done, then_stop, came_space, right_ends}
 use Rattle.rules.proofs.Opening.{InstanceOf, instance_of, no_instance}
 
 -- what the rule R for j comes to: what opening comes to, O, and with its type T the judgement i T, which a₁ asks; K is the name's or the mark's key
-pub record Under (m : Here) (q w w₁ : List ℕ) (s : State) (g : Span) (a₁ : Body → Ask) (K : TyVar → Key) (R : Rule) (x : Instance) (j : Judgement) : Type 0 where
+pub record Under (m : Here) (q w w₁ : List ℕ) (s : State) (g : Span) (a₁ : Body → Ask) (K : TyVar → Key) (R : Rule) (x : Result Body layout.Spent) (j : Judgement) : Type 0 where
   pub b : TyVar
   pub Δ : Ctx
   pub O : Out Ty
@@ -46,10 +47,10 @@ pub record Under (m : Here) (q w w₁ : List ℕ) (s : State) (g : Span) (a₁ :
   pub says : rule (here m) (judge (here m)) j s.left s.fresh
       ≡ and_then O (λ T l n. and_then (judge (here m) (i T) l n) (λ u. give (R, int, right_of (K b) u.1, u.2 & leaf)))
 
-module _ {m : Here} {q w w₁ : List ℕ} {s : State} {g : Span} {a : Ask} {a₁ : Body → Ask} {K : TyVar → Key} {R : Rule} {x : Instance}
+module _ {m : Here} {q w w₁ : List ℕ} {s : State} {g : Span} {a : Ask} {a₁ : Body → Ask} {K : TyVar → Key} {R : Rule} {x : Result Body layout.Spent}
     (under : (j : Judgement) → Asks q w s.top g a j → Under m q w w₁ s g a₁ K R x j) where
   -- opening takes more than the budget
-  pub under_spent : x ≡ instance.Spent → Fires m q w w₁ s g a Spent
+  pub under_spent : {y : layout.Spent} → x ≡ Err y → Fires m q w w₁ s g a (Err Spent)
   under_spent e = record {
     run = λ j k.
         let v = under j k in
@@ -57,7 +58,7 @@ module _ {m : Here} {q w w₁ : List ℕ} {s : State} {g : Span} {a : Ask} {a₁
         stopped (built s begin n.keep (le_refl _) refl (le_refl _)) _ (v.says ∙ then_stop _ n.is);
   }
 
-  module _ (pre : RulePre q w s g a) {o : Body} (d : x ≡ instance.Of o) where
+  module _ (pre : RulePre q w s g a) {o : Body} (d : x ≡ Ok o) where
     opened : {j : Judgement} (k : Asks q w s.top g a j) → InstanceOf q w w₁ s g (under j k).b (under j k).Δ o (under j k).O
     opened k = instance_of (under _ k).opens d
 
@@ -98,11 +99,11 @@ module _ {m : Here} {q w w₁ : List ℕ} {s : State} {g : Span} {a : Ask} {a₁
       pub under_else : NotDone z → Fires m q w w₂ s g a z
       under_else nd = else_fires (λ j k. record { ts = leaf; so = so; i = _; asks = asks₁ k; next = _; says = says₁ k }) call nd
 
-      module _ {r : Answer} (c : z ≡ Done r) where
+      module _ {r : Answer} (c : z ≡ Ok r) where
         pub under_space : Space w₂ r.st r.g 0
         under_space = came_space so call (asks₁ pre.asks) c
 
-        pub under_done : {n : ℕ} {w₃ : List ℕ} {y : Step} → n ≡ rule_number R → KeepOut false w₂ w₃ r (K (ty o.b)) INT n 1 y → Fires m q w w₃ s g a y
+        pub under_done : {n : program.Rule} {w₃ : List ℕ} {y : Step} → rule_of n ≡ R → KeepOut false w₂ w₃ r (K (ty o.b)) INT n 1 y → Fires m q w w₃ s g a y
         unfolding children
         under_done {n} {w₃} {y} en al = record {
           run = λ j k.

@@ -4,7 +4,8 @@ use mathlib.Core.List.{List}
 use Prim.Native.Nat.{ℕ, ◌+◌, ◌*◌, ◌≤◌, ◌<◌}
 use native.Mathlib.Nat.{le_trans, le_refl}
 use native.Mathlib.Omega.{arith}
-use Rattle.definition.specs.Syntax.{Ty, Ctx, Judgement, Rule, rule_number, Tree, Trees, leaf, ◌&◌, children}
+use Rattle.std.specs.Prelude.{Result as Outcome, Ok, Err}
+use Rattle.definition.specs.Syntax.{Ty, Ctx, Judgement, Rule, Tree, Trees, leaf, ◌&◌, children}
 use Rattle.definition.specs.Run.{Out, done, stop, M, ◌>>=◌, give}
 use Rattle.definition.specs.Rules.{Fired, Result}
 use Rattle.definition.specs.Types.{apply}
@@ -16,7 +17,7 @@ use Rattle.layout.specs.Room.{Room}
 use Rattle.layout.specs.declared.Span.{Span}
 use Rattle.layout.specs.declared.State.{State}
 use Rattle.layout.specs.declared.Made.{Made}
-use Rattle.layout.specs.declared.Made.TheVariants as made
+use Rattle.layout.specs.declared.Spent as layout
 use Rattle.layout.proofs.Words.{keep_less, keep_trans}
 use Rattle.layout.proofs.Places.{expr_code_lem}
 use Rattle.layout.proofs.Denotes.{den_frame, run_frame}
@@ -26,17 +27,17 @@ use Rattle.substitution.specs.Passing.{Passed}
 use Rattle.substitution.specs.Calls.{ApplyPre, Applied}
 use Rattle.substitution.proofs.Passing as sub
 use Rattle.judging.specs.declared.Answer.{Answer}
-use Rattle.judging.specs.declared.Step.{Step}
-use Rattle.judging.specs.declared.Step.TheVariants.{Done, Spent}
+use Rattle.judging.specs.declared.Rule as program
+use Rattle.judging.specs.declared.Stop.{Stop}
+use Rattle.judging.specs.declared.Stop.TheVariants.{Spent}
+use Rattle.judging.specs.Names.{rule_of}
 use Rattle.judging.specs.Asking.{Asks, infer_ask, check_ask, app_ask, sub_ask, JudgePre}
-use Rattle.judging.specs.Ending.{RunsJ, RunsR}
+use Rattle.judging.specs.Ending.{Step, RunsJ, RunsR}
 use Rattle.judging.proofs.Asking.{small_infer, small_check, small_app, small_sub, infer_asked, check_asked, app_asked, sub_asked}
 use Rattle.judging.proofs.Nodes.{◌+++◌, nodes_frame, nodes_join}
 use Rattle.judging.proofs.Steps.{NotDone, else_ends, came}
 use Rattle.judging.proofs.Chain.{Sofar, begin, built, stopped, refuses, fires, room_on, room_ready}
 use Rattle.rules.proofs.Standing.{ref_small}
-use Rattle.rules.specs.declared.Mid.{Mid}
-use Rattle.rules.specs.declared.Mid.TheVariants.{On, End}
 use Rattle.rules.specs.Going.{GoesOrEnds, goes, fails, stops, Finished}
 
 -- from a rule's start at w and s to w₁ and s₁: the trees so far, room for k words, and K to be done, all that the rule's outcome R is
@@ -74,22 +75,22 @@ pub apply_pre : {q w : List ℕ} {s : State} {g : Span} {k r : ℕ} {Γ : Ctx} {
     → ApplyPre q w s g r
 apply_pre r n d = record { spare = _; room = r; ctx = _; run = n; type = _; den = d }
 
--- an answer whose number and children are known
-numbered : {a : Answer} {x c : ℕ} → a.rule ≡ x → a.kids ≡ c → record { st = a.st; g = a.g; ty = a.ty; rule = x; kids = c; charge = a.charge } ≡ a
+-- an answer whose rule and children are known
+numbered : {a : Answer} {x : program.Rule} {c : ℕ} → a.rule ≡ x → a.kids ≡ c → record { st = a.st; g = a.g; ty = a.ty; rule = x; kids = c; charge = a.charge } ≡ a
 numbered e f = rw (← e, ← f) refl
 
--- a step between went on
-pub record Got {X : Type 0} (w w' : List ℕ) (s : State) (D : X → ℕ → ℕ → ℕ → Type 0) (O : Out X) (s₂ : State) (a b : ℕ) : Type 0 where
+-- a step between went on, with v
+pub record Got {X Y : Type 0} (w w' : List ℕ) (s : State) (st : Y → State) (D : X → Y → Type 0) (O : Out X) (v : Y) : Type 0 where
   pub x : X
-  pub is : O ≡ done x s₂.left s.fresh
-  pub passed : Passed w w' s s₂ 0
-  pub says : D x s₂.top a b
+  pub is : O ≡ done x (st v).left s.fresh
+  pub passed : Passed w w' s (st v) 0
+  pub says : D x v
 
-pub got : {X : Type 0} {q w w' : List ℕ} {s : State} {D : X → ℕ → ℕ → ℕ → Type 0} {O : Out X} {z : Mid} {s₂ : State} {a b : ℕ} → GoesOrEnds q w w' s D z O
-    → z ≡ On s₂ a b → Got w w' s D O s₂ a b
-got {X} {q} {w} {w'} {s} {D} {O} {z} {s₂} {a} {b} h e = go (rw e at h)
+pub got : {X Y : Type 0} {q w w' : List ℕ} {s : State} {st : Y → State} {D : X → Y → Type 0} {O : Out X} {z : Outcome Y Stop} {v : Y}
+    → GoesOrEnds q w w' s st D z O → z ≡ Ok v → Got w w' s st D O v
+got {X} {Y} {q} {w} {w'} {s} {st} {D} {O} {z} {v} h e = go (rw e at h)
   where
-    go : {U : Out X} → GoesOrEnds q w w' s D (On s₂ a b) U → Got w w' s D U s₂ a b
+    go : {U : Out X} → GoesOrEnds q w w' s st D (Ok v) U → Got w w' s st D U v
     go (goes {x = x} p d) = record { x = x; is = refl; passed = p; says = d }
 
 module _ {q w w₁ : List ℕ} {s s₁ : State} {ts : Trees} {k : ℕ} {R : Out Fired} where
@@ -121,7 +122,7 @@ module _ {q w w₁ : List ℕ} {s s₁ : State} {ts : Trees} {k : ℕ} {R : Out 
       pub stays : {a : ℕ} {A : Ty} → Den q w₁ s₁.top a A → Den q w₂ r.st.top a A
       pub less : r.st.left ≤ s₁.left
 
-    pub back : {r : Answer} → z ≡ Done r → Back r
+    pub back : {r : Answer} → z ≡ Ok r → Back r
     back d =
         let c = came call.ends d in
         let x = c.land in
@@ -190,13 +191,13 @@ module _ {q w w₁ : List ℕ} {s s₁ : State} {ts : Trees} {k : ℕ} {R : Out 
         }
 
     -- the next charge would pass the budget
-    pub spends : {w₂ : List ℕ} → Keep s₁.top s₁.low w₁ w₂ → n s₁.left s₁.fresh ≡ stop → RunsR q w w₂ s Spent R
+    pub spends : {w₂ : List ℕ} → Keep s₁.top s₁.low w₁ w₂ → n s₁.left s₁.fresh ≡ stop → RunsR q w w₂ s (Err Spent) R
     spends kp e = stopped (built s₁ y.so kp (le_refl _) refl (le_refl _)) R (y.is ∙ bind_stop n f _ _ e)
 
   -- the context was applied
-  module _ {Γ : Ctx} {A : Ty} (f : Ty → M Fired) (y : Way q w w₁ s s₁ ts k R (apply Γ A >>= f)) {g : Span} {r : ℕ} {w₂ : List ℕ} {z : Made}
+  module _ {Γ : Ctx} {A : Ty} (f : Ty → M Fired) (y : Way q w w₁ s s₁ ts k R (apply Γ A >>= f)) {g : Span} {r : ℕ} {w₂ : List ℕ} {z : Outcome Made layout.Spent}
       (ap : Applied q w₁ w₂ s₁ g r z) (n : Run q w₁ s₁.top g.at g.n Γ) (d : Den q w₁ s₁.top r A) where
-    pub apply_spent : z ≡ made.Spent → RunsR q w w₂ s Spent R
+    pub apply_spent : {x : layout.Spent} → z ≡ Err x → RunsR q w w₂ s (Err Spent) R
     apply_spent e = let o = sub.ended (ap.makes Γ n A d) e in spends (apply Γ A) f y o.keep o.is
 
     pub record AppliedTo (s₂ : State) (t : ℕ) : Type 0 where
@@ -206,47 +207,47 @@ module _ {q w w₁ : List ℕ} {s s₁ : State} {ts : Trees} {k : ℕ} {R : Out 
       pub den : Den q w₂ s₂.top t T
       pub less : s₂.left ≤ s₁.left
 
-    pub apply_done : {s₂ : State} {t : ℕ} → z ≡ made.Done s₂ t → AppliedTo s₂ t
-    apply_done {s₂} e =
+    pub apply_done : {m : Made} → z ≡ Ok m → AppliedTo m.st m.ty
+    apply_done {m} e =
         let o = sub.reached (ap.makes Γ n A d) e in
         let p = o.passed in
         record {
           T = o.type;
-          way = passed (apply Γ A) f y s₂ (k + 28) p (omega arith) o.is;
+          way = passed (apply Γ A) f y m.st (k + 28) p (omega arith) o.is;
           run = run_frame p.keep p.up n;
           den = o.den;
           less = omega (arith, p.paid);
         }
 
   -- types were made or compared, as the definition's n says
-  module _ {X : Type 0} (D : X → ℕ → ℕ → ℕ → Type 0) (n : M X) (f : X → M Fired) (y : Way q w w₁ s s₁ ts k R (n >>= f)) where
-    pub record WayOn (w₂ : List ℕ) (s₂ : State) (a b : ℕ) : Type 0 where
+  module _ {X Y : Type 0} (st : Y → State) (D : X → Y → Type 0) (n : M X) (f : X → M Fired) (y : Way q w w₁ s s₁ ts k R (n >>= f)) where
+    pub record WayOn (w₂ : List ℕ) (v : Y) : Type 0 where
       pub x : X
-      pub says : D x s₂.top a b
-      pub way : Way q w w₂ s s₂ ts k R (f x)
+      pub says : D x v
+      pub way : Way q w w₂ s (st v) ts k R (f x)
       pub keep : Keep s₁.top s₁.low w₁ w₂
-      pub up : s₁.top ≤ s₂.top
-      pub less : s₂.left ≤ s₁.left
+      pub up : s₁.top ≤ (st v).top
+      pub less : (st v).left ≤ s₁.left
 
-    pub onward : {w₂ : List ℕ} {z : Mid} {s₂ : State} {a b : ℕ} → GoesOrEnds q w₁ w₂ s₁ D z (n s₁.left s₁.fresh) → z ≡ On s₂ a b → WayOn w₂ s₂ a b
-    onward {s₂ = s₂} h e =
+    pub onward : {w₂ : List ℕ} {z : Outcome Y Stop} {v : Y} → GoesOrEnds q w₁ w₂ s₁ st D z (n s₁.left s₁.fresh) → z ≡ Ok v → WayOn w₂ v
+    onward {v = v} h e =
         let o = got h e in
         let p = o.passed in
-        record { x = o.x; says = o.says; way = passed n f y s₂ k p (omega arith) o.is; keep = p.keep; up = p.up; less = omega (arith, p.paid) }
+        record { x = o.x; says = o.says; way = passed n f y (st v) k p (omega arith) o.is; keep = p.keep; up = p.up; less = omega (arith, p.paid) }
 
     -- the rule ends there
-    pub there : {w₂ : List ℕ} {z : Mid} {e : Step} → GoesOrEnds q w₁ w₂ s₁ D z (n s₁.left s₁.fresh) → z ≡ End e → RunsR q w w₂ s e R
+    pub there : {w₂ : List ℕ} {z : Outcome Y Stop} {e : Stop} → GoesOrEnds q w₁ w₂ s₁ st D z (n s₁.left s₁.fresh) → z ≡ Err e → RunsR q w w₂ s (Err e) R
     there {w₂} {z} {e} h i = go refl (rw i at h)
       where
-        go : {O : Out X} {v : Step} → n s₁.left s₁.fresh ≡ O → GoesOrEnds q w₁ w₂ s₁ D (End v) O → RunsR q w w₂ s v R
+        go : {O : Out X} {v : Stop} → n s₁.left s₁.fresh ≡ O → GoesOrEnds q w₁ w₂ s₁ st D (Err v) O → RunsR q w w₂ s (Err v) R
         go o (fails kp x) = refuses (built s₁ y.so kp (le_refl _) refl (le_refl _)) x R (y.is ∙ bind_fail n f _ _ o)
         go o (stops kp) = spends n f y kp o
 
   -- ## The end
 
-  pub finish : {g : Span} {ty more rule kids : ℕ} {F : Ctx → Ctx} {G : Ty → Ty} (r : Rule) {w₂ : List ℕ} {z : Step}
+  pub finish : {g : Span} {ty more kids : ℕ} {rule : program.Rule} {F : Ctx → Ctx} {G : Ty → Ty} (r : Rule) {w₂ : List ℕ} {z : Step}
       → Finished q w₁ w₂ s₁ g ty more F G rule kids z → {C : Ty} {Δ : Ctx} → Run q w₁ s₁.top g.at g.n Δ → Den q w₁ s₁.top ty C
-      → Way q w w₁ s s₁ ts k R (give (r, G C, F Δ, ts)) → 4 * g.n + more + 4 ≤ k → rule ≡ rule_number r → kids ≡ children ts → kids < 5
+      → Way q w w₁ s s₁ ts k R (give (r, G C, F Δ, ts)) → 4 * g.n + more + 4 ≤ k → rule_of rule ≡ r → kids ≡ children ts → kids < 5
       → RunsR q w w₂ s z R
   unfolding give
   finish r {w₂} h n d y le e c few =
@@ -257,5 +258,5 @@ module _ {q w w₁ : List ℕ} {s s₁ : State} {ts : Trees} {k : ℕ} {R : Out 
       let so : Sofar q w w₂ s a.st ts = built a.st y.so h.keep h.up h.low (omega arith) in
       let rm : Room q w₂ a.st 4 =
       room_on a.st 4 y.room h.keep h.up (omega arith) (omega (arith, h.most, y.room.fits)) (omega (arith, y.room.names)) in
-      let o = fires a.st a.g a.ty r so rm (omega arith) (h.run n) (h.den d) R (y.is ∙ rw (← lf, ← fr) refl) in
-      rw (h.is, ← numbered {a = a} (h.rule_is ∙ e) (h.kids_is ∙ c)) o
+      let o = fires a.st a.g a.ty _ so rm (omega arith) (h.run n) (h.den d) R (y.is ∙ rw (← lf, ← fr, ← e) refl) in
+      rw (h.is, ← numbered {a = a} h.rule_is (h.kids_is ∙ c)) o

@@ -1,5 +1,5 @@
 -- What the steps of a rule give: before its judgements, between them, and at its end.
-use Rattle.std.specs.Prelude.{◌≡◌, Bool, true, false, List, ℕ, ◌+◌, ◌*◌, ◌≤◌, length}
+use Rattle.std.specs.Prelude.{◌≡◌, Bool, true, false, List, ℕ, ◌+◌, ◌*◌, ◌≤◌, length, Result, Ok, Err}
 use Rattle.definition.specs.Syntax.{TyVar, Ty, etvar, arrow, forall, var_bnd, etvar_bnd, Ctx, TypeError}
 use Rattle.definition.specs.Run.{Out, done, fail, stop, M, ◌>>=◌, give}
 use Rattle.definition.specs.Rules.{◌from◌, parameter, branch, instantiate}
@@ -10,6 +10,7 @@ use Rattle.layout.specs.States.{fresh_name}
 use Rattle.layout.specs.Words.{Keep}
 use Rattle.layout.specs.Denotes.{Den, Run}
 use Rattle.layout.specs.Room.{Room}
+use Rattle.layout.specs.declared.Made.{Made}
 use Rattle.layout.specs.declared.Span.{Span}
 use Rattle.layout.specs.declared.State.{State}
 use Rattle.layout.specs.declared.TmVar.{TmVar}
@@ -18,13 +19,14 @@ use Rattle.substitution.specs.Passing.{Passed}
 use Rattle.judging.specs.declared.Answer.{Answer}
 use Rattle.judging.specs.declared.Bad.{Bad}
 use Rattle.judging.specs.declared.Here.{Here}
-use Rattle.judging.specs.declared.Step.{Step}
-use Rattle.judging.specs.declared.Step.TheVariants.{Done, Fail, Spent}
+use Rattle.judging.specs.declared.Rule.{Rule}
+use Rattle.judging.specs.declared.Rule.TheVariants as rule
+use Rattle.judging.specs.declared.Stop.{Stop}
+use Rattle.judging.specs.declared.Stop.TheVariants.{Fail, Spent}
 use Rattle.judging.specs.Asking.{here}
-use Rattle.judging.specs.Ending.{Failed}
+use Rattle.judging.specs.Ending.{Failed, Step}
 use Rattle.rules.specs.declared.Lam.{Lam}
-use Rattle.rules.specs.declared.Mid.{Mid}
-use Rattle.rules.specs.declared.Mid.TheVariants.{On, End}
+use Rattle.rules.specs.declared.Both.{Both}
 
 -- ## Before: a fresh unknown for what a lambda gives
 
@@ -65,44 +67,44 @@ pub record TwoIn (q w : List ℕ) (s : State) (g : Span) (a b : ℕ) : Type 0 wh
   pub Γ : Ctx
   pub run : Run q w s.top g.at g.n Γ
 
--- from w and s a step that the definition says came to an x, of which D says what the two references are
-pub data GoesOrEnds {X : Type 0} (q w w' : List ℕ) (s : State) (D : X → ℕ → ℕ → ℕ → Type 0) : Mid → Out X → Type 0 where
-  goes : {s' : State} {a b : ℕ} {x : X} → Passed w w' s s' 0 → D x s'.top a b → GoesOrEnds q w w' s D (On s' a b) (done x s'.left s.fresh)
-  fails : {b : Bad} {e : TypeError} {l : ℕ} → Keep s.top s.low w w' → Failed q w' b e l → GoesOrEnds q w w' s D (End (Fail b)) (fail e l)
-  stops : Keep s.top s.low w w' → GoesOrEnds q w w' s D (End Spent) stop
+-- from w and s a step that the definition says came to an x, of which D says what y holds of it; y holds the state too
+pub data GoesOrEnds {X Y : Type 0} (q w w' : List ℕ) (s : State) (st : Y → State) (D : X → Y → Type 0) : Result Y Stop → Out X → Type 0 where
+  goes : {y : Y} {x : X} → Passed w w' s (st y) 0 → D x y → GoesOrEnds q w w' s st D (Ok y) (done x (st y).left s.fresh)
+  fails : {b : Bad} {e : TypeError} {l : ℕ} → Keep s.top s.low w w' → Failed q w' b e l → GoesOrEnds q w w' s st D (Err (Fail b)) (fail e l)
+  stops : Keep s.top s.low w w' → GoesOrEnds q w w' s st D (Err Spent) stop
 
 -- strict mode's parameter: the comparison gives nothing
-abbrev pub Nothing : Unit {0} → ℕ → ℕ → ℕ → Type 0
-Nothing u t a b = Unit {0}
+abbrev pub Nothing : Unit {0} → State → Type 0
+Nothing u y = Unit {0}
 
-pub record Compared (h : Here) (q w w' : List ℕ) (s : State) (g : Span) (a p : ℕ) (z : Mid) : Type 0 where
+pub record Compared (h : Here) (q w w' : List ℕ) (s : State) (g : Span) (a p : ℕ) (z : Result State Stop) : Type 0 where
   pub passes : (Γ : Ctx) (A P : Ty) → Run q w s.top g.at g.n Γ → Den q w s.top a A → Den q w s.top p P
-      → GoesOrEnds q w w' s Nothing z (parameter h.manner.compares_parameter Γ A P s.left s.fresh)
+      → GoesOrEnds q w w' s (λ y. y) Nothing z (parameter h.manner.compares_parameter Γ A P s.left s.fresh)
 
 -- two types with the context applied, the first first; or as they are
-abbrev pub Dens : List ℕ → List ℕ → Ty × Ty → ℕ → ℕ → ℕ → Type 0
-Dens q w T t a b = Den q w t a T.0 × Den q w t b T.1
+abbrev pub Dens : List ℕ → List ℕ → Ty × Ty → Both → Type 0
+Dens q w T y = Den q w y.st.top y.a T.0 × Den q w y.st.top y.b T.1
 
 abbrev pub apply_both : Bool → Ctx → Ty → Ty → M (Ty × Ty)
 apply_both b Γ A B = branch b Γ A >>= λ A'. branch b Γ B >>= λ B'. give (A', B')
 
-pub record AppliedBoth (applies : Bool) (q w w' : List ℕ) (s : State) (g : Span) (a b : ℕ) (z : Mid) : Type 0 where
+pub record AppliedBoth (applies : Bool) (q w w' : List ℕ) (s : State) (g : Span) (a b : ℕ) (z : Result Both Stop) : Type 0 where
   pub passes : (Γ : Ctx) (A B : Ty) → Run q w s.top g.at g.n Γ → Den q w s.top a A → Den q w s.top b B
-      → GoesOrEnds q w w' s (Dens q w') z (apply_both applies Γ A B s.left s.fresh)
+      → GoesOrEnds q w w' s (λ y. y.st) (Dens q w') z (apply_both applies Γ A B s.left s.fresh)
 
 -- a type for the name that a Forall binds
-abbrev pub DenOne : List ℕ → List ℕ → Ty → ℕ → ℕ → ℕ → Type 0
-DenOne q w T t a b = Den q w t a T
+abbrev pub DenOne : List ℕ → List ℕ → Ty → Made → Type 0
+DenOne q w T y = Den q w y.st.top y.ty T
 
-pub record Instantiated (q w w' : List ℕ) (s : State) (ty by : ℕ) (z : Mid) : Type 0 where
+pub record Instantiated (q w w' : List ℕ) (s : State) (ty by : ℕ) (z : Result Made Stop) : Type 0 where
   pub passes : (A B : Ty) → Den q w s.top ty A → Den q w s.top by B
-      → GoesOrEnds q w w' s (DenOne q w') z (instantiate B A s.left s.fresh)
+      → GoesOrEnds q w w' s (λ y. y.st) (DenOne q w') z (instantiate B A s.left s.fresh)
 
 -- ## The end: from the context Γ and the type A that came back to F Γ and G A, with some words more
 
-pub record Finished (q w w' : List ℕ) (s : State) (g : Span) (ty more : ℕ) (F : Ctx → Ctx) (G : Ty → Ty) (rule kids : ℕ) (z : Step) : Type 0 where
+pub record Finished (q w w' : List ℕ) (s : State) (g : Span) (ty more : ℕ) (F : Ctx → Ctx) (G : Ty → Ty) (rule : Rule) (kids : ℕ) (z : Step) : Type 0 where
   pub answer : Answer
-  pub is : z ≡ Done answer
+  pub is : z ≡ Ok answer
   pub rule_is : answer.rule ≡ rule
   pub kids_is : answer.kids ≡ kids
   pub keep : Keep s.top s.low w w'
@@ -115,7 +117,8 @@ pub record Finished (q w w' : List ℕ) (s : State) (g : Span) (ty more : ℕ) (
   pub den : {A : Ty} → Den q w s.top ty A → Den q w' answer.st.top answer.ty (G A)
 
 -- the context and the type as they are
-pub record PlainOut (s : State) (g : Span) (ty rule kids : ℕ) (z : Step) : Type 0 where
+pub record PlainOut (s : State) (g : Span) (ty : ℕ) (rule : Rule) (kids : ℕ) (z : Step) : Type 0 where
+  pub is : z ≡ Ok (record { st = s; g = g; ty = ty; rule = rule; kids = kids; charge = 0 })
   pub finished : (q w : List ℕ) → Finished q w w s g ty 0 (λ (Γ : Ctx). Γ) (λ (A : Ty). A) rule kids z
 
 -- break3's right, and before it the solved entries of its left where these are kept
@@ -123,12 +126,12 @@ unfoldable pub kept : Bool → Key → Ctx → Ctx
 kept true = solved_and_right
 kept false = right_of
 
-pub record KeepOut (keeps : Bool) (w w' : List ℕ) (r : Answer) (k : Key) (ty rule kids : ℕ) (z : Step) : Type 0 where
+pub record KeepOut (keeps : Bool) (w w' : List ℕ) (r : Answer) (k : Key) (ty : ℕ) (rule : Rule) (kids : ℕ) (z : Step) : Type 0 where
   pub finished : (q : List ℕ) → Finished q w w' r.st r.g ty 0 (kept keeps k) (λ (A : Ty). A) rule kids z
 
 -- all that is kept there, with the Forall of the body type
 pub record TabsOut (q w w' : List ℕ) (s : State) (g : Span) (a : TyVar) (body : ℕ) (z : Step) : Type 0 where
-  pub finished : Finished q w w' s g body 4 (solved_and_right (k_tvar a)) (forall a) 13 1 z
+  pub finished : Finished q w w' s g body 4 (solved_and_right (k_tvar a)) (forall a) rule.InfTAbs 1 z
 
 -- room for a Forall's record and for the entries
 pub record TabsPre (q w : List ℕ) (s : State) (g : Span) (body : ℕ) : Type 0 where

@@ -1,5 +1,5 @@
 -- Opening a Forall: on the right its body under its name, on the left an instance of it.
-use Rattle.std.specs.Prelude.{◌≡◌, List, ℕ, ◌+◌, ◌*◌}
+use Rattle.std.specs.Prelude.{◌≡◌, List, ℕ, ◌+◌, ◌*◌, Result, Ok, Err}
 use Rattle.definition.specs.Syntax.{TyVar, Ty, forall, Ctx, Side}
 use Rattle.definition.specs.Run.{Out, done, stop}
 use Rattle.layout.specs.Names.{ty}
@@ -12,8 +12,7 @@ use Rattle.types.specs.Reading.{HeldAs}
 use Rattle.judging.specs.Asking.{here}
 use Rattle.judging.specs.declared.Here.{Here}
 use Rattle.rules.specs.declared.Body.{Body}
-use Rattle.rules.specs.declared.Instance.{Instance}
-use Rattle.rules.specs.declared.Instance.TheVariants.{Of, Spent}
+use Rattle.layout.specs.declared.Spent.{Spent}
 use Rattle.rules.specs.Built.{Built}
 use Rattle.rules.specs.Sides.{opened_ty, opened_ctx}
 
@@ -32,12 +31,12 @@ pub record Opens (q w' : List ℕ) (s : State) (o : Body) (b : TyVar) (Δ : Ctx)
   pub fresh : o.st.fresh ≡ s.fresh
 
 -- the body in the context Δ, as the type that O comes to; or O takes more than the budget
-pub data Instances (q w w' : List ℕ) (s : State) (g : Span) (b : TyVar) (Δ : Ctx) : Instance → Out Ty → Type 0 where
+pub data Instances (q w w' : List ℕ) (s : State) (g : Span) (b : TyVar) (Δ : Ctx) : Result Body Spent → Out Ty → Type 0 where
   opened : {o : Body} {T : Ty} → Built w w' s o.st (4 * g.n + 10) → Opens q w' s o b Δ T
-      → Instances q w w' s g b Δ (Of o) (done T o.st.left s.fresh)
-  spent : Keep s.top s.low w w' → Instances q w w' s g b Δ Spent stop
+      → Instances q w w' s g b Δ (Ok o) (done T o.st.left s.fresh)
+  spent : {x : Spent} → Keep s.top s.low w w' → Instances q w w' s g b Δ (Err x) stop
 
 -- the Forall r was opened, as one that stands on the side sd
-pub record OpensOn (h : Here) (q w w' : List ℕ) (s : State) (g : Span) (r : ℕ) (sd : Side) (z : Instance) : Type 0 where
+pub record OpensOn (h : Here) (q w w' : List ℕ) (s : State) (g : Span) (r : ℕ) (sd : Side) (z : Result Body Spent) : Type 0 where
   pub opens : (Γ : Ctx) (b : TyVar) (T : Ty) → Run q w s.top g.at g.n Γ → Den q w s.top r (forall b T)
       → Instances q w w' s g b (opened_ctx (here h) sd Γ b) z (opened_ty sd b T s.left s.fresh)

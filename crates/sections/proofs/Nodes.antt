@@ -11,8 +11,7 @@ use borrow.Author.Tests.{le-ltb, lt-ltb, le-leb, ltb-true, leb-true}
 use Rattle.definition.specs.Syntax.{pick, section, sections, no_section, ty_section, ctx_section, Judgement, infer, check, infer_app, subtype, inst, on_l, on_r, Ty, Ctx, Rule, judgement_words, rule_number, Tree, node, Trees, leaf, ◌&◌, children, tree_words, trees_words}
 use Rattle.sections.specs.declared.Bounds.{Bounds}
 use Rattle.sections.specs.declared.Node.{Node}
-use Rattle.sections.specs.declared.Walked.{Walked}
-use Rattle.sections.specs.declared.Walked.TheVariants.{Met, Broken}
+use Rattle.std.specs.Prelude.{Option, None, Some}
 use Rattle.sections.specs.Sections.{bounds_at, PartAt}
 use Rattle.sections.specs.Nodes.{whole_at, node_in, bounds, words_in, Finds, onward, nodes_from, nodes_in, Stated, stated, stated_in, state_words, states_words, of_node, of_tree, of_trees}
 use Rattle.sections.proofs.Sections.{long, count_there, bounds_there, words_there, next_there}
@@ -45,7 +44,7 @@ exact : {ws : List ℕ} {at : ℕ} {b : Bounds} → PartAt ws (length ws) at b �
 exact {ws} {at} p = ap (λ (vs : List ℕ). bounds_at vs at) (sym (take-length ws)) ∙ p.is
 
 module _ (ws : List ℕ) (at : ℕ) where
-  pub no_node : length ws ≤ at + 3 → Broken ≡ node_in ws at
+  pub no_node : length ws ≤ at + 3 → None ≡ node_in ws at
   unfolding node_in pick
   no_node h =
       let e : bounds_at ws (length ws) ≡ (length ws, length ws) = past_end ws (length ws) (omega arith) in
@@ -54,12 +53,12 @@ module _ (ws : List ℕ) (at : ℕ) where
   module _ {i l r o : Bounds} (input : PartAt ws (length ws) (at + 3) i) (left : PartAt ws (length ws) i.to l)
       (right : PartAt ws (length ws) l.to r) (output : PartAt ws (length ws) r.to o)
       {t : Bool} (last : t ≡ whole_at ws o.to) where
-    pub broken_off : t ≡ false → Broken ≡ node_in ws at
+    pub broken_off : t ≡ false → None ≡ node_in ws at
     unfolding node_in pick
     broken_off h = rw (exact input, exact left, exact right, exact output, ← last, h)
 
     pub met : {e : Bounds} → t ≡ true → PartAt ws (length ws) o.to e
-        → Met (record {
+        → Some (record {
           rule = get_or ws at 0;
           children = get_or ws (at + 1) 0;
           place = get_or ws (at + 2) 0;
@@ -145,7 +144,7 @@ module _ (ws : List ℕ) (S : Stated) (qs : List ℕ) (at : ℕ) (h : drop at ws
     end = p₅;
   }
 
-  node_there : node_in ws at ≡ Met placed
+  node_there : node_in ws at ≡ Some placed
   unfolding node_in pick
   node_there =
       rw (
@@ -260,7 +259,7 @@ module _ (ws : List ℕ) (at : ℕ) where
         first_of ws (at + 2) (at + 3) (omega arith) (omega arith),
       )
 
-  met_there : whole_at ws c₄ ≡ true → Finds ws at (Met found)
+  met_there : whole_at ws c₄ ≡ true → Finds ws at (Some found)
   unfolding state_words sections pick
   met_there h =
       let h₃ = whole_before ws c₃ h in
@@ -273,7 +272,7 @@ module _ (ws : List ℕ) (at : ℕ) where
             ∙ rw (stands ws (at + 3) h₀, stands ws c₁ h₁, stands ws c₂ h₂, stands ws c₃ h₃, stands ws c₄ h) (sym (simp append_assoc)),
       )
 
-  none_there : whole_at ws c₄ ≡ false → Finds ws at Broken
+  none_there : whole_at ws c₄ ≡ false → Finds ws at None
   none_there h S qs d = false≢true (sym h ∙ last_there ws S qs at d)
 
 -- what `node_in` answers, of any words
@@ -281,7 +280,7 @@ pub finds : (ws : List ℕ) (at : ℕ) → Finds ws at (node_in ws at)
 unfolding node_in pick
 finds ws at = go (whole_at ws (c₄ ws at)) refl
   where
-    go : (b : Bool) → whole_at ws (c₄ ws at) ≡ b → Finds ws at (pick b (Met (found ws at)) Broken)
+    go : (b : Bool) → whole_at ws (c₄ ws at) ≡ b → Finds ws at (pick b (Some (found ws at)) None)
     go true h = met_there ws at h
     go false h = none_there ws at h
 
@@ -293,14 +292,14 @@ unfolding state_words sections section
 state_long S qs = simp length-append (omega arith)
 
 module _ (ws : List ℕ) (at : ℕ) where
-  pub met_past : {N : Node} → node_in ws at ≡ Met N → (at + 8 ≤ N.end) × (N.end ≤ length ws)
+  pub met_past : {N : Node} → node_in ws at ≡ Some N → (at + 8 ≤ N.end) × (N.end ≤ length ws)
   met_past {N} e = let f = rw e at (finds ws at) in
       (omega (arith, f.0, ap length f.1, length-drop at ws, length-drop N.end ws, state_long (stated ws N) (drop N.end ws)), f.0)
 
-same_onward : (f g : ℕ → List Node) (z : Walked) → ((N : Node) → z ≡ Met N → f N.end ≡ g N.end) → onward f z ≡ onward g z
+same_onward : (f g : ℕ → List Node) (z : Option Node) → ((N : Node) → z ≡ Some N → f N.end ≡ g N.end) → onward f z ≡ onward g z
 unfolding onward
-same_onward f g (Met N) h = ap (λ (Ns : List Node). N ∷ Ns) (h N refl)
-same_onward f g Broken h = refl
+same_onward f g (Some N) h = ap (λ (Ns : List Node). N ∷ Ns) (h N refl)
+same_onward f g None h = refl
 
 -- how many turns there may be does not matter
 same_walk : (ws : List ℕ) (d e at : ℕ) → length ws ≤ at + d → length ws ≤ at + e → nodes_from d ws at ≡ nodes_from e ws at
@@ -312,7 +311,7 @@ same_walk ws (suc d) (suc e) at h k =
     same_onward (λ p. nodes_from d ws p) (λ p. nodes_from e ws p) (node_in ws at) (λ N m. same_walk ws d e N.end (omega (arith, met_past ws at m)) (omega (arith, met_past ws at m)))
 
 module _ (ws : List ℕ) (at : ℕ) where
-  pub walk_ends : node_in ws at ≡ Broken → nodes_from (length ws) ws at ≡ []
+  pub walk_ends : node_in ws at ≡ None → nodes_from (length ws) ws at ≡ []
   unfolding nodes_from onward
   walk_ends h = go (length ws)
     where
@@ -320,7 +319,7 @@ module _ (ws : List ℕ) (at : ℕ) where
       go zero = refl
       go (suc d) = rw h
 
-  pub walk_goes_on : {N : Node} → node_in ws at ≡ Met N → nodes_from (length ws) ws at ≡ N ∷ nodes_from (length ws) ws N.end
+  pub walk_goes_on : {N : Node} → node_in ws at ≡ Some N → nodes_from (length ws) ws at ≡ N ∷ nodes_from (length ws) ws N.end
   unfolding nodes_from onward
   walk_goes_on h = same_walk ws (length ws) (suc (length ws)) at (omega arith) (omega arith) ∙ rw h
 

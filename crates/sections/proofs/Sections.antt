@@ -2,9 +2,9 @@
 use mathlib.Core.Path.{◌≡◌, refl, sym, ap, ◌∙◌}
 use mathlib.Core.Bool.{Bool, true, false}
 use mathlib.Core.List.{List, ◌++◌}
-use mathlib.Core.Logic.{◌⊎◌, ⊎_elim}
-use Prim.Native.Nat.{ℕ, suc, ◌+◌, ◌-◌, ◌≤◌, ◌<◌}
+use Prim.Native.Nat.{ℕ, suc, ◌+◌, ◌-◌, ◌≤◌, ◌<◌, min}
 use native.Mathlib.Omega.{arith}
+use native.Mathlib.Decide.{dec_le}
 use lib.ListN.{length, get_or, take, drop, length-append, length-drop}
 use lib.Seq.{length-take-le, get_or-take, take-take, take-add, take_all, take_at, drop_at, drop-drop, get_or-drop}
 use borrow.Author.Tests.{le-ltb, lt-ltb, le-leb, lt-leb}
@@ -66,19 +66,21 @@ part_of_take ws a b n h k l =
     ap (take (b - a)) d ∙ take-take (b - a) (n - a) (drop a ws) (omega arith)
 
 -- the length given, or the slice's own where that is less
-pub cut : (ws : List ℕ) (len n : ℕ) → ((len < length ws) × (n ≡ len)) ⊎ ((length ws ≤ len) × (n ≡ length ws)) → (n ≤ length ws) × (take n ws ≡ take len ws)
-cut ws len n h =
-    ⊎_elim (λ u. (omega (arith, u.0, u.1), ap (λ (m : ℕ). take m ws) u.1))
-    (λ u. (omega (arith, u.1), ap (λ (m : ℕ). take m ws) u.1 ∙ take_all (length ws) ws (omega arith) ∙ sym (take_all len ws u.0))) h
+pub cut : (ws : List ℕ) (len n : ℕ) → n ≡ min (length ws) len → take n ws ≡ take len ws
+cut ws len n e =
+    elim (dec_le len (length ws)) [
+      | yes h ↦ (let i : n ≡ len = omega arith in rw i)
+      | no h ↦ (let i : n ≡ length ws = omega arith in rw i (take_all (length ws) ws (omega arith) ∙ sym (take_all len ws (omega arith))))
+    ]
 
-pub part_of_lem : (ws : List ℕ) (len k n : ℕ) (b : Bounds) → (n ≤ length ws) × (take n ws ≡ take len ws) → bounds_of k (take n ws) ≡ (b.from, b.to)
+pub part_of_lem : (ws : List ℕ) (len k n : ℕ) (b : Bounds) → n ≡ min (length ws) len → bounds_of k (take n ws) ≡ (b.from, b.to)
     → b.from ≤ b.to → b.to ≤ n → PartOf ws len k b
 unfolding section_of
 part_of_lem ws len k n b c e o w = record {
-  place = rw (← c.1) e;
-  is = sym (rw (← c.1, e) (part_of_take ws b.from b.to n o w c.0));
+  place = rw (← cut ws len n c) e;
+  is = sym (rw (← cut ws len n c, e) (part_of_take ws b.from b.to n o w (omega arith)));
   order = o;
-  within = omega (arith, c.0);
+  within = omega arith;
 }
 
 pub next_of : (k : ℕ) (ws : List ℕ) {f t : ℕ} {c : ℕ × ℕ} → bounds_of k ws ≡ (f, t) → bounds_at ws t ≡ c → bounds_of (k + 1) ws ≡ c

@@ -1,12 +1,10 @@
 -- The nodes of a tree in a report's words, one after the other, parent first; and what each states.
-use Rattle.std.specs.Prelude.{◌≡◌, Bool, ◌&&◌, List, [], ◌∷◌, ◌++◌, map, ℕ, zero, suc, ◌+◌, ◌-◌, ◌≤◌, length, get_or, take, drop, ltb, leb}
+use Rattle.std.specs.Prelude.{◌≡◌, Bool, ◌&&◌, Option, None, Some, List, [], ◌∷◌, ◌++◌, map, ℕ, zero, suc, ◌+◌, ◌-◌, ◌≤◌, length, get_or, take, drop, ltb, leb}
 use Rattle.definition.specs.Syntax.{pick, place_of, ty_words, etvar, Ty, ctx_words, Ctx, on_l, on_r, Judgement, infer, check, infer_app, subtype, inst, Rule, rule_number, Tree, node, Trees, leaf, ◌&◌, section, sections, children}
 use Rattle.definition.specs.Run.{Out, done, fail, stop}
 use Rattle.definition.specs.Rules.{Result}
 use Rattle.sections.specs.declared.Bounds.{Bounds}
 use Rattle.sections.specs.declared.Node.{Node}
-use Rattle.sections.specs.declared.Walked.{Walked}
-use Rattle.sections.specs.declared.Walked.TheVariants.{Met, Broken}
 use Rattle.sections.specs.Sections.{bounds_at, sections_compute}
 
 -- ## One node
@@ -20,7 +18,7 @@ bounds b = record { from = b.0; to = b.1 }
 
 -- "A node: rule number, number of children, place of its expression in the question (0 if none), then five sections: input context,
 -- left type, right type, output context, result type." All five are whole where the last is: one that is not ends where the words do.
-unfoldable pub node_in : List ℕ → ℕ → Walked
+unfoldable pub node_in : List ℕ → ℕ → Option Node
 node_in ws at =
     let input : ℕ × ℕ = bounds_at ws (at + 3) in
     let left : ℕ × ℕ = bounds_at ws input.1 in
@@ -28,7 +26,7 @@ node_in ws at =
     let output : ℕ × ℕ = bounds_at ws right.1 in
     let result : ℕ × ℕ = bounds_at ws output.1 in
     pick (whole_at ws output.1)
-    (Met (record {
+    (Some (record {
       rule = get_or ws at 0;
       children = get_or ws (at + 1) 0;
       place = get_or ws (at + 2) 0;
@@ -39,13 +37,13 @@ node_in ws at =
       result = bounds result;
       end = result.1;
     }))
-    Broken
+    None
 
 -- ## A walk: the next node stands where the words of this one end
 
-unfoldable pub onward : (ℕ → List Node) → Walked → List Node
-onward next (Met N) = N ∷ next N.end
-onward next Broken = []
+unfoldable pub onward : (ℕ → List Node) → Option Node → List Node
+onward next (Some N) = N ∷ next N.end
+onward next None = []
 
 -- at most so many of them, from a place on
 unfoldable pub nodes_from : ℕ → List ℕ → ℕ → List Node
@@ -104,9 +102,9 @@ states_words [] = []
 states_words (S ∷ Ss) = state_words S ++ states_words Ss
 
 -- what is met at a place stands there, and ends before what follows; where nothing is met no node stands, whatever it states
-abbrev pub Finds : List ℕ → ℕ → Walked → Type 0
-Finds ws at (Met N) = (N.end ≤ length ws) × (drop at ws ≡ state_words (stated ws N) ++ drop N.end ws)
-Finds ws at Broken = (S : Stated) (qs : List ℕ) → drop at ws ≡ state_words S ++ qs → ⊥
+abbrev pub Finds : List ℕ → ℕ → Option Node → Type 0
+Finds ws at (Some N) = (N.end ≤ length ws) × (drop at ws ≡ state_words (stated ws N) ++ drop N.end ws)
+Finds ws at None = (S : Stated) (qs : List ℕ) → drop at ws ≡ state_words S ++ qs → ⊥
 
 -- ## What the definition's nodes state
 

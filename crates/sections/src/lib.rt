@@ -18,7 +18,7 @@ pub enum Section {
     Second,
 }
 
-// A part of a slice.
+// A part of a slice; no std Range, which is not Copy as this and a node of five are.
 #[derive(Clone, Copy)]
 pub struct Bounds {
     pub from: usize,
@@ -39,13 +39,6 @@ pub struct Node {
     pub end: usize,
 }
 
-// What a walk comes to at a place: a whole node, or words that are none.
-#[derive(Clone, Copy)]
-pub enum Walked {
-    Met(Node),
-    Broken,
-}
-
 // The words of the section whose count stands at a place of the first n words.
 fn part_at(report: &[u32], n: usize, at: usize) -> Bounds
     requires { n ≤ length report.now }
@@ -56,10 +49,11 @@ fn part_at(report: &[u32], n: usize, at: usize) -> Bounds
     }
     let count = report[at] as usize;
     let from = at + 1;
-    let left = n - from;
-    if count <= left {
-        let to = from + count;
-        return Bounds { from: from, to: to };
+    if count <= n - from {
+        return Bounds {
+            from,
+            to: from + count,
+        };
     }
     Bounds { from: n, to: n }
 }
@@ -68,16 +62,10 @@ fn part_at(report: &[u32], n: usize, at: usize) -> Bounds
 fn part_of(report: &[u32], len: usize, k: usize) -> Bounds
     ensures { PartOf report.now len k result }
 {
-    let mut n = report.len();
-    if len < n {
-        n = len;
-    }
+    let n = report.len().min(len);
     let mut b = part_at(report, n, 0);
-    let mut i = 0;
-    while i < k {
-        let at = b.to;
-        b = part_at(report, n, at);
-        i += 1;
+    for _ in 0..k {
+        b = part_at(report, n, b.to);
     }
     b
 }
@@ -86,20 +74,16 @@ fn part_of(report: &[u32], len: usize, k: usize) -> Bounds
 fn is_error(code: u32) -> bool
     ensures { result ≡ is_error code }
 {
-    11 <= code && code <= LAST_ERROR
+    matches!(code, 11..=LAST_ERROR)
 }
 
 // Whether the report of a reply with this code has the section.
 fn has_section(s: Section, code: u32) -> bool
     ensures { result ≡ has_section s code }
 {
-    let error = is_error(code);
     match s {
-        Section::Ty => code == 0,
-        Section::Context => code == 0,
-        Section::Tree => code == 0,
-        Section::First => error,
-        Section::Second => error,
+        Section::Ty | Section::Context | Section::Tree => code == 0,
+        Section::First | Section::Second => is_error(code),
     }
 }
 
@@ -108,11 +92,9 @@ fn place_of(s: Section) -> usize
     ensures { result ≡ order_of s }
 {
     match s {
-        Section::Ty => 0,
-        Section::Context => 1,
+        Section::Ty | Section::First => 0,
+        Section::Context | Section::Second => 1,
         Section::Tree => 2,
-        Section::First => 0,
-        Section::Second => 1,
     }
 }
 
@@ -120,11 +102,8 @@ fn place_of(s: Section) -> usize
 pub fn bounds_of(report: &[u32], r: Reply, s: Section) -> Bounds
     ensures { PlacedPart report.now r s result }
 {
-    let code = r.code;
-    if has_section(s, code) {
-        let len = r.len as usize;
-        let k = place_of(s);
-        return part_of(report, len, k);
+    if has_section(s, r.code) {
+        return part_of(report, r.len as usize, place_of(s));
     }
     Bounds { from: 0, to: 0 }
 }
@@ -133,9 +112,7 @@ pub fn bounds_of(report: &[u32], r: Reply, s: Section) -> Bounds
 pub fn section_of(report: &[u32], r: Reply, s: Section) -> &[u32]
     ensures { result.now ≡ part_of s r.code (take r.len report.now) }
 {
-    let b = bounds_of(report, r, s);
-    let from = b.from;
-    let to = b.to;
+    let Bounds { from, to } = bounds_of(report, r, s);
     &report[from..to]
 }
 
@@ -144,44 +121,34 @@ fn whole_at(words: &[u32], at: usize) -> bool
     ensures { result ≡ whole_at words.now at }
 {
     let n = words.len();
-    if n <= at {
-        return false;
-    }
-    let count = words[at] as usize;
-    let left = n - (at + 1);
-    count <= left
+    at < n && words[at] as usize <= n - (at + 1)
 }
 
-// The node whose rule number stands at a place of any words.
-pub fn node_at(words: &[u32], at: usize) -> Walked
+// The node whose rule number stands at a place of any words; none where those that stand there are no whole one.
+pub fn node_at(words: &[u32], at: usize) -> Option<Node>
     ensures { result ≡ node_in words.now at }
 {
     let n = words.len();
-    if n <= 3 {
-        return Walked::Broken;
-    }
-    if n - 3 <= at {
-        return Walked::Broken;
+    if n.saturating_sub(3) <= at {
+        return None;
     }
     let input = part_at(words, n, at + 3);
     let left = part_at(words, n, input.to);
     let right = part_at(words, n, left.to);
     let output = part_at(words, n, right.to);
-    let last = output.to;
-    if whole_at(words, last) {
-        let result = part_at(words, n, last);
-        let node = Node {
-            rule: words[at],
-            children: words[at + 1],
-            place: words[at + 2],
-            input: input,
-            left: left,
-            right: right,
-            output: output,
-            result: result,
-            end: result.to,
-        };
-        return Walked::Met(node);
+    if !whole_at(words, output.to) {
+        return None;
     }
-    Walked::Broken
+    let result = part_at(words, n, output.to);
+    Some(Node {
+        rule: words[at],
+        children: words[at + 1],
+        place: words[at + 2],
+        input,
+        left,
+        right,
+        output,
+        result,
+        end: result.to,
+    })
 }

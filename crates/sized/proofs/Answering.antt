@@ -3,9 +3,9 @@ use mathlib.Core.Path.{◌≡◌, refl, sym, ap, ◌∙◌}
 use mathlib.Core.Bool.{Bool, true, false}
 use mathlib.Core.List.{List, ◌++◌, append_assoc}
 use mathlib.Core.Logic.{◌≢◌}
-use Prim.Native.Nat.{ℕ, ◌-◌, ◌*◌, ◌/◌, ◌%◌, ◌≤◌, ◌<◌, min}
+use Prim.Native.Nat.{ℕ, ◌*◌, ◌/◌, ◌%◌, ◌≤◌, ◌<◌, min}
 use native.Mathlib.Omega.{arith}
-use native.Mathlib.Nat.{lt_of_not-le, sub-zero}
+use native.Mathlib.Nat.{lt_of_not-le}
 use native.Mathlib.Decide.{dec_le}
 use lib.ListN.{length, take, drop}
 use lib.Seq.{take_at, take_all, length-take-le}
@@ -70,13 +70,13 @@ whole room b k = rw k (pick_true _ _ refl)
 
 -- words held what was read, then what they held before
 pub asked : {b w w' s s' : List ℕ} (ws rest : List ℕ) {r : program.Reply} → 4 * (length b / 4) ≡ length b → length w ≡ 16384 → length s ≤ 4096
-    → ws ≡ words_of b (length b / 4) ++ rest → Replied 384 (take (length b / 4 - 0) (drop 0 ws)) w w' s s' r → BytesAnswered b s s' r
+    → ws ≡ words_of b (length b / 4) ++ rest → Replied 384 (take (length b / 4) ws) w w' s s' r → BytesAnswered b s s' r
 unfolding call
 asked {b} {w} {w'} {s} {s'} ws rest h l m e x =
-    let q : take (length b / 4 - 0) (drop 0 ws) ≡ words_of b (length b / 4) = rw (sub-zero, e) (take_at (words_of b (length b / 4)) rest (length b / 4) (length_words b (length b / 4))) in
+    let q : take (length b / 4) ws ≡ words_of b (length b / 4) = rw e (take_at (words_of b (length b / 4)) rest (length b / 4) (length_words b (length b / 4))) in
     let z : length b % 4 ≡ 0 = omega (arith, h) in
     let c : min (length s) 4096 ≡ length s = omega (arith, m) in
-    let f : reply 384 (length w) (length s) (take (length b / 4 - 0) (drop 0 ws)) ≡ byte_reply (length s) b = rw (q, l) (sym (rw c at (whole (length s) b z))) in
+    let f : reply 384 (length w) (length s) (take (length b / 4) ws) ≡ byte_reply (length s) b = rw (q, l) (sym (rw c at (whole (length s) b z))) in
     record { numbers = rw (← f) x.numbers; report = rw (← f) x.report }
 
 -- ## The report's first words

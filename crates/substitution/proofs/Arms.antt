@@ -1,26 +1,30 @@
 -- The arms of a call that makes a type, said once for substitution and application: what each step asks, and what the arm has done.
-use mathlib.Core.Path.{◌≡◌, refl, sym, ap}
+use mathlib.Core.Path.{◌≡◌, refl, sym, ap, subst}
 use mathlib.Core.List.{List}
 use Prim.Native.Nat.{ℕ, ◌+◌, ◌-◌, ◌*◌, ◌≤◌, ◌<◌}
 use native.Mathlib.Omega.{arith}
+use Rattle.std.specs.Prelude.{Result, Ok, Err}
+use Rattle.std.specs.Result.{IsErrAnd}
+use Rattle.std.proofs.lemmas.Result.{err_from_is_err_and}
 use Rattle.definition.specs.Syntax.{Ty, arrow, forall}
-use Rattle.definition.specs.Run.{Out, M, give}
+use Rattle.definition.specs.Run.{Out, done, M, give}
 use Rattle.layout.specs.Names.{ty}
+use Rattle.layout.specs.States.{raised, Charges}
 use Rattle.layout.specs.Words.{Keep}
 use Rattle.layout.specs.Denotes.{Den}
 use Rattle.layout.specs.Room.{Room}
 use Rattle.layout.specs.declared.TyVar.{TyVar}
 use Rattle.layout.specs.declared.State.{State}
 use Rattle.layout.specs.declared.Made.{Made}
-use Rattle.layout.specs.declared.Made.TheVariants.{Done, Spent}
+use Rattle.layout.specs.declared.Spent.{Spent}
 use Rattle.layout.proofs.Words.{keep_refl}
-use Rattle.types.specs.Reading.{Held, HeldAs, HeldNamed, Tagged, Named, LeftOf, RightOf, BodyOf}
+use Rattle.layout.proofs.States.{is_paid, not_paid}
+use Rattle.types.specs.Reading.{Held, HeldAs, HeldNamed, form_number, FormOf, Named, LeftOf, RightOf, BodyOf}
+use Rattle.types.specs.declared.Form.{Form}
 use Rattle.types.specs.Making.{ArrowRoom, ForallRoom}
-use Rattle.types.proofs.Held.{room_held, held_as, held_named}
+use Rattle.types.proofs.Held.{room_held, held_named, held_arrow, held_forall}
 use Rattle.types.proofs.Cases.{by_arrow, by_forall}
-use Rattle.substitution.specs.declared.Begun.{Begun}
-use Rattle.substitution.specs.declared.Begun.TheVariants as begun
-use Rattle.substitution.specs.Passing.{pay, Passed, Begins, at, unpaid, Makes, made, spent, ArrowMade, ForallMade}
+use Rattle.substitution.specs.Passing.{pay, Passed, Makes, made, spent, ArrowMade, ForallMade}
 use Rattle.substitution.proofs.Passing.{here, then, keep_on, den_on, room_on, kept, grown, room_paid, Reached, reached, ended}
 use Rattle.substitution.proofs.Equations as equations
 use Rattle.substitution.proofs.Equations.{PaysFirst, once_paid, on_arrow, arrow_stop, arrow_stop_late, arrow_done, on_forall, forall_stop, forall_done}
@@ -37,32 +41,8 @@ pub record Askable {X : Type 0} (G : X → List ℕ → ℕ → Type 0) (q w : L
   pub den : Den q w s.top r type
 
 -- for every x and type, the call does what m does
-pub record Does {X : Type 0} (G : X → List ℕ → ℕ → Type 0) (m : X → Ty → M Ty) (q w w' : List ℕ) (s : State) (r : ℕ) (z : Made) : Type 0 where
+pub record Does {X : Type 0} (G : X → List ℕ → ℕ → Type 0) (m : X → Ty → M Ty) (q w w' : List ℕ) (s : State) (r : ℕ) (z : Result Made Spent) : Type 0 where
   pub makes : (x : X) → G x w s.top → (T : Ty) → Den q w s.top r T → Makes q w w' s z (m x T s.left s.fresh)
-
--- ## The beginning
-
--- one unit was paid, which leaves p, and the code read is k
-pub record Began (q w : List ℕ) (s : State) (r : ℕ) (p : State) (k : ℕ) : Type 0 where
-  pub some : 1 ≤ s.left
-  pub is : p ≡ pay s
-  pub tag : Tagged q w s.top r k
-
-pub began : {q w : List ℕ} {s p : State} {r k : ℕ} {z : Begun} → Begins q w s r z → z ≡ begun.At p k → Began q w s r p k
-began {q} {w} {s} {p} {r} {k} h e = go (rw e at h) refl
-  where
-    go : {y : Begun} → Begins q w s r y → y ≡ begun.At p k → Began q w s r p k
-    go (at {k = j} l t) f =
-        let same : j ≡ k = cc in
-        record { some = l; is = cc; tag = rw same at t }
-    go (unpaid l) f = let z : ◌≡◌ {A = ℕ} 0 1 = cc in absurd (omega arith)
-
-none_left : {q w : List ℕ} {s : State} {r : ℕ} {z : Begun} → Begins q w s r z → z ≡ begun.Spent → s.left ≡ 0
-none_left {q} {w} {s} {r} h e = go (rw e at h) refl
-  where
-    go : {y : Begun} → Begins q w s r y → y ≡ begun.Spent → s.left ≡ 0
-    go (at l t) f = let z : ◌≡◌ {A = ℕ} 0 1 = cc in absurd (omega arith)
-    go (unpaid l) f = l
 
 -- ## What the arms rest on
 
@@ -77,14 +57,25 @@ module _ {X : Type 0} {G : X → List ℕ → ℕ → Type 0} {q w : List ℕ} {
   pub held : Askable G q w s r → Held q w s.top r
   held h = room_held h.room h.den
 
-  pub spent_at_once : {m : X → Ty → M Ty} {z : Begun} → Descent G m → Begins q w s r z → z ≡ begun.Spent → Does G m q w w s r Spent
-  spent_at_once way h e = record {
-    makes = λ x g T d. rw (equations.unpaid s.left s.fresh (way.paid x T) (none_left h e)) (spent (keep_refl _ _ w));
+  pub spent_at_once : {m : X → Ty → M Ty} {x : Spent} → Descent G m → Charges s 1 (Err x) → (y : Spent) → Does G m q w w s r (Err y)
+  spent_at_once way c y = record {
+    makes = λ x g T d. let l = not_paid c refl in rw (equations.unpaid s.left s.fresh (way.paid x T) (omega arith)) (spent (keep_refl _ _ w));
   }
+
+  -- what the exit of a `?` gives back
+  pub exits : {m : X → Ty → M Ty} {w' : List ℕ} (Q : Spent → Type 0) (z : Result Made Spent) → IsErrAnd z Q
+      → ((y : Spent) → Does G m q w w' s r (Err y)) → Does G m q w w' s r z
+  exits Q z e h = let p = err_from_is_err_and z e in rw p.1 (h p.0)
 
 -- ## A call that has begun
 
--- it asks, and has paid one unit, which leaves p, and read the code k; n is the cycle's measure
+-- one unit was paid, which leaves p, and the type's form is f
+pub record Began (q w : List ℕ) (s : State) (r : ℕ) (p : State) (f : Form) : Type 0 where
+  pub some : 1 ≤ s.left
+  pub is : p ≡ pay s
+  pub form : FormOf q w s.top r f
+
+-- it asks, and has begun; n is the cycle's measure
 pub record PaidCall (X : Type 0) (n : ℕ) : Type 1 where
   pub G : X → List ℕ → ℕ → Type 0
   pub m : X → Ty → M Ty
@@ -94,36 +85,44 @@ pub record PaidCall (X : Type 0) (n : ℕ) : Type 1 where
   pub s : State
   pub r : ℕ
   pub p : State
-  pub k : ℕ
+  pub f : Form
   pub asks : Askable G q w s r
   pub falls : s.left ≡ n
-  pub began : Began q w s r p k
+  pub began : Began q w s r p f
 
--- so it is where the code was read
-abbrev pub begin : {X : Type 0} {G : X → List ℕ → ℕ → Type 0} {m : X → Ty → M Ty} {q w : List ℕ} {s p : State} {r k n : ℕ} {z : Begun}
-    → Descent G m → Askable G q w s r → s.left ≡ n → Begins q w s r z → z ≡ begun.At p k → PaidCall X n
-begin way h f b e = record { G = _; m = _; way = way; q = _; w = _; s = _; r = _; p = _; k = _; asks = h; falls = f; began = began b e }
+-- so it is where the form was read
+abbrev pub begin : {X : Type 0} {G : X → List ℕ → ℕ → Type 0} {m : X → Ty → M Ty} {q w : List ℕ} {s p : State} {r n : ℕ} (f : Form)
+    → Descent G m → Askable G q w s r → s.left ≡ n → Charges s 1 (Ok p) → FormOf q w s.top r f → PaidCall X n
+begin f way h l c t = record {
+  G = _;
+  m = _;
+  way = way;
+  q = _;
+  w = _;
+  s = _;
+  r = _;
+  p = _;
+  f = f;
+  asks = h;
+  falls = l;
+  began = record { some = (is_paid c refl).enough; is = (is_paid c refl).is; form = t };
+}
 
--- a call on l, from w and s, has made the type r, at w' and s'
+-- a call on l, from w and s, has made the type z, at w'
 pub record Gone {X : Type 0} (G : X → List ℕ → ℕ → Type 0) (m : X → Ty → M Ty) (q w : List ℕ) (s : State) (l : ℕ) : Type 0 where
   pub w' : List ℕ
-  pub s' : State
-  pub r : ℕ
-  pub does : Does G m q w w' s l (Done s' r)
-
-abbrev pub gone : {X : Type 0} {G : X → List ℕ → ℕ → Type 0} {m : X → Ty → M Ty} {q w w' : List ℕ} {s s' : State} {l r : ℕ} {z : Made}
-    → Does G m q w w' s l z → z ≡ Done s' r → Gone G m q w s l
-gone h e = record { w' = _; s' = _; r = _; does = rw e at h }
+  pub z : Made
+  pub does : Does G m q w w' s l (Ok z)
 
 module _ {X : Type 0} {n : ℕ} (i : PaidCall X n) where
   -- l denotes T; the call ends so; a call on the part l ends so, or has made a type
   abbrev pub Denoted : ℕ → Ty → Type 0
   Denoted l T = Den i.q i.w i.s.top l T
 
-  abbrev pub Ends : List ℕ → Made → Type 0
+  abbrev pub Ends : List ℕ → Result Made Spent → Type 0
   Ends w' z = Does i.G i.m i.q i.w w' i.s i.r z
 
-  abbrev pub On : ℕ → List ℕ → Made → Type 0
+  abbrev pub On : ℕ → List ℕ → Result Made Spent → Type 0
   On l w' z = Does i.G i.m i.q i.w w' i.p l z
 
   abbrev pub PartMade : ℕ → Type 0
@@ -140,12 +139,15 @@ module _ {X : Type 0} {n : ℕ} (i : PaidCall X n) where
   pub fewer : i.p.left < n
   fewer = rw i.began.is (omega (arith, i.began.some, i.falls))
 
-  -- its type has this code; it is a Var, an ETVar or a Forall
-  pub coded : (j : ℕ) → i.k ≡ j → HeldAs i.q i.w i.s.top i.r j
-  coded j e = held_as (held i.asks) i.began.tag j e
+  -- what its form tells of its type
+  pub as_arrow : i.f ≡ Form.Arrow → HeldAs i.q i.w i.s.top i.r 5
+  as_arrow = held_arrow (held i.asks) i.began.form
 
-  pub named : 3 ≤ i.k → (i.k ≡ 5 → ⊥) → HeldNamed i.q i.w i.s.top i.r
-  named l f = held_named (held i.asks) i.began.tag l f
+  pub as_forall : i.f ≡ Form.Forall → HeldAs i.q i.w i.s.top i.r 6
+  as_forall = held_forall (held i.asks) i.began.form
+
+  pub named : 3 ≤ form_number i.f → (form_number i.f ≡ 5 → ⊥) → HeldNamed i.q i.w i.s.top i.r
+  named = held_named (held i.asks) i.began.form
 
   -- the room there is then, for a new record among others
   room_then : {w' : List ℕ} {s' : State} {j : ℕ} → Passed i.w w' (pay i.s) s' j → Room i.q w' s' (i.asks.spare + 32 + 28 * j)
@@ -165,12 +167,12 @@ module _ {X : Type 0} {n : ℕ} (i : PaidCall X n) where
   pub part_asks : {l : ℕ} {A : Ty} → Denoted l A → Askable i.G i.q i.w i.p l
   part_asks d = rw i.began.is (asks_on (here i.w (pay i.s)) d)
 
-  part_makes : {l : ℕ} {w₁ : List ℕ} {z₁ : Made} {A : Ty} → On l w₁ z₁ → (a : ItsAsk) → Denoted l A
+  part_makes : {l : ℕ} {w₁ : List ℕ} {z₁ : Result Made Spent} {A : Ty} → On l w₁ z₁ → (a : ItsAsk) → Denoted l A
       → Makes i.q i.w w₁ (pay i.s) z₁ (i.m a.x A (i.s.left - 1) i.s.fresh)
   part_makes call a d = (rw i.began.is at call).makes a.x a.given _ d
 
   part_reached : {l : ℕ} {A : Ty} (g : PartMade l) (a : ItsAsk) → Denoted l A
-      → Reached i.q i.w g.w' (pay i.s) g.s' g.r (i.m a.x A (i.s.left - 1) i.s.fresh)
+      → Reached i.q i.w g.w' (pay i.s) g.z.st g.z.ty (i.m a.x A (i.s.left - 1) i.s.fresh)
   part_reached g a d = reached (part_makes g.does a d) refl
 
 -- ## Calls without parts, and one that goes on
@@ -189,7 +191,7 @@ pub record GoesOn (q w : List ℕ) (t u : ℕ) (m : Ty → M Ty) (T : Ty) : Type
 
 pub given_at_once : {X : Type 0} {n u : ℕ} (i : PaidCall X n)
     → ((x : X) → i.G x i.w i.s.top → (T : Ty) → Denoted i i.r T → AtOnce i.q i.w i.s.top u (i.m x T))
-    → Ends i i.w (Done i.p u)
+    → Ends i i.w (Ok (record { st = i.p; ty = u }))
 unfolding give
 given_at_once i f = record {
   makes = λ x g T d.
@@ -205,7 +207,7 @@ pub record Led (X : Type 0) (n : ℕ) : Type 1 where
   pub leads : (x : X) → on.G x on.w on.s.top → (T : Ty) → Denoted on on.r T → GoesOn on.q on.w on.s.top u (on.m x) T
 
 -- what is made once a unit is paid is made
-paid_makes : {q w w' : List ℕ} {s : State} {z : Made} {R : Out Ty} → 1 ≤ s.left → Makes q w w' (pay s) z R → Makes q w w' s z R
+paid_makes : {q w w' : List ℕ} {s : State} {z : Result Made Spent} {R : Out Ty} → 1 ≤ s.left → Makes q w w' (pay s) z R → Makes q w w' s z R
 paid_makes some (made p d) = made (kept some p) d
 paid_makes some (spent k) = spent k
 
@@ -213,7 +215,7 @@ module _ {X : Type 0} {n : ℕ} (f : Led X n) where
   pub follows : Askable f.on.G f.on.q f.on.w f.on.p f.u
   follows = let a = f.on.asks in part_asks f.on (f.leads a.x a.given a.type a.den).den
 
-  pub followed : {w₁ : List ℕ} {z₁ : Made} → On f.on f.u w₁ z₁ → Ends f.on w₁ z₁
+  pub followed : {w₁ : List ℕ} {z₁ : Result Made Spent} → On f.on f.u w₁ z₁ → Ends f.on w₁ z₁
   followed call = record {
     makes = λ x c T d.
         let i = f.on in
@@ -221,6 +223,14 @@ module _ {X : Type 0} {n : ℕ} (f : Led X n) where
         rw (once_paid i.s.left i.s.fresh v.is i.began.some)
         (paid_makes i.began.some (part_makes i call (for i x c T d) v.den));
   }
+
+-- a record that was built at the top is made
+record_made : {q w w' : List ℕ} {s : State} (s' : State) {m : Made} {T : Ty} → m.st ≡ raised s' 4 → Passed w w' s (raised s' 4) 1
+    → Den q w' (s'.top + 4) m.ty T → Makes q w w' s (Ok m) (done T s'.left s.fresh)
+record_made {q} {w} {w'} {s} s' {m} {T} e p d =
+    let same = ap (λ (s : State). s.left) e in
+    let h : Makes q w w' s (Ok m) (done T m.st.left s.fresh) = made (rw e p) (rw e d) in
+    subst (λ (l : ℕ). Makes q w w' s (Ok m) (done T l s.fresh)) same h
 
 -- ## An Arrow
 
@@ -232,10 +242,10 @@ pub record ArrowOf (q w : List ℕ) (t l u : ℕ) (T : Ty) : Type 0 where
   pub left : Den q w t l A
   pub right : Den q w t u B
 
-pub halves : {q w : List ℕ} {t r k l u : ℕ} → Tagged q w t r k → k ≡ 5 → LeftOf q w t r l → RightOf q w t r u → (T : Ty) → Den q w t r T
-    → ArrowOf q w t l u T
+pub halves : {q w : List ℕ} {t r l u : ℕ} {f : Form} → FormOf q w t r f → f ≡ Form.Arrow → LeftOf q w t r l → RightOf q w t r u
+    → (T : Ty) → Den q w t r T → ArrowOf q w t l u T
 halves {q} {w} {t} {l = l} {u = u} c e f g =
-    by_arrow (ArrowOf q w t l u) c e (λ A B d. record { A = A; B = B; is = refl; left = (f.is A B d).den; right = (g.is A B d).den })
+    by_arrow (ArrowOf q w t l u) c (ap form_number e) (λ A B d. record { A = A; B = B; is = refl; left = (f.is A B d).den; right = (g.is A B d).den })
 
 -- the call is on an Arrow, whose halves were read
 pub record Arrow (X : Type 0) (n : ℕ) : Type 1 where
@@ -252,7 +262,7 @@ pub record LeftMade (X : Type 0) (n : ℕ) : Type 1 where
 -- and its right half
 pub record BothMade (X : Type 0) (n : ℕ) : Type 1 where
   pub on : LeftMade X n
-  pub made : Gone on.on.on.G on.on.on.m on.on.on.q on.made.w' on.made.s' on.on.u
+  pub made : Gone on.on.on.G on.on.on.m on.on.on.q on.made.w' on.made.z.st on.on.u
 
 module _ {X : Type 0} {n : ℕ} (h : Arrow X n) where
   -- the halves of the type that is asked for
@@ -262,13 +272,13 @@ module _ {X : Type 0} {n : ℕ} (h : Arrow X n) where
   pub left_asks : Askable h.on.G h.on.q h.on.w h.on.p h.l
   left_asks = part_asks h.on (half h.on.asks).left
 
-  pub left_spent : {w₁ : List ℕ} {z₁ : Made} → On h.on h.l w₁ z₁ → z₁ ≡ Spent → Ends h.on w₁ Spent
-  left_spent call e = record {
+  pub left_spent : {w₁ : List ℕ} {x : Spent} → On h.on h.l w₁ (Err x) → (y : Spent) → Ends h.on w₁ (Err y)
+  left_spent call y = record {
     makes = λ x c T d.
         let i = h.on in
         let v = h.parts T d in
-        let y = ended (part_makes i call (for i x c T d) v.left) e in
-        rw (v.is, arrow_stop (i.m x) _ _ i.s.left i.s.fresh (i.way.arrows x v.A v.B) i.began.some y.is) (spent y.keep);
+        let e = ended (part_makes i call (for i x c T d) v.left) refl in
+        rw (v.is, arrow_stop (i.m x) _ _ i.s.left i.s.fresh (i.way.arrows x v.A v.B) i.began.some e.is) (spent e.keep);
   }
 
 module _ {X : Type 0} {n : ℕ} (h : LeftMade X n) where
@@ -276,24 +286,24 @@ module _ {X : Type 0} {n : ℕ} (h : LeftMade X n) where
   abbrev i : PaidCall X n
   i = h.on.on
 
-  left_reached : (a : ItsAsk i) → Reached i.q i.w h.made.w' (pay i.s) h.made.s' h.made.r
+  left_reached : (a : ItsAsk i) → Reached i.q i.w h.made.w' (pay i.s) h.made.z.st h.made.z.ty
       (i.m a.x (half h.on a).A (i.s.left - 1) i.s.fresh)
   left_reached a = part_reached i h.made a (half h.on a).left
 
-  pub left_fewer : h.made.s'.left < n
+  pub left_fewer : h.made.z.st.left < n
   left_fewer = omega (arith, (left_reached i.asks).passed.paid, i.began.some, i.falls)
 
-  pub right_asks : Askable i.G i.q h.made.w' h.made.s' h.on.u
+  pub right_asks : Askable i.G i.q h.made.w' h.made.z.st h.on.u
   right_asks = asks_on i (left_reached i.asks).passed (half h.on i.asks).right
 
-  module _ {w₂ : List ℕ} {z₂ : Made} (call : Does i.G i.m i.q h.made.w' w₂ h.made.s' h.on.u z₂) where
-    right_makes : (a : ItsAsk i) → Makes i.q h.made.w' w₂ h.made.s' z₂
-        (i.m a.x (half h.on a).B h.made.s'.left h.made.s'.fresh)
+  module _ {w₂ : List ℕ} {z₂ : Result Made Spent} (call : Does i.G i.m i.q h.made.w' w₂ h.made.z.st h.on.u z₂) where
+    right_makes : (a : ItsAsk i) → Makes i.q h.made.w' w₂ h.made.z.st z₂
+        (i.m a.x (half h.on a).B h.made.z.st.left h.made.z.st.fresh)
     right_makes a = let y = (left_reached a).passed in
         call.makes a.x (i.way.stays a.x y.keep y.up a.given) (half h.on a).B (den_on y (half h.on a).right)
 
-    pub right_spent : z₂ ≡ Spent → Ends i w₂ Spent
-    right_spent e = record {
+    pub right_spent : {x : Spent} → z₂ ≡ Err x → (y : Spent) → Ends i w₂ (Err y)
+    right_spent e y = record {
       makes = λ x c T d.
           let v = h.on.parts T d in
           let y = left_reached (for i x c T d) in
@@ -308,14 +318,14 @@ module _ {X : Type 0} {n : ℕ} (b : BothMade X n) where
   abbrev j : PaidCall X n
   j = b.on.on.on
 
-  right_reached : (a : ItsAsk j) → Reached j.q b.on.made.w' b.made.w' b.on.made.s' b.made.s' b.made.r
-      (j.m a.x (half b.on.on a).B b.on.made.s'.left b.on.made.s'.fresh)
+  right_reached : (a : ItsAsk j) → Reached j.q b.on.made.w' b.made.w' b.on.made.z.st b.made.z.st b.made.z.ty
+      (j.m a.x (half b.on.on a).B b.on.made.z.st.left b.on.made.z.st.fresh)
   right_reached a = reached (right_makes b.on b.made.does a) refl
 
-  both_passed : (a : ItsAsk j) → Passed j.w b.made.w' (pay j.s) b.made.s' 2
+  both_passed : (a : ItsAsk j) → Passed j.w b.made.w' (pay j.s) b.made.z.st 2
   both_passed a = then (left_reached b.on a).passed (right_reached a).passed
 
-  pub arrow_asks : ArrowRoom j.q b.made.w' b.made.s'.top b.on.made.r b.made.r
+  pub arrow_asks : ArrowRoom j.q b.made.w' b.made.z.st.top b.on.made.z.ty b.made.z.ty
   arrow_asks =
       let o = right_reached j.asks in
       let room = room_then j (both_passed j.asks) in
@@ -325,7 +335,7 @@ module _ {X : Type 0} {n : ℕ} (b : BothMade X n) where
         right = room_held room o.den;
       }
 
-  pub arrow_does : {w₃ : List ℕ} {z₃ : Made} → ArrowMade j.q b.made.w' w₃ b.made.s' b.on.made.r b.made.r z₃ → Ends j w₃ z₃
+  pub arrow_does : {w₃ : List ℕ} {m : Made} → ArrowMade j.q b.made.w' w₃ b.made.z.st b.on.made.z.ty b.made.z.ty m → Ends j w₃ (Ok m)
   arrow_does f = record {
     makes = λ x c T d.
         let a = for j x c T d in
@@ -333,8 +343,8 @@ module _ {X : Type 0} {n : ℕ} (b : BothMade X n) where
         let y = left_reached b.on a in
         let o = right_reached a in
         let eq = j.way.arrows x v.A v.B in
-        rw (f.is, v.is, arrow_done (j.m x) _ _ j.s.left j.s.fresh eq j.began.some y.is y.passed.fresh o.is)
-        (made (grown j.began.some (both_passed a) f.put.keep (omega (arith, (room_then j (both_passed a)).fits)))
+        rw (v.is, arrow_done (j.m x) _ _ j.s.left j.s.fresh eq j.began.some y.is y.passed.fresh o.is)
+        (record_made _ f.st (grown j.began.some (both_passed a) f.put.keep (omega (arith, (room_then j (both_passed a)).fits)))
         (f.put.den y.type o.type (den_on o.passed y.den) o.den));
   }
 
@@ -346,10 +356,10 @@ pub record ForallOf (q w : List ℕ) (t : ℕ) (a : TyVar) (u : ℕ) (T : Ty) : 
   pub is : T ≡ forall (ty a) A
   pub den : Den q w t u A
 
-pub body : {q w : List ℕ} {t r k u : ℕ} {a : TyVar} → Tagged q w t r k → k ≡ 6 → Named q w t r a → BodyOf q w t r u → (T : Ty) → Den q w t r T
-    → ForallOf q w t a u T
+pub body : {q w : List ℕ} {t r u : ℕ} {a : TyVar} {f : Form} → FormOf q w t r f → f ≡ Form.Forall → Named q w t r a → BodyOf q w t r u
+    → (T : Ty) → Den q w t r T → ForallOf q w t a u T
 body {q} {w} {t} {u = u} {a = a} c e n f =
-    by_forall (ForallOf q w t a u) c e (λ b A d. record { A = A; is = ap (λ e. forall e A) (sym (n.of_forall b A d)); den = (f.is b A d).den })
+    by_forall (ForallOf q w t a u) c (ap form_number e) (λ b A d. record { A = A; is = ap (λ e. forall e A) (sym (n.of_forall b A d)); den = (f.is b A d).den })
 
 -- the call is on a Forall, whose name and body were read, and which m takes apart
 pub record Forall (X : Type 0) (n : ℕ) : Type 1 where
@@ -368,13 +378,13 @@ module _ {X : Type 0} {n : ℕ} (f : Forall X n) where
   pub body_asks : Askable f.on.G f.on.q f.on.w f.on.p f.u
   body_asks = part_asks f.on (f.parts f.on.asks.type f.on.asks.den).den
 
-  pub body_spent : {w₁ : List ℕ} {z₁ : Made} → On f.on f.u w₁ z₁ → z₁ ≡ Spent → Ends f.on w₁ Spent
-  body_spent call e = record {
+  pub body_spent : {w₁ : List ℕ} {x : Spent} → On f.on f.u w₁ (Err x) → (y : Spent) → Ends f.on w₁ (Err y)
+  body_spent call y = record {
     makes = λ x c T d.
         let i = f.on in
         let v = f.parts T d in
-        let y = ended (part_makes i call (for i x c T d) v.den) e in
-        rw (v.is, forall_stop (i.m x) _ _ i.s.left i.s.fresh (f.opens x v.A) i.began.some y.is) (spent y.keep);
+        let e = ended (part_makes i call (for i x c T d) v.den) refl in
+        rw (v.is, forall_stop (i.m x) _ _ i.s.left i.s.fresh (f.opens x v.A) i.began.some e.is) (spent e.keep);
   }
 
 module _ {X : Type 0} {n : ℕ} (b : BodyMade X n) where
@@ -382,41 +392,41 @@ module _ {X : Type 0} {n : ℕ} (b : BodyMade X n) where
   abbrev k : PaidCall X n
   k = b.on.on
 
-  body_reached : (a : ItsAsk k) → Reached k.q k.w b.made.w' (pay k.s) b.made.s' b.made.r
+  body_reached : (a : ItsAsk k) → Reached k.q k.w b.made.w' (pay k.s) b.made.z.st b.made.z.ty
       (k.m a.x (b.on.parts a.type a.den).A (k.s.left - 1) k.s.fresh)
   body_reached a = part_reached k b.made a (b.on.parts a.type a.den).den
 
-  pub forall_asks : ForallRoom k.q b.made.w' b.made.s'.top b.made.r
+  pub forall_asks : ForallRoom k.q b.made.w' b.made.z.st.top b.made.z.ty
   forall_asks =
       let y = body_reached k.asks in
       let room = room_then k y.passed in
       record { room = omega (arith, room.fits, room.low); body = room_held room y.den }
 
-  pub forall_does : {w₂ : List ℕ} {z₂ : Made} → ForallMade k.q b.made.w' w₂ b.made.s' b.on.a b.made.r z₂ → Ends k w₂ z₂
+  pub forall_does : {w₂ : List ℕ} {m : Made} → ForallMade k.q b.made.w' w₂ b.made.z.st b.on.a b.made.z.ty m → Ends k w₂ (Ok m)
   forall_does f = record {
     makes = λ x c T d.
         let v = b.on.parts T d in
         let y = body_reached (for k x c T d) in
-        rw (f.is, v.is, forall_done (k.m x) _ _ k.s.left k.s.fresh (b.on.opens x v.A) k.began.some y.is)
-        (made (grown k.began.some y.passed f.put.keep (omega (arith, (room_then k y.passed).fits))) (f.put.den y.type y.den));
+        rw (v.is, forall_done (k.m x) _ _ k.s.left k.s.fresh (b.on.opens x v.A) k.began.some y.is)
+        (record_made _ f.st (grown k.began.some y.passed f.put.keep (omega (arith, (room_then k y.passed).fits))) (f.put.den y.type y.den));
   }
 
 -- ## A call as its parts are read, and made
 
 module _ {X : Type 0} {n : ℕ} where
-  abbrev pub arrow_read : {l u : ℕ} (i : PaidCall X n) → i.k ≡ 5 → LeftOf i.q i.w i.s.top i.r l → RightOf i.q i.w i.s.top i.r u → Arrow X n
-  arrow_read i e f g = record { on = i; l = _; u = _; parts = halves i.began.tag e f g }
+  abbrev pub arrow_read : {l u : ℕ} (i : PaidCall X n) → i.f ≡ Form.Arrow → LeftOf i.q i.w i.s.top i.r l → RightOf i.q i.w i.s.top i.r u → Arrow X n
+  arrow_read i e f g = record { on = i; l = _; u = _; parts = halves i.began.form e f g }
 
-  abbrev pub forall_read : {a : TyVar} {u : ℕ} (i : PaidCall X n) → i.k ≡ 6 → Named i.q i.w i.s.top i.r a → BodyOf i.q i.w i.s.top i.r u
+  abbrev pub forall_read : {a : TyVar} {u : ℕ} (i : PaidCall X n) → i.f ≡ Form.Forall → Named i.q i.w i.s.top i.r a → BodyOf i.q i.w i.s.top i.r u
       → ((x : X) (A : Ty) → PaysFirst (i.m x (forall (ty a) A)) (on_forall (i.m x) (ty a) A)) → Forall X n
-  forall_read i e f g h = record { on = i; a = _; u = _; parts = body i.began.tag e f g; opens = h }
+  forall_read i e f g h = record { on = i; a = _; u = _; parts = body i.began.form e f g; opens = h }
 
-  module _ {w' : List ℕ} {s' : State} {r : ℕ} {z : Made} where
-    abbrev pub left_made : (h : Arrow X n) → On h.on h.l w' z → z ≡ Done s' r → LeftMade X n
-    left_made h f e = record { on = h; made = gone f e }
+  module _ {w' : List ℕ} {z : Made} where
+    abbrev pub left_made : (h : Arrow X n) → On h.on h.l w' (Ok z) → LeftMade X n
+    left_made h f = record { on = h; made = record { w' = _; z = _; does = f } }
 
-    abbrev pub both_made : (h : LeftMade X n) → Does h.on.on.G h.on.on.m h.on.on.q h.made.w' w' h.made.s' h.on.u z → z ≡ Done s' r → BothMade X n
-    both_made h f e = record { on = h; made = gone f e }
+    abbrev pub both_made : (h : LeftMade X n) → Does h.on.on.G h.on.on.m h.on.on.q h.made.w' w' h.made.z.st h.on.u (Ok z) → BothMade X n
+    both_made h f = record { on = h; made = record { w' = _; z = _; does = f } }
 
-    abbrev pub body_made : (h : Forall X n) → On h.on h.u w' z → z ≡ Done s' r → BodyMade X n
-    body_made h f e = record { on = h; made = gone f e }
+    abbrev pub body_made : (h : Forall X n) → On h.on h.u w' (Ok z) → BodyMade X n
+    body_made h f = record { on = h; made = record { w' = _; z = _; does = f } }

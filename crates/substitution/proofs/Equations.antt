@@ -94,14 +94,14 @@ module _ (Γ : Ctx) where
   pub apply_paid : (T : Ty) → PaysFirst (apply Γ T) (apply_step Γ (apply Γ) T)
   apply_paid T = record { is = apply_eq Γ T }
 
-  pub apply_plain : (T : Ty) → (ty_code T ≡ 4 → ⊥) → (ty_code T ≡ 5 → ⊥) → (ty_code T ≡ 6 → ⊥) → PaysFirst (apply Γ T) (give T)
+  pub apply_plain : (T : Ty) → ty_code T < 4 → PaysFirst (apply Γ T) (give T)
   unfolding ty_code apply_step
-  apply_plain int f g h = apply_paid int
-  apply_plain bool f g h = apply_paid bool
-  apply_plain (var b) f g h = apply_paid (var b)
-  apply_plain (etvar b) f g h = absurd (f refl)
-  apply_plain (arrow A B) f g h = absurd (g refl)
-  apply_plain (forall b A) f g h = absurd (h refl)
+  apply_plain int h = apply_paid int
+  apply_plain bool h = apply_paid bool
+  apply_plain (var b) h = apply_paid (var b)
+  apply_plain (etvar b) h = absurd (omega arith)
+  apply_plain (arrow A B) h = absurd (omega arith)
+  apply_plain (forall b A) h = absurd (omega arith)
 
   pub apply_unsolved : (a : TyVar) → find (k_setvar a) Γ ≡ none → PaysFirst (apply Γ (etvar a)) (give (etvar a))
   unfolding apply_step solution_or

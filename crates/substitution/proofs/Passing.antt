@@ -6,21 +6,17 @@ use native.Mathlib.Nat.{le_refl, le_trans}
 use native.Mathlib.Omega.{arith}
 use Rattle.definition.specs.Syntax.{Ty}
 use Rattle.definition.specs.Run.{Out, done, stop}
-use Rattle.layout.specs.States.{raised, Charges}
+use Rattle.layout.specs.States.{raised}
 use Rattle.layout.specs.Words.{Keep}
 use Rattle.layout.specs.Denotes.{Den}
 use Rattle.layout.specs.Room.{Room}
-use Rattle.layout.specs.declared.Paid.{Paid}
-use Rattle.layout.specs.declared.Paid.TheVariants as paying
 use Rattle.layout.specs.declared.State.{State}
-use Rattle.layout.proofs.States.{is_paid, not_paid}
-use Rattle.types.specs.Reading.{Tagged}
 use Rattle.layout.specs.declared.Made.{Made}
-use Rattle.layout.specs.declared.Made.TheVariants.{Done, Spent}
+use Rattle.layout.specs.declared.Spent.{Spent}
 use Rattle.layout.proofs.Words.{keep_refl, keep_trans, keep_less}
 use Rattle.layout.proofs.Denotes.{den_frame, base_frame}
-use Rattle.substitution.specs.Passing.{pay, Passed, Makes, made, spent, Begins, at, unpaid}
-use Rattle.substitution.specs.declared.Begun.TheVariants as begun
+use Rattle.substitution.specs.Passing.{pay, Passed, Makes, made, spent}
+use Rattle.std.specs.Prelude.{Result, Ok, Err}
 
 -- ## States, one after the other
 
@@ -100,10 +96,11 @@ pub record Reached (q w w' : List ℕ) (s s' : State) (r : ℕ) (R : Out Ty) : T
   pub passed : Passed w w' s s' 1
   pub den : Den q w' s'.top r type
 
-pub reached : {q w w' : List ℕ} {s s' : State} {r : ℕ} {z : Made} {R : Out Ty} → Makes q w w' s z R → z ≡ Done s' r → Reached q w w' s s' r R
-reached {q} {w} {w'} {s} {s'} {r} h e = go (rw e at h)
+pub reached : {q w w' : List ℕ} {s : State} {m : Made} {z : Result Made Spent} {R : Out Ty} → Makes q w w' s z R → z ≡ Ok m
+    → Reached q w w' s m.st m.ty R
+reached {q} {w} {w'} {s} {m} h e = go (rw e at h)
   where
-    go : {S : Out Ty} → Makes q w w' s (Done s' r) S → Reached q w w' s s' r S
+    go : {S : Out Ty} → Makes q w w' s (Ok m) S → Reached q w w' s m.st m.ty S
     go (made {T = T} p d) = record { type = T; is = refl; passed = p; den = d }
 
 -- what a caller goes on with: the unit that was paid leaves 28 words more than there were to spare
@@ -115,17 +112,8 @@ pub record Ended (w w' : List ℕ) (s : State) (R : Out Ty) : Type 0 where
   pub keep : Keep s.top s.low w w'
   pub is : R ≡ stop
 
-pub ended : {q w w' : List ℕ} {s : State} {z : Made} {R : Out Ty} → Makes q w w' s z R → z ≡ Spent → Ended w w' s R
-ended {q} {w} {w'} {s} h e = go (rw e at h)
+pub ended : {q w w' : List ℕ} {s : State} {z : Result Made Spent} {x : Spent} {R : Out Ty} → Makes q w w' s z R → z ≡ Err x → Ended w w' s R
+ended {q} {w} {w'} {s} {x = x} h e = go (rw e at h)
   where
-    go : {S : Out Ty} → Makes q w w' s Spent S → Ended w w' s S
+    go : {S : Out Ty} → Makes q w w' s (Err x) S → Ended w w' s S
     go (spent k) = record { keep = k; is = refl }
-
--- ## How a call begins
-
-module _ {q w : List ℕ} {s : State} {r : ℕ} {z : Paid} (c : Charges s 1 z) where
-  pub begin_spent : z ≡ paying.Spent → Begins q w s r begun.Spent
-  begin_spent e = let l = not_paid c e in unpaid (omega arith)
-
-  pub begin_at : {p : State} {k : ℕ} → z ≡ paying.On p → Tagged q w s.top r k → Begins q w s r (begun.At p k)
-  begin_at e t = let x = is_paid c e in rw x.is (at x.enough t)

@@ -1,5 +1,5 @@
 -- The contracts of subst_type and apply_ctx_type: the definition's `subst` and `apply`, charges and all.
-use Rattle.std.specs.Prelude.{List, ℕ}
+use Rattle.std.specs.Prelude.{List, ℕ, Result}
 use Rattle.definition.specs.Syntax.{Ty, Ctx}
 use Rattle.definition.specs.Types.{subst, apply}
 use Rattle.layout.specs.Names.{ty}
@@ -9,6 +9,7 @@ use Rattle.layout.specs.declared.TyVar.{TyVar}
 use Rattle.layout.specs.declared.State.{State}
 use Rattle.layout.specs.declared.Span.{Span}
 use Rattle.layout.specs.declared.Made.{Made}
+use Rattle.layout.specs.declared.Spent.{Spent}
 use Rattle.substitution.specs.Passing.{Makes}
 
 -- ## Substitution: what b denotes, for the name a in what r denotes
@@ -21,7 +22,7 @@ pub record SubstPre (q w : List ℕ) (s : State) (b r : ℕ) : Type 0 where
   pub type : Ty
   pub den : Den q w s.top r type
 
-pub record Substed (q w w' : List ℕ) (s : State) (a : TyVar) (b r : ℕ) (z : Made) : Type 0 where
+pub record Substed (q w w' : List ℕ) (s : State) (a : TyVar) (b r : ℕ) (z : Result Made Spent) : Type 0 where
   pub makes : (B : Ty) → Den q w s.top b B → (T : Ty) → Den q w s.top r T → Makes q w w' s z (subst (ty a) B T s.left s.fresh)
 
 -- ## Application of the context g to what r denotes
@@ -34,5 +35,5 @@ pub record ApplyPre (q w : List ℕ) (s : State) (g : Span) (r : ℕ) : Type 0 w
   pub type : Ty
   pub den : Den q w s.top r type
 
-pub record Applied (q w w' : List ℕ) (s : State) (g : Span) (r : ℕ) (z : Made) : Type 0 where
+pub record Applied (q w w' : List ℕ) (s : State) (g : Span) (r : ℕ) (z : Result Made Spent) : Type 0 where
   pub makes : (Γ : Ctx) → Run q w s.top g.at g.n Γ → (T : Ty) → Den q w s.top r T → Makes q w w' s z (apply Γ T s.left s.fresh)

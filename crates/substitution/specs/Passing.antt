@@ -1,5 +1,5 @@
 -- What a run that makes a type goes through: the state it comes to, what it has built, and the type it ends in.
-use Rattle.std.specs.Prelude.{◌≡◌, List, ℕ, ◌+◌, ◌*◌, ◌≤◌}
+use Rattle.std.specs.Prelude.{◌≡◌, List, ℕ, ◌+◌, ◌*◌, ◌≤◌, Result, Ok, Err}
 use Rattle.definition.specs.Syntax.{pick, Ty}
 use Rattle.definition.specs.Run.{Out, done, stop}
 use Rattle.definition.specs.Types.{same_name}
@@ -10,11 +10,9 @@ use Rattle.layout.specs.Denotes.{Den}
 use Rattle.layout.specs.declared.TyVar.{TyVar}
 use Rattle.layout.specs.declared.State.{State}
 use Rattle.layout.specs.declared.Made.{Made}
-use Rattle.layout.specs.declared.Made.TheVariants.{Done, Spent}
-use Rattle.types.specs.Reading.{Tagged, Named}
+use Rattle.layout.specs.declared.Spent.{Spent}
+use Rattle.types.specs.Reading.{Named}
 use Rattle.types.specs.Making.{PutArrow, PutForall}
-use Rattle.substitution.specs.declared.Begun.{Begun}
-use Rattle.substitution.specs.declared.Begun.TheVariants as begun
 
 -- ## States
 
@@ -34,16 +32,11 @@ pub record Passed (w w' : List ℕ) (s s' : State) (n : ℕ) : Type 0 where
 -- ## What is returned
 
 -- what the code returned from w and s is what the definition says: a type, the budget left and no fresh name; or the budget is spent
-pub data Makes (q w w' : List ℕ) (s : State) : Made → Out Ty → Type 0 where
-  made : {s' : State} {r : ℕ} {T : Ty} → Passed w w' s s' 1 → Den q w' s'.top r T → Makes q w w' s (Done s' r) (done T s'.left s.fresh)
-  spent : Keep s.top s.low w w' → Makes q w w' s Spent stop
+pub data Makes (q w w' : List ℕ) (s : State) : Result Made Spent → Out Ty → Type 0 where
+  made : {m : Made} {T : Ty} → Passed w w' s m.st 1 → Den q w' m.st.top m.ty T → Makes q w w' s (Ok m) (done T m.st.left s.fresh)
+  spent : {x : Spent} → Keep s.top s.low w w' → Makes q w w' s (Err x) stop
 
 -- ## The leaves
-
--- how a call begins
-pub data Begins (q w : List ℕ) (s : State) (r : ℕ) : Begun → Type 0 where
-  at : {k : ℕ} → 1 ≤ s.left → Tagged q w s.top r k → Begins q w s r (begun.At (pay s) k)
-  unpaid : s.left ≡ 0 → Begins q w s r begun.Spent
 
 -- the name that r has, and the reference that it becomes
 pub record Chosen (q w : List ℕ) (t : ℕ) (a : TyVar) (b r x : ℕ) : Type 0 where
@@ -52,12 +45,10 @@ pub record Chosen (q w : List ℕ) (t : ℕ) (a : TyVar) (b r x : ℕ) : Type 0 
   pub is : x ≡ pick (same_name (ty name) (ty a)) b r
 
 -- a record at the top of work
-pub record ArrowMade (q w w' : List ℕ) (s : State) (l r : ℕ) (z : Made) : Type 0 where
-  pub ref : ℕ
-  pub is : z ≡ Done (raised s 4) ref
-  pub put : PutArrow q w w' s.top l r ref
+pub record ArrowMade (q w w' : List ℕ) (s : State) (l r : ℕ) (m : Made) : Type 0 where
+  pub st : m.st ≡ raised s 4
+  pub put : PutArrow q w w' s.top l r m.ty
 
-pub record ForallMade (q w w' : List ℕ) (s : State) (a : TyVar) (r : ℕ) (z : Made) : Type 0 where
-  pub ref : ℕ
-  pub is : z ≡ Done (raised s 4) ref
-  pub put : PutForall q w w' s.top a r ref
+pub record ForallMade (q w w' : List ℕ) (s : State) (a : TyVar) (r : ℕ) (m : Made) : Type 0 where
+  pub st : m.st ≡ raised s 4
+  pub put : PutForall q w w' s.top a r m.ty

@@ -2,22 +2,31 @@
 use mathlib.Core.Path.{◌≡◌, refl, sym, ◌∙◌, ap}
 use mathlib.Core.Bool.{Bool, true, false, not}
 use mathlib.Core.List.{List}
+use mathlib.Core.Logic.{◌⊎◌}
 use mathlib.Core.Option.{Option, none, some}
-use Prim.Native.Nat.{ℕ, ◌+◌, ◌≤◌, ◌<◌}
+use denote.Enum.Bare.{sameb, same_true, same_false}
+use Prim.Native.Nat.{ℕ, ◌≤◌, ◌<◌}
 use native.Mathlib.Omega.{arith}
 use borrow.Author.Tests.{eq-eqb, ne_eqb}
+use lib.Dec.{eqb}
+use Rattle.std.specs.Prelude.{Some, None}
 use Rattle.definition.specs.Syntax
-use Rattle.definition.specs.Syntax.{pick, Ty, int, bool, var, etvar, arrow, forall, Ctx, on_l, on_r, rule_number, subtyping_error}
+use Rattle.definition.specs.Syntax.{pick, Ty, int, bool, var, etvar, arrow, forall, Ctx, on_l, on_r, subtyping_error}
 use Rattle.definition.specs.Run.{refuse}
 use Rattle.definition.specs.Types.{same_name, occurs}
 use Rattle.definition.specs.Rules.{Here, Judge, closes, ◌or_else◌, when, on, on_both, ty_code, as_var, as_etvar, as_arrow, as_forall, sub_arr, sub_all_r, sub_all_l, sub_inst, not_in, same_base, same, subtype_rule}
 use Rattle.layout.specs.Names.{ty}
 use Rattle.layout.specs.Denotes.{Den}
 use Rattle.layout.specs.declared.TyVar.{TyVar}
-use Rattle.types.specs.Reading.{Named, Tagged}
-use Rattle.types.proofs.Codes.{base_case, name_case}
+use Rattle.types.specs.Reading.{Named, FormOf, form_number}
+use Rattle.types.specs.contracts.Form.{the_type}
+use Rattle.types.specs.declared.Form.{Form}
+use Rattle.types.proofs.Codes.{base_case, name_case, base_form, parts_form, same_form}
 use Rattle.walks.specs.Walks.{Occurs}
 use Rattle.walks.proofs.Names.{names}
+use Rattle.walks.proofs.Same.{forms_agree, forms_differ}
+use Rattle.judging.specs.declared.Rule.{Rule}
+use Rattle.judging.specs.declared.Rule.TheVariants as rule
 use Rattle.rules.proofs.Choices.{no_arrow, no_forall}
 use Rattle.rules.specs.declared.Side.TheVariants as side
 use Rattle.rules.proofs.TypeForms.{IsETVar, is_etvar, is_arrow, is_forall}
@@ -25,7 +34,7 @@ use Rattle.subtyping.specs.Arms.{Comes, NotAlike, AlikeBy, by_rule, by_none, Ali
 use Rattle.subtyping.specs.declared.Arm.{Arm}
 use Rattle.subtyping.specs.declared.Arm.TheVariants as arm
 
--- ## By the code
+-- ## By the form
 
 not_var : (T : Ty) → (ty_code T ≡ 3 → ⊥) → as_var T ≡ none
 unfolding ty_code as_var
@@ -86,84 +95,117 @@ base_alike A B h e =
     (λ f h judge Γ. rw (eq-eqb 2 (ty_code B) f) refl)
     e
 
--- two Vars, two ETVars
-data SameNamed : Ty → Ty → Type 0 where
-  vars : (u v : Syntax.TyVar) → SameNamed (var u) (var v)
-  etvars : (u v : Syntax.TyVar) → SameNamed (etvar u) (etvar v)
+-- two Vars or two ETVars, whose names are the same or, by r, are not
+record Vars (r : Bool) (A B : Ty) : Type 0 where
+  u : Syntax.TyVar
+  v : Syntax.TyVar
+  left : A ≡ var u
+  right : B ≡ var v
+  same_named : r ≡ same_name u v
 
-same_named : (A B : Ty) → 3 ≤ ty_code A → ty_code A < 5 → ty_code A ≡ ty_code B → SameNamed A B
+record ETVars (r : Bool) (A B : Ty) : Type 0 where
+  u : Syntax.TyVar
+  v : Syntax.TyVar
+  left : A ≡ etvar u
+  right : B ≡ etvar v
+  same_named : r ≡ same_name u v
+
+module _ {A B : Ty} {r : Bool} where
+  vars_alike : Vars r A B → true ≡ r → Comes A B (λ h judge Γ. closes Syntax.SubReflTVar Γ)
+  unfolding ty_code subtype_rule same_base same as_var when pick ◌or_else◌
+  vars_alike p i h judge Γ = rw (p.left, p.right, ← p.same_named, ← i) refl
+
+  vars_other : Vars r A B → false ≡ r → NotAlike A B
+  unfolding ty_code same_base same as_var as_etvar
+  vars_other p i = rw (p.left, p.right) (record { base = refl; vars = sym (i ∙ p.same_named); etvars = refl })
+
+  etvars_alike : ETVars r A B → true ≡ r → Comes A B (λ h judge Γ. closes Syntax.SubReflETVar Γ)
+  unfolding ty_code subtype_rule same_base same as_var as_etvar when pick ◌or_else◌
+  etvars_alike p i h judge Γ = rw (p.left, p.right, ← p.same_named, ← i) refl
+
+  etvars_other : ETVars r A B → false ≡ r → NotAlike A B
+  unfolding ty_code same_base same as_var as_etvar
+  etvars_other p i = rw (p.left, p.right) (record { base = refl; vars = refl; etvars = sym (i ∙ p.same_named) })
+
+record IsVar (T : Ty) : Type 0 where
+  a : Syntax.TyVar
+  is : T ≡ var a
+
+is_var : (T : Ty) → ty_code T ≡ 3 → IsVar T
 unfolding ty_code
-same_named A B l m e =
-    name_case (λ T. ty_code T ≡ ty_code B → SameNamed T B) A l m
-    (λ u f. name_case (λ S. 3 ≡ ty_code S → SameNamed (var u) S) B (omega arith) (omega arith) (λ v h. vars u v) (λ v h. absurd (omega arith)) f)
-    (λ u f. name_case (λ S. 4 ≡ ty_code S → SameNamed (etvar u) S) B (omega arith) (omega arith) (λ v h. absurd (omega arith)) (λ v h. etvars u v) f)
-    e
+is_var T e = name_case (λ S. ty_code S ≡ 3 → IsVar S) T (omega arith) (omega arith) (λ a f. record { a = a; is = refl }) (λ a f. absurd (omega arith)) e
 
-vars_alike : (u v : Syntax.TyVar) → same_name u v ≡ true → Comes (var u) (var v) (λ h judge Γ. closes Syntax.SubReflTVar Γ)
-unfolding ty_code subtype_rule same_base same as_var when pick ◌or_else◌
-vars_alike u v e h judge Γ = rw e
+pub alike_apart : {q w : List ℕ} {t a b : ℕ} (f g : Form) → true ≡ not (sameb the_type f g) → FormOf q w t a f → FormOf q w t b g
+    → AlikeTypes q w t a b None
+alike_apart f g h ta tb = record { is = λ A B d e. by_none (apart A B (λ x. forms_differ f g h (ta.is A d ∙ x ∙ sym (tb.is B e)))) }
 
-etvars_alike : (u v : Syntax.TyVar) → same_name u v ≡ true → Comes (etvar u) (etvar v) (λ h judge Γ. closes Syntax.SubReflETVar Γ)
-unfolding ty_code subtype_rule same_base same as_var as_etvar when pick ◌or_else◌
-etvars_alike u v e h judge Γ = rw e
+module _ {q w : List ℕ} {t a b : ℕ} (f g : Form) (one_form : false ≡ not (sameb the_type f g)) (ta : FormOf q w t a f) (tb : FormOf q w t b g) where
+  eq : f ≡ g
+  eq = forms_agree f g one_form
 
-module _ {q w : List ℕ} {t a b k m : ℕ} (tk : Tagged q w t a k) (tm : Tagged q w t b m) where
-  pub alike_apart : (k ≡ m → ⊥) → AlikeTypes q w t a b 0
-  alike_apart h = record { is = λ A B d e. by_none refl (apart A B (λ f. h (tk.is A d ∙ f ∙ sym (tm.is B e)))) }
+  codes : (A B : Ty) → Den q w t a A → Den q w t b B → ty_code A ≡ ty_code B
+  codes A B d e = sym (ta.is A d) ∙ ap form_number eq ∙ tb.is B e
 
-  module _ (eq : k ≡ m) where
-    codes : (A B : Ty) → Den q w t a A → Den q w t b B → ty_code A ≡ ty_code B
-    codes A B d e = sym (tk.is A d) ∙ eq ∙ tm.is B e
+  pub alike_large : (f ≡ Form.Arrow) ⊎ (f ≡ Form.Forall) → AlikeTypes q w t a b None
+  alike_large h = record { is = λ A B d e. by_none (large A B (omega (arith, ta.is A d, parts_form h))) }
 
-    pub alike_large : 5 ≤ k → AlikeTypes q w t a b 0
-    alike_large h = record { is = λ A B d e. by_none refl (large A B (omega (arith, tk.is A d))) }
+  pub alike_base : (f ≡ Form.Int) ⊎ (f ≡ Form.Bool) → AlikeTypes q w t a b (Some rule.SubRefl)
+  alike_base h = record { is = λ A B d e. by_rule (base_alike A B (omega (arith, ta.is A d, base_form h)) (codes A B d e)) }
 
-    pub alike_base : k < 3 → AlikeTypes q w t a b 22
-    unfolding rule_number
-    alike_base h = record {
-      is = λ A B d e. by_rule Syntax.SubRefl (omega arith) refl (base_alike A B (omega (arith, tk.is A d)) (codes A B d e));
-    }
+  module _ {x y : TyVar} (nx : Named q w t a x) (ny : Named q w t b y) where
+    module _ (h : f ≡ Form.Var) where
+      both_vars : (A B : Ty) → Den q w t a A → Den q w t b B → Vars (eqb x.0 y.0) A B
+      both_vars A B d e =
+          let u = is_var A (sym (ta.is A d) ∙ ap form_number h) in
+          let v = is_var B (sym (tb.is B e) ∙ ap form_number (sym eq ∙ h)) in
+          record {
+            u = u.a;
+            v = v.a;
+            left = u.is;
+            right = v.is;
+            same_named = names x y u.a v.a (nx.of_var u.a (rw u.is at d)) (ny.of_var v.a (rw v.is at e));
+          }
 
-    module _ (low : 3 ≤ k) (high : k < 5) {x y : TyVar} (nx : Named q w t a x) (ny : Named q w t b y) where
-      shape : (A B : Ty) → Den q w t a A → Den q w t b B → SameNamed A B
-      shape A B d e = same_named A B (omega (arith, tk.is A d)) (omega (arith, tk.is A d)) (codes A B d e)
+      pub alike_vars : true ≡ eqb x.0 y.0 → AlikeTypes q w t a b (Some rule.SubReflTVar)
+      alike_vars i = record { is = λ A B d e. by_rule (vars_alike (both_vars A B d e) i) }
 
-      pub alike_named : x.0 ≡ y.0 → AlikeTypes q w t a b (20 + k)
-      unfolding ty_code rule_number
-      alike_named f = record { is = λ A B d e. go A B d e (shape A B d e) }
-        where
-          go : (A B : Ty) → Den q w t a A → Den q w t b B → SameNamed A B → AlikeBy A B (20 + k)
-          go A B d e (vars u v) =
-              let c = tk.is (var u) d in
-              by_rule Syntax.SubReflTVar (omega arith) (omega arith)
-              (vars_alike u v (sym (names x y u v (nx.of_var u d) (ny.of_var v e)) ∙ eq-eqb _ _ f))
-          go A B d e (etvars u v) =
-              let c = tk.is (etvar u) d in
-              by_rule Syntax.SubReflETVar (omega arith) (omega arith)
-              (etvars_alike u v (sym (names x y u v (nx.of_etvar u d) (ny.of_etvar v e)) ∙ eq-eqb _ _ f))
+      pub other_vars : false ≡ eqb x.0 y.0 → AlikeTypes q w t a b None
+      other_vars i = record { is = λ A B d e. by_none (vars_other (both_vars A B d e) i) }
 
-      pub alike_other : (x.0 ≡ y.0 → ⊥) → AlikeTypes q w t a b 0
-      unfolding ty_code same_base same as_var as_etvar
-      alike_other f = record { is = λ A B d e. by_none refl (go A B d e (shape A B d e)) }
-        where
-          go : (A B : Ty) → Den q w t a A → Den q w t b B → SameNamed A B → NotAlike A B
-          go A B d e (vars u v) =
-              record { base = refl; vars = sym (names x y u v (nx.of_var u d) (ny.of_var v e)) ∙ ne_eqb _ _ f; etvars = refl }
-          go A B d e (etvars u v) =
-              record { base = refl; vars = refl; etvars = sym (names x y u v (nx.of_etvar u d) (ny.of_etvar v e)) ∙ ne_eqb _ _ f }
+    module _ (h : f ≡ Form.ETVar) where
+      both_etvars : (A B : Ty) → Den q w t a A → Den q w t b B → ETVars (eqb x.0 y.0) A B
+      both_etvars A B d e =
+          let u = is_etvar A (sym (ta.is A d) ∙ ap form_number h) in
+          let v = is_etvar B (sym (tb.is B e) ∙ ap form_number (sym eq ∙ h)) in
+          record {
+            u = u.a;
+            v = v.a;
+            left = u.is;
+            right = v.is;
+            same_named = names x y u.a v.a (nx.of_etvar u.a (rw u.is at d)) (ny.of_etvar v.a (rw v.is at e));
+          }
+
+      pub alike_etvars : true ≡ eqb x.0 y.0 → AlikeTypes q w t a b (Some rule.SubReflETVar)
+      alike_etvars i = record { is = λ A B d e. by_rule (etvars_alike (both_etvars A B d e) i) }
+
+      pub other_etvars : false ≡ eqb x.0 y.0 → AlikeTypes q w t a b None
+      other_etvars i = record { is = λ A B d e. by_none (etvars_other (both_etvars A B d e) i) }
 
 -- ## An unknown that does not occur
 
-pub absent_other : {q w : List ℕ} {t a b k : ℕ} → Tagged q w t a k → (k ≡ 4 → ⊥) → Absent q w t a b false
+pub absent_other : {q w : List ℕ} {t a b : ℕ} {r : Bool} (f : Form) → FormOf q w t a f → r ≡ false → false ≡ sameb the_type f Form.ETVar → Absent q w t a b r
 unfolding not_in
-absent_other tk h = record {
-  yes = λ e A B d f. let z : ◌≡◌ {A = ℕ} 0 1 = cc in absurd (omega arith);
-  no = λ e A B d f. rw (not_etvar A (λ c. h (tk.is A d ∙ c)));
+absent_other f ta n h = record {
+  yes = λ e A B d i. let z : ◌≡◌ {A = ℕ} 0 1 = cc in absurd (omega arith);
+  no = λ e A B d i. rw (not_etvar A (λ c. same_false the_type f Form.ETVar (sym h) (same_form f Form.ETVar (ta.is A d ∙ c))));
 }
 
-module _ {q w : List ℕ} {t a k : ℕ} {x : TyVar} (tk : Tagged q w t a k) (is-4 : k ≡ 4) (nx : Named q w t a x) where
+pub etvar_form : (f : Form) → true ≡ sameb the_type f Form.ETVar → f ≡ Form.ETVar
+etvar_form f h = same_true the_type tt f Form.ETVar (sym h)
+
+module _ {q w : List ℕ} {t a : ℕ} {x : TyVar} (f : Form) (ta : FormOf q w t a f) (h : true ≡ sameb the_type f Form.ETVar) (nx : Named q w t a x) where
   unknown : (A : Ty) → Den q w t a A → IsETVar A
-  unknown A d = is_etvar A (sym (tk.is A d) ∙ is-4)
+  unknown A d = is_etvar A (sym (ta.is A d) ∙ ap form_number (etvar_form f h))
 
   not_in_lem : {b : ℕ} {o : Bool} → Occurs q w t x b o → (A B : Ty) (d : Den q w t a A) → Den q w t b B
       → not_in B (as_etvar A) ≡ pick o none (some (unknown A d).a)
@@ -184,6 +226,9 @@ module _ {q w : List ℕ} {t a k : ℕ} {x : TyVar} (tk : Tagged q w t a k) (is-
     yes = λ e A B d f. record { x = (unknown A d).a; is = (unknown A d).is; not_in_lem = not_in_lem oc A B d f };
     no = λ e A B d f. let z : ◌≡◌ {A = ℕ} 0 1 = cc in absurd (omega arith);
   }
+
+-- the four ways in which two forms tell an arm
+pub ruleset formed = (both_arrows, right_forall, left_forall, no_form)
 
 -- ## The first arm that is there
 
@@ -253,62 +298,64 @@ NotNeither z = z ≡ arm.Neither → ⊥
 is_neither : NotNeither arm.Neither → ⊥
 is_neither h = h refl
 
-pub chosen_refl : {q w : List ℕ} {t a b n : ℕ} → AlikeTypes q w t a b n → (n ≡ 0 → ⊥) → ArmChosen q w t a b (arm.Refl n)
-chosen_refl {n = n} al h = record { is = λ A B d e. go (al.is A B d e) }
+pub chosen_refl : {q w : List ℕ} {t a b : ℕ} {n : Rule} → AlikeTypes q w t a b (Some n) → ArmChosen q w t a b (arm.Refl n)
+chosen_refl {n = n} al = record { is = λ A B d e. go (al.is A B d e) }
   where
-    go : {A B : Ty} → AlikeBy A B n → ArmFits A B (arm.Refl n)
-    go (by_rule R l e f) = fits_refl R e f
-    go (by_none e f) = absurd (h e)
+    go : {A B : Ty} → AlikeBy A B (Some n) → ArmFits A B (arm.Refl n)
+    go (by_rule f) = fits_refl f
 
-module _ {q w : List ℕ} {t a b n k m : ℕ} (al : AlikeTypes q w t a b n) (is-0 : n ≡ 0) (tk : Tagged q w t a k) (tm : Tagged q w t b m) where
+module _ {q w : List ℕ} {t a b : ℕ} (f g : Form) (al : AlikeTypes q w t a b None) (ta : FormOf q w t a f) (tb : FormOf q w t b g) where
   unlike : (A B : Ty) → Den q w t a A → Den q w t b B → NotAlike A B
   unlike A B d e = go (al.is A B d e)
     where
-      go : AlikeBy A B n → NotAlike A B
-      go (by_rule R l e f) = absurd (omega arith)
-      go (by_none e f) = f
+      go : AlikeBy A B None → NotAlike A B
+      go (by_none x) = x
 
-  -- by the codes
-  pub chosen_form : {z : Arm} → NotNeither z → Formed k m z → ArmChosen q w t a b z
-  chosen_form h (both_arrows f g) = record {
+  -- a type of another form has another code
+  not_left : (h : Form) → (f ≡ h → ⊥) → (A : Ty) → Den q w t a A → ty_code A ≡ form_number h → ⊥
+  not_left h n A d c = n (same_form f h (ta.is A d ∙ c))
+
+  not_right : (h : Form) → (g ≡ h → ⊥) → (B : Ty) → Den q w t b B → ty_code B ≡ form_number h → ⊥
+  not_right h n B e c = n (same_form g h (tb.is B e ∙ c))
+
+  -- by the forms
+  pub chosen_form : {z : Arm} → NotNeither z → Formed f g z → ArmChosen q w t a b z
+  chosen_form h (both_arrows x y) = record {
     is = λ A B d e.
-        let u = is_arrow A (sym (tk.is A d) ∙ f) in
-        let v = is_arrow B (sym (tm.is B e) ∙ g) in
+        let u = is_arrow A (sym (ta.is A d) ∙ ap form_number x) in
+        let v = is_arrow B (sym (tb.is B e) ∙ ap form_number y) in
         fits_arr u.is v.is (arrows (unlike A B d e) u.A u.B v.A v.B u.is v.is);
   }
-  chosen_form h (right_forall g) = record {
-    is = λ A B d e. let v = is_forall B (sym (tm.is B e) ∙ g) in fits_all v.is (right_all (unlike A B d e) v.a v.A v.is);
+  chosen_form h (right_forall y) = record {
+    is = λ A B d e. let v = is_forall B (sym (tb.is B e) ∙ ap form_number y) in fits_all v.is (right_all (unlike A B d e) v.a v.A v.is);
   }
-  chosen_form h (left_forall not_6 f) = record {
+  chosen_form h (left_forall n x) = record {
     is = λ A B d e.
-        let u = is_forall A (sym (tk.is A d) ∙ f) in
-        fits_all u.is (left_all (unlike A B d e) (λ g. not_6 (tm.is B e ∙ g)) u.a u.A u.is);
+        let u = is_forall A (sym (ta.is A d) ∙ ap form_number x) in
+        fits_all u.is (left_all (unlike A B d e) (not_right Form.Forall n B e) u.a u.A u.is);
   }
-  chosen_form h (no_form f g i) = absurd (is_neither h)
+  chosen_form h (no_form x y z) = absurd (is_neither h)
 
   -- by an unknown
-  module _ (not-55 : k ≡ 5 → m ≡ 5 → ⊥) (not_6 : m ≡ 6 → ⊥) (not-6' : k ≡ 6 → ⊥) where
+  module _ (no_arrows : f ≡ Form.Arrow → g ≡ Form.Arrow → ⊥) (no_r : g ≡ Form.Forall → ⊥) (no_l : f ≡ Form.Forall → ⊥) where
     chosen_by : {y : Arm} → ByUnknown q w t a b y → ArmChosen q w t a b y
     chosen_by (left_unknown ab) = record {
       is = λ A B d e.
           let u = ab.yes refl A B d e in
-          fits_inst u.is (left_inst (unlike A B d e) (λ g. not_6 (tm.is B e ∙ g)) u.x u.is u.not_in_lem);
+          fits_inst u.is (left_inst (unlike A B d e) (not_right Form.Forall no_r B e) u.x u.is u.not_in_lem);
     }
     chosen_by (right_unknown ab ab') = record {
       is = λ A B d e.
           let v = ab'.yes refl B A e d in
           fits_inst v.is
-          (right_inst (unlike A B d e) (λ g. not_6 (tm.is B e ∙ g)) (λ g. not-6' (tk.is A d ∙ g)) (ab.no refl A B d e) v.x v.is v.not_in_lem);
+          (right_inst (unlike A B d e) (not_right Form.Forall no_r B e) (not_left Form.Forall no_l A d) (ab.no refl A B d e) v.x v.is v.not_in_lem);
     }
     chosen_by (no_unknown ab ab') = record {
       is = λ A B d e.
           fits_none
-          (neither (unlike A B d e) (λ g. not_6 (tm.is B e ∙ g)) (λ g. not-6' (tk.is A d ∙ g)) (ab.no refl A B d e)
-          (λ f g. not-55 (tk.is A d ∙ f) (tm.is B e ∙ g)) (ab'.no refl B A e d));
+          (neither (unlike A B d e) (not_right Form.Forall no_r B e) (not_left Form.Forall no_l A d) (ab.no refl A B d e)
+          (λ x y. no_arrows (same_form f Form.Arrow (ta.is A d ∙ x)) (same_form g Form.Arrow (tb.is B e ∙ y))) (ab'.no refl B A e d));
     }
 
-  pub chosen_unknown : {z y : Arm} → z ≡ arm.Neither → Formed k m z → ByUnknown q w t a b y → ArmChosen q w t a b y
-  chosen_unknown {y = y} e f u = go (rw e at f)
-    where
-      go : Formed k m arm.Neither → ArmChosen q w t a b y
-      go (no_form f g i) = chosen_by f g i u
+  pub chosen_unknown : {y : Arm} → Formed f g arm.Neither → ByUnknown q w t a b y → ArmChosen q w t a b y
+  chosen_unknown (no_form x y z) u = chosen_by x y z u

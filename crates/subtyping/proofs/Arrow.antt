@@ -4,8 +4,9 @@ use mathlib.Core.Bool.{false}
 use mathlib.Core.List.{List}
 use Prim.Native.Nat.{ℕ, ◌+◌, ◌*◌, ◌<◌}
 use native.Mathlib.Omega.{arith}
+use Rattle.std.specs.Prelude.{Result, Ok, Err}
 use Rattle.definition.specs.Syntax
-use Rattle.definition.specs.Syntax.{Ty, int, arrow, Judgement, subtype, rule_number, leaf, ◌&◌, children}
+use Rattle.definition.specs.Syntax.{Ty, int, arrow, Judgement, subtype, leaf, ◌&◌, children}
 use Rattle.definition.specs.Run.{and_then, give, ◌>>=◌}
 use Rattle.definition.specs.Rules.{sub_arr, rule, judge, ty_code, branch}
 use Rattle.layout.specs.Sizes.{INT}
@@ -17,15 +18,14 @@ use Rattle.types.specs.Reading.{HeldAs, LeftOf, RightOf}
 use Rattle.judging.specs.Asking.{here, Asks, as_sub, sub_ask, JudgePre}
 use Rattle.judging.specs.declared.Answer.{Answer}
 use Rattle.judging.specs.declared.Here.{Here}
-use Rattle.judging.specs.declared.Step.{Step}
-use Rattle.judging.specs.declared.Step.TheVariants.{Done}
+use Rattle.judging.specs.declared.Rule.TheVariants as rules
+use Rattle.judging.specs.declared.Stop.{Stop}
 use Rattle.judging.proofs.Chain.{Sofar, begin, gave, on}
 use Rattle.judging.proofs.Steps.{NotDone, Came}
-use Rattle.judging.specs.Ending.{Judged, Fires}
+use Rattle.judging.specs.Ending.{Step, Judged, Fires}
 use Rattle.rules.proofs.Standing.{held_is}
 use Rattle.rules.proofs.Premises.{else_fires, then_done, through_ends}
-use Rattle.rules.specs.declared.Mid.{Mid}
-use Rattle.rules.specs.declared.Mid.TheVariants.{On, End}
+use Rattle.rules.specs.declared.Both.{Both}
 use Rattle.rules.specs.Going.{PlainOut, TwoIn, GoesOrEnds, Dens, apply_both, AppliedBoth}
 use Rattle.rules.proofs.Ways.{Way, asks_sub, WayOn, onward, there}
 use Rattle.subtyping.specs.Arms.{Comes, ArmFits, fits_arr, ArmPre}
@@ -65,8 +65,6 @@ module _ {q w : List ℕ} {s : State} {g : Span} {a b : ℕ} (pre : ArmPre q w s
   unfolding ty_code
   arr_right = held_is pre.pre.room (right pre.pre.asks)
 
--- ## As far as the rule has come
-
 -- it is asked, and the halves of its types are read; t is the cycle's measure
 pub record Halved (t : ℕ) : Type 0 where
   pub m : Here
@@ -87,28 +85,6 @@ pub record Halved (t : ℕ) : Type 0 where
   pub left_b : LeftOf q w s.top b b₁
   pub right_b : RightOf q w s.top b b₂
 
--- the left halves were related
-pub record Lefts (t : ℕ) : Type 0 where
-  pub on : Halved t
-  pub w : List ℕ
-  pub z : Step
-  pub r : Answer
-  pub call : Judged on.m on.q on.w w on.s on.g (sub_ask on.b₁ on.a₁) z
-  pub done : z ≡ Done r
-
--- the right halves are as they were
-pub record Between (t : ℕ) : Type 0 where
-  pub on : Lefts t
-  pub w : List ℕ
-  pub v : Mid
-  pub s : State
-  pub a : ℕ
-  pub b : ℕ
-  pub call : AppliedBoth false on.on.q on.w w on.r.st on.r.g on.on.a₂ on.on.b₂ v
-  pub done : v ≡ On s a b
-
--- ## The left halves, exchanged
-
 module _ {t : ℕ} (h : Halved t) where
   -- how the rule may be asked, and how it ends
   abbrev At : Judgement → Type 0
@@ -119,6 +95,8 @@ module _ {t : ℕ} (h : Halved t) where
 
   abbrev parts : {j : Judgement} (k : At j) → Halves (askd h.pre k).A (askd h.pre k).B
   parts k = half h.pre k
+
+  -- ## The left halves, exchanged
 
   abbrev lefts : {j : Judgement} → At j → Judgement
   lefts k = subtype (askd h.pre k).Γ (parts k).B₁ (parts k).A₁
@@ -135,73 +113,67 @@ module _ {t : ℕ} (h : Halved t) where
   unfolding sub_arr ◌>>=◌
   says₁ k = comes h.pre h.m k (parts k).comes_to
 
-  pub arr_else₁ : {w₁ : List ℕ} {z : Step} → Judged h.m h.q h.w w₁ h.s h.g (sub_ask h.b₁ h.a₁) z → NotDone z → Ends w₁ z
-  arr_else₁ call nd = else_fires (λ j k. record { ts = leaf; so = begin; i = _; asks = asks₁ k; next = _; says = says₁ k }) call nd
+  module _ {w₁ : List ℕ} {z : Step} (call : Judged h.m h.q h.w w₁ h.s h.g (sub_ask h.b₁ h.a₁) z) where
+    pub arr_else₁ : NotDone z → Ends w₁ z
+    arr_else₁ nd = else_fires (λ j k. record { ts = leaf; so = begin; i = _; asks = asks₁ k; next = _; says = says₁ k }) call nd
 
--- ## The right halves
+    -- ## The right halves, as they were
 
-module _ {t : ℕ} (c : Lefts t) where
-  came : {j : Judgement} (k : At c.on j)
-      → Came c.on.q c.w c.on.s c.r (judge (here c.on.m) (lefts c.on k) c.on.s.left c.on.s.fresh)
-  came k = gave begin c.call (asks₁ c.on k) c.done
+    module _ {r : Answer} (d : z ≡ Ok r) where
+      came : {j : Judgement} (k : At j) → Came h.q w₁ h.s r (judge (here h.m) (lefts k) h.s.left h.s.fresh)
+      came k = gave begin call (asks₁ k) d
 
-  so : {j : Judgement} (k : At c.on j) → Sofar c.on.q c.on.w c.w c.on.s c.r.st ((came k).t & leaf)
-  so k = on begin c.call (asks₁ c.on k) (came k)
+      so : {j : Judgement} (k : At j) → Sofar h.q h.w w₁ h.s r.st ((came k).t & leaf)
+      so k = on begin call (asks₁ k) (came k)
 
-  stays : {n : ℕ} {T : Ty} → Den c.on.q c.on.w c.on.s.top n T → Den c.on.q c.w c.r.st.top n T
-  stays d = let x = so c.on.pre.pre.asks in den_frame x.keep x.up d
+      stays : {n : ℕ} {T : Ty} → Den h.q h.w h.s.top n T → Den h.q w₁ r.st.top n T
+      stays e = let x = so h.pre.pre.asks in den_frame x.keep x.up e
 
-  left₂ : {j : Judgement} (k : At c.on j) → Den c.on.q c.w c.r.st.top c.on.a₂ (parts c.on k).A₂
-  left₂ k = stays (c.on.right_a.is _ _ (left c.on.pre k)).den
+      left₂ : {j : Judgement} (k : At j) → Den h.q w₁ r.st.top h.a₂ (parts k).A₂
+      left₂ k = stays (h.right_a.is _ _ (left h.pre k)).den
 
-  right₂ : {j : Judgement} (k : At c.on j) → Den c.on.q c.w c.r.st.top c.on.b₂ (parts c.on k).B₂
-  right₂ k = stays (c.on.right_b.is _ _ (right c.on.pre k)).den
+      right₂ : {j : Judgement} (k : At j) → Den h.q w₁ r.st.top h.b₂ (parts k).B₂
+      right₂ k = stays (h.right_b.is _ _ (right h.pre k)).den
 
-  pub arr_two : TwoIn c.on.q c.w c.r.st c.r.g c.on.a₂ c.on.b₂
-  arr_two = let k = c.on.pre.pre.asks in let x = (came k).land in
-      record { two = record { spare = _; room = x.room; A = _; B = _; left = left₂ k; right = right₂ k }; Γ = _; run = x.run }
+      pub arr_two : TwoIn h.q w₁ r.st r.g h.a₂ h.b₂
+      arr_two = let k = h.pre.pre.asks in let x = (came k).land in
+          record { two = record { spare = _; room = x.room; A = _; B = _; left = left₂ k; right = right₂ k }; Γ = _; run = x.run }
 
-  way : {j : Judgement} (k : At c.on j)
-      → Way c.on.q c.on.w c.w c.on.s c.r.st ((came k).t & leaf) (4 * c.r.g.n + 4)
-      (rule (here c.on.m) (judge (here c.on.m)) j c.on.s.left c.on.s.fresh)
-      (apply_both false (came k).Δ (parts c.on k).A₂ (parts c.on k).B₂ >>= λ T. judge (here c.on.m) (subtype (came k).Δ T.0 T.1)
-      >>= λ u. give (Syntax.SubArr, int, u.1, (came k).t & u.2 & leaf))
-  unfolding branch ◌>>=◌ and_then give
-  way k = record { so = so k; room = (came k).land.room; is = says₁ c.on k ∙ then_done _ (came k).is }
+      way : {j : Judgement} (k : At j)
+          → Way h.q h.w w₁ h.s r.st ((came k).t & leaf) (4 * r.g.n + 4) (rule (here h.m) (judge (here h.m)) j h.s.left h.s.fresh)
+          (apply_both false (came k).Δ (parts k).A₂ (parts k).B₂ >>= λ T. judge (here h.m) (subtype (came k).Δ T.0 T.1)
+          >>= λ u. give (Syntax.SubArr, int, u.1, (came k).t & u.2 & leaf))
+      unfolding branch ◌>>=◌ and_then give
+      way k = record { so = so k; room = (came k).land.room; is = says₁ k ∙ then_done _ (came k).is }
 
-  module _ {w₂ : List ℕ} {v : Mid} (mid : AppliedBoth false c.on.q c.w w₂ c.r.st c.r.g c.on.a₂ c.on.b₂ v) where
-    passes : {j : Judgement} (k : At c.on j) → GoesOrEnds c.on.q c.w w₂ c.r.st (Dens c.on.q w₂) v
-        (apply_both false (came k).Δ (parts c.on k).A₂ (parts c.on k).B₂ c.r.st.left c.r.st.fresh)
-    passes k = mid.passes _ _ _ (came k).land.run (left₂ k) (right₂ k)
+      module _ {w₂ : List ℕ} {v : Result Both Stop} (mid : AppliedBoth false h.q w₁ w₂ r.st r.g h.a₂ h.b₂ v) where
+        passes : {j : Judgement} (k : At j) → GoesOrEnds h.q w₁ w₂ r.st (λ y. y.st) (Dens h.q w₂) v
+            (apply_both false (came k).Δ (parts k).A₂ (parts k).B₂ r.st.left r.st.fresh)
+        passes k = mid.passes _ _ _ (came k).land.run (left₂ k) (right₂ k)
 
-    pub arr_end : {y : Step} → v ≡ End y → Ends c.on w₂ y
-    arr_end e = record { run = λ j k. there (Dens c.on.q w₂) _ _ (way k) (passes k) e }
+        pub arr_end : {x : Stop} → v ≡ Err x → Ends w₂ (Err x)
+        arr_end e = record { run = λ j k. there (λ y. y.st) (Dens h.q w₂) _ _ (way k) (passes k) e }
 
-module _ {t : ℕ} (b : Between t) where
-  -- the rule as it was asked
-  abbrev asked : Halved t
-  asked = b.on.on
+        module _ {b : Both} (e : v ≡ Ok b) where
+          next : {j : Judgement} (k : At j) → WayOn (λ y. y.st) (Dens h.q w₂) _ _ (way k) w₂ b
+          next k = onward (λ y. y.st) (Dens h.q w₂) _ _ (way k) (passes k) e
 
-  next : {j : Judgement} (k : At asked j) → WayOn (Dens asked.q b.w) _ _ (way b.on k) b.w b.s b.a b.b
-  next k = onward (Dens asked.q b.w) _ _ (way b.on k) (passes b.on b.call k) b.done
+          asks₂ : {j : Judgement} (k : At j) → Asks h.q w₂ b.st.top r.g (sub_ask b.a b.b) (subtype (came k).Δ (next k).x.0 (next k).x.1)
+          asks₂ k = let x = next k in as_sub refl refl (run_frame x.keep x.up (came k).land.run) x.says.0 x.says.1
 
-  asks₂ : {j : Judgement} (k : At asked j)
-      → Asks asked.q b.w b.s.top b.on.r.g (sub_ask b.a b.b) (subtype (came b.on k).Δ (next k).x.0 (next k).x.1)
-  asks₂ k = let x = next k in as_sub refl refl (run_frame x.keep x.up (came b.on k).land.run) x.says.0 x.says.1
+          pub arr_second : (3 * b.st.left < t) × JudgePre h.q w₂ b.st r.g (sub_ask b.a b.b)
+          arr_second = let k = h.pre.pre.asks in let x = (next k).way in (omega (arith, h.falls, x.so.less), asks_sub x.room (asks₂ k))
 
-  pub arr_second : (3 * b.s.left < t) × JudgePre asked.q b.w b.s b.on.r.g (sub_ask b.a b.b)
-  arr_second = let k = asked.pre.pre.asks in let x = (next k).way in
-      (omega (arith, asked.falls, x.so.less), asks_sub x.room (asks₂ k))
+          module _ {w₃ : List ℕ} {y : Step} (call₂ : Judged h.m h.q w₂ w₃ b.st r.g (sub_ask b.a b.b) y) where
+            pub arr_else₂ : NotDone y → Ends w₃ y
+            unfolding ◌>>=◌
+            arr_else₂ nd =
+                else_fires (λ j k. let x = (next k).way in record { ts = _; so = x.so; i = _; asks = asks₂ k; next = _; says = x.is }) call₂ nd
 
-  module _ {w₃ : List ℕ} {y : Step} (call : Judged asked.m asked.q b.w w₃ b.s b.on.r.g (sub_ask b.a b.b) y) where
-    pub arr_else₂ : NotDone y → Ends asked w₃ y
-    unfolding ◌>>=◌
-    arr_else₂ nd = else_fires (λ j k. let x = (next k).way in record { ts = _; so = x.so; i = _; asks = asks₂ k; next = _; says = x.is }) call nd
-
-    pub arr_done : {u : Answer} {z : Step} → y ≡ Done u → PlainOut u.st u.g INT 25 2 z → Ends asked w₃ z
-    unfolding children rule_number ◌>>=◌
-    arr_done d th = record {
-      run = λ j k.
-          let x = (next k).way in
-          through_ends x.so call (asks₂ k) d Syntax.SubArr refl (λ t. refl) (omega arith) th _ x.is;
-    }
+            pub arr_done : {u : Answer} {x : Step} → y ≡ Ok u → PlainOut u.st u.g INT rules.SubArr 2 x → Ends w₃ x
+            unfolding children ◌>>=◌
+            arr_done d₂ th = record {
+              run = λ j k.
+                  let x = (next k).way in
+                  through_ends x.so call₂ (asks₂ k) d₂ Syntax.SubArr refl (λ t. refl) (omega arith) th _ x.is;
+            }

@@ -1,27 +1,33 @@
 -- SubAllR and SubAllL: the rule that opens the Forall on a side.
-use mathlib.Core.Path.{◌≡◌, refl, ◌∙◌}
+use mathlib.Core.Path.{◌≡◌, refl, ◌∙◌, ap}
 use mathlib.Core.List.{List}
 use Prim.Native.Nat.{ℕ}
+use Rattle.std.specs.Prelude.{Result}
 use Rattle.definition.specs.Syntax
-use Rattle.definition.specs.Syntax.{TyVar, Ty, int, forall, Ctx, Side, on_l, on_r, Judgement, subtype, Rule, rule_number, leaf, ◌&◌}
+use Rattle.definition.specs.Syntax.{TyVar, Ty, int, forall, Ctx, Side, on_l, on_r, Judgement, subtype, Rule, leaf, ◌&◌}
 use Rattle.definition.specs.Run.{and_then, give, ◌>>=◌}
 use Rattle.definition.specs.Contexts.{right_of}
 use Rattle.definition.specs.Rules.{Here, Judge, judge, sub_all_r, sub_all_l, ty_code}
 use Rattle.layout.specs.Denotes.{Den}
 use Rattle.layout.specs.Room.{Room}
 use Rattle.layout.specs.declared.Span.{Span}
+use Rattle.layout.specs.declared.Spent.{Spent}
 use Rattle.layout.specs.declared.State.{State}
 use Rattle.layout.proofs.Denotes.{den_frame}
 use Rattle.judging.specs.Asking.{here, Asks, as_sub, sub_ask, Small}
+use Rattle.judging.specs.Names.{rule_of}
 use Rattle.judging.specs.declared.Here as program-here
+use Rattle.judging.specs.declared.Rule as declared
+use Rattle.judging.specs.declared.Rule.TheVariants as rules
 use Rattle.judging.proofs.Asking.{small_sub}
 use Rattle.rules.specs.Opening.{ForallPre, OpensOn}
 use Rattle.rules.specs.Sides.{side, opened_ty, opened_ctx, binder}
-use Rattle.rules.specs.declared.Instance.{Instance}
+use Rattle.rules.specs.declared.Body.{Body}
 use Rattle.rules.specs.declared.Side as program
 use Rattle.rules.proofs.Standing.{forall_pre, ref_small}
 use Rattle.rules.proofs.Under.{Under}
-use Rattle.subtyping.specs.Arms.{on_side, sub_all, Comes, ArmFits, fits_all, ArmPre}
+use Rattle.subtyping.specs.Arms.{sub_all, Comes, ArmFits, fits_all, ArmPre}
+use Rattle.instantiation.specs.Sides.{on_side}
 use Rattle.subtyping.specs.declared.Arm.TheVariants as arm
 use Rattle.subtyping.proofs.Rules.{one_den, one_small, askd, fits, comes}
 
@@ -38,10 +44,10 @@ abbrev pub rule_all : Side → Rule
 rule_all on_l = Syntax.SubAllL
 rule_all on_r = Syntax.SubAllR
 
-pub all_number : (sd : Side) → on_side sd 27 26 ≡ rule_number (rule_all sd)
-unfolding rule_number
-all_number on_l = refl
-all_number on_r = refl
+-- of two rules the program picks the one that the definition does
+pub all_rule : {n : declared.Rule} (sd : Side) → n ≡ on_side sd rules.SubAllL rules.SubAllR → rule_of n ≡ rule_all sd
+all_rule on_l e = ap rule_of e
+all_rule on_r e = ap rule_of e
 
 -- the two rules in one form: the opened type takes the Forall's place
 all_is : (h : Here) (judge : Judge) (Γ : Ctx) (A B : Ty) (x : TyVar) (T : Ty) (l n : ℕ) (sd : Side) → sub_all sd h judge Γ (on_side sd B A) (x, T) l n
@@ -71,7 +77,7 @@ module _ {q w : List ℕ} {s : State} {g : Span} {a b : ℕ} {z : program.Side} 
       small_sub (one_small (side z) (ref_small room d) (ref_small pre.pre.room v.left))
       (one_small (side z) (ref_small pre.pre.room v.right) (ref_small room d))
 
-  pub under_on : {m : program-here.Here} {w₁ : List ℕ} {r : ℕ} {x : Instance} → r ≡ on_side (side z) a b → OpensOn m q w w₁ s g r (side z) x → (j : Judgement)
+  pub under_on : {m : program-here.Here} {w₁ : List ℕ} {r : ℕ} {x : Result Body Spent} → r ≡ on_side (side z) a b → OpensOn m q w w₁ s g r (side z) x → (j : Judgement)
       → Asks q w s.top g (sub_ask a b) j
       → Under m q w w₁ s g (λ p. sub_ask (on_side (side z) p.ty a) (on_side (side z) b p.ty)) (binder (side z)) (rule_all (side z)) x j
   under_on {m} e in₁ j k =

@@ -3,42 +3,40 @@ use mathlib.Core.Path.{◌≡◌, refl, ◌∙◌, ap}
 use mathlib.Core.List.{List}
 use Prim.Native.Nat.{ℕ, ◌<◌}
 use native.Mathlib.Omega.{arith}
-use Rattle.definition.specs.Syntax.{TyVar, Ty, int, etvar, Ctx, Side, on_l, on_r, Judgement, inst, Rule, rule_number, leaf, ◌&◌, children, subtyping_error}
+use Rattle.std.specs.Prelude.{Ok, Err}
+use Rattle.definition.specs.Syntax.{TyVar, Ty, int, etvar, Ctx, Side, on_l, on_r, Judgement, inst, leaf, ◌&◌, children, subtyping_error}
 use Rattle.definition.specs.Run.{M, and_then, give, refuse, ◌>>=◌}
 use Rattle.definition.specs.Rules as definition
 use Rattle.definition.specs.Rules.{Fired, Judge, closes, sub_inst, rule, judge}
-use Rattle.definition.specs.Reply.{error_code, error_at}
+use Rattle.definition.specs.Reply.{error_at}
 use Rattle.layout.specs.Sizes.{INT}
 use Rattle.layout.specs.Denotes.{Den}
 use Rattle.layout.specs.declared.Span.{Span}
 use Rattle.layout.specs.declared.State.{State}
-use Rattle.types.proofs.Held.{room_held}
 use Rattle.judging.specs.Asking.{here, Asks, sub_ask, inst_ask, JudgePre, RulePre}
-use Rattle.judging.specs.Ending.{shown_two, Failed}
+use Rattle.judging.specs.Ending.{Step, shown_two, Failed, Judged, Fires}
+use Rattle.judging.specs.Names.{rule_of}
 use Rattle.judging.specs.declared.Answer.{Answer}
 use Rattle.judging.specs.declared.Here.{Here}
 use Rattle.judging.specs.declared.Shown.TheVariants.{TwoTypes}
-use Rattle.judging.specs.declared.Step.{Step}
-use Rattle.judging.specs.declared.Step.TheVariants.{Done, Fail}
+use Rattle.judging.specs.declared.Rule as declared
+use Rattle.judging.specs.declared.Rule.TheVariants as rules
+use Rattle.judging.specs.declared.Stop.{Stop}
+use Rattle.judging.specs.declared.Stop.TheVariants.{Fail}
+use Rattle.judging.specs.declared.TypeError.TheVariants.{SubtypingError}
 use Rattle.judging.proofs.Asking.{SubAsked, sub_asked, asks_inst}
 use Rattle.judging.proofs.Chain.{begin, refuses, room_within}
 use Rattle.judging.proofs.Steps.{NotDone}
 use Rattle.rules.specs.Going.{PlainOut}
-use Rattle.judging.specs.Ending.{Judged, Fires}
 use Rattle.rules.specs.Sides.{side}
 use Rattle.rules.specs.declared.Side as program
-use Rattle.rules.proofs.Standing.{room_less}
-use Rattle.rules.proofs.Premises.{inst_pre, else_fires, ends, through_ends}
-use Rattle.subtyping.specs.Arms.{on_side, rule_inst, BothHeld, Comes, ArmFits, fits_refl, fits_inst, fits_none, ArmChosen, ArmPre}
+use Rattle.layout.proofs.Denotes.{int_den}
+use Rattle.rules.proofs.Premises.{inst_pre, else_fires, through_ends}
+use Rattle.rules.proofs.Ways.{start, finish}
+use Rattle.subtyping.specs.Arms.{rule_inst, Comes, ArmFits, fits_refl, fits_inst, fits_none, ArmChosen, ArmPre}
+use Rattle.instantiation.specs.Sides.{on_side}
 use Rattle.subtyping.specs.declared.Arm.{Arm}
 use Rattle.subtyping.specs.declared.Arm.TheVariants as arm
-
--- ## What is asked
-
-pub both_held : {q w : List ℕ} {s : State} {g : Span} {a b : ℕ} → RulePre q w s g (sub_ask a b) → BothHeld q w s.top a b
-both_held {a = a} {b = b} pre =
-    let v = sub_asked a b pre.asks in
-    record { left = room_held pre.room v.left; right = room_held pre.room v.right }
 
 -- ## By the side
 
@@ -73,36 +71,32 @@ module _ {q w : List ℕ} {s : State} {g : Span} {a b : ℕ} {z : Arm} (pre : Ar
 
 -- ## The arms without premises
 
-record ReflFits (A B : Ty) (n : ℕ) : Type 0 where
-  R : Rule
-  number : n ≡ rule_number R
-  comes_to : Comes A B (λ h judge Γ. closes R Γ)
+refl_fits : {A B : Ty} {n : declared.Rule} → ArmFits A B (arm.Refl n) → Comes A B (λ h judge Γ. closes (rule_of n) Γ)
+refl_fits (fits_refl c) = c
 
-refl_fits : {A B : Ty} {n : ℕ} → ArmFits A B (arm.Refl n) → ReflFits A B n
-refl_fits (fits_refl R e c) = record { R = R; number = e; comes_to = c }
-
-pub refl_fires : {m : Here} {q w : List ℕ} {s : State} {g : Span} {a b n : ℕ} → ArmPre q w s g a b (arm.Refl n)
-    → Fires m q w w s g (sub_ask a b) (Done (record { st = s; g = g; ty = INT; rule = n; kids = 0; charge = 0 }))
+pub refl_fires : {m : Here} {q w : List ℕ} {s : State} {g : Span} {a b : ℕ} {n : declared.Rule} {z : Step} → ArmPre q w s g a b (arm.Refl n)
+    → PlainOut s g INT n 0 z → Fires m q w w s g (sub_ask a b) z
 unfolding closes give children
-refl_fires {m} {s = s} {g = g} pre = record {
+refl_fires {m} {q} {w} {n = n} pre out = record {
   run = λ j k.
-      let f = refl_fits (fits pre k) in
-      ends s g f.R f.number refl (omega arith) begin (room_less pre.pre.room 4 (omega arith)) (askd pre k).run _ (comes pre m k f.comes_to);
+      let room = pre.pre.room in
+      finish (rule_of n) (out.finished q w) (askd pre k).run (int_den room.base) (start room (comes pre m k (refl_fits (fits pre k))))
+      (omega arith) refl refl (omega arith);
 }
 
 none_fits : {A B : Ty} → ArmFits A B arm.Neither → Comes A B (λ h judge Γ. refuse (subtyping_error A B))
 none_fits (fits_none c) = c
 
-pub none_fires : {m : Here} {q w : List ℕ} {s : State} {g : Span} {a b : ℕ} → ArmPre q w s g a b arm.Neither
-    → Fires m q w w s g (sub_ask a b) (Fail (record { st = s; code = 15; name = 0; shown = TwoTypes a b; charge = 0 }))
-unfolding refuse error_code error_at
-none_fires {m} {q} {w} {s} {g} {a} {b} pre = record {
+pub none_fires : {m : Here} {q w : List ℕ} {s : State} {g : Span} {a b : ℕ} {x : Stop} → ArmPre q w s g a b arm.Neither
+    → x ≡ Fail (record { st = s; error = SubtypingError; name = 0; shown = TwoTypes a b; charge = 0 }) → Fires m q w w s g (sub_ask a b) (Err x)
+unfolding refuse error_at
+none_fires {m} {q} {w} {s} {g} {a} {b} pre i = rw i (record {
   run = λ j k.
       let v = askd pre k in
-      let f : Failed q w (record { st = s; code = 15; name = 0; shown = TwoTypes a b; charge = 0 }) (subtyping_error v.A v.B) s.left =
-      record { base = pre.pre.room.base; within = room_within pre.pre.room; code = refl; name = refl; shown = shown_two v.left v.right; left = refl } in
+      let f : Failed q w (record { st = s; error = SubtypingError; name = 0; shown = TwoTypes a b; charge = 0 }) (subtyping_error v.A v.B) s.left =
+      record { base = pre.pre.room.base; within = room_within pre.pre.room; error = refl; name = refl; shown = shown_two v.left v.right; left = refl } in
       refuses begin f _ (comes pre m k (none_fits (fits pre k)));
-}
+})
 
 -- ## SubInstL and SubInstR: one instantiation, of the unknown u by the type t
 
@@ -114,10 +108,10 @@ record UnknownOn (sd : Side) (A B : Ty) : Type 0 where
 unknown_fits : {A B : Ty} {z : program.Side} → ArmFits A B (arm.Inst z) → UnknownOn (side z) A B
 unknown_fits (fits_inst {x = x} e c) = record { x = x; is = e; comes_to = c }
 
-inst_number : (sd : Side) → on_side sd 28 29 ≡ rule_number (rule_inst sd)
-unfolding rule_number
-inst_number on_l = refl
-inst_number on_r = refl
+-- of two rules the program picks the one that the definition does
+inst_is : {n : declared.Rule} (sd : Side) → n ≡ on_side sd rules.SubInstL rules.SubInstR → rule_of n ≡ rule_inst sd
+inst_is on_l e = ap rule_of e
+inst_is on_r e = ap rule_of e
 
 module _ {q w : List ℕ} {s : State} {g : Span} {a b : ℕ} {z : program.Side} (pre : ArmPre q w s g a b (arm.Inst z)) where
   unknown : {j : Judgement} (k : Asks q w s.top g (sub_ask a b) j) → UnknownOn (side z) (askd pre k).A (askd pre k).B
@@ -149,9 +143,9 @@ module _ {q w : List ℕ} {s : State} {g : Span} {a b : ℕ} {z : program.Side} 
       pub inst_else : NotDone y → Fires m q w w₁ s g (sub_ask a b) y
       inst_else nd = else_fires (λ j k. record { ts = leaf; so = begin; i = _; asks = asks₁ k; next = _; says = says m k }) call nd
 
-      pub inst_done : {r : Answer} {n : ℕ} {o : Step} → y ≡ Done r → n ≡ on_side (side z) 28 29 → PlainOut r.st r.g INT n 1 o → Fires m q w w₁ s g (sub_ask a b) o
+      pub inst_done : {r : Answer} {n : declared.Rule} {o : Step} → y ≡ Ok r → n ≡ on_side (side z) rules.SubInstL rules.SubInstR → PlainOut r.st r.g INT n 1 o → Fires m q w w₁ s g (sub_ask a b) o
       unfolding children
       inst_done d en th = record {
         run = λ j k.
-            through_ends begin call (asks₁ k) d (rule_inst (side z)) (en ∙ inst_number (side z)) (λ v. refl) (omega arith) th _ (says m k);
+            through_ends begin call (asks₁ k) d (rule_inst (side z)) (inst_is (side z) en) (λ v. refl) (omega arith) th _ (says m k);
       }

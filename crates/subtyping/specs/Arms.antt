@@ -1,27 +1,26 @@
 -- The arm of the definition that two types fall into, and what the rule in it requires.
-use Rattle.std.specs.Prelude.{◌≡◌, Bool, true, false, List, ℕ, ◌≤◌}
+use Rattle.std.specs.Prelude.{◌≡◌, Bool, true, false, List, ℕ, Option, Some, None}
 use Rattle.std.proofs.Math.Option.{none, some}
 use Rattle.definition.specs.Syntax
-use Rattle.definition.specs.Syntax.{TyVar, Ty, etvar, arrow, forall, Ctx, Side, on_l, on_r, Rule, rule_number, subtyping_error}
+use Rattle.definition.specs.Syntax.{TyVar, Ty, etvar, arrow, forall, Ctx, Side, on_l, on_r, Rule, subtyping_error}
 use Rattle.definition.specs.Run.{M, refuse}
 use Rattle.definition.specs.Rules.{Fired, Here, Judge, closes, as_var, as_etvar, not_in, same_base, same, sub_arr, sub_all_r, sub_all_l, sub_inst, subtype_rule}
 use Rattle.layout.specs.Denotes.{Den}
 use Rattle.layout.specs.declared.Span.{Span}
 use Rattle.layout.specs.declared.State.{State}
 use Rattle.types.specs.Reading.{Held}
+use Rattle.types.specs.declared.Form.{Form}
+use Rattle.judging.specs.Names.{rule_of}
+use Rattle.judging.specs.declared.Rule as declared
 use Rattle.judging.specs.Asking.{sub_ask, RulePre}
 use Rattle.rules.specs.Sides.{side}
+use Rattle.instantiation.specs.Sides.{on_side}
 use Rattle.rules.specs.declared.Side as program
 use Rattle.rules.specs.declared.Side.TheVariants.{L, R}
 use Rattle.subtyping.specs.declared.Arm.{Arm}
 use Rattle.subtyping.specs.declared.Arm.TheVariants as arm
 
 -- ## By the side
-
--- the one of the two that stands on it
-abbrev pub on_side : {X : Type 0} → Side → X → X → X
-on_side on_l x y = x
-on_side on_r x y = y
 
 -- SubAllL or SubAllR, SubInstL or SubInstR
 abbrev pub sub_all : Side → Here → Judge → Ctx → Ty → TyVar × Ty → M Fired
@@ -49,12 +48,12 @@ pub record NotAlike (A B : Ty) : Type 0 where
   pub vars : same (as_var A) (as_var B) ≡ false
   pub etvars : same (as_etvar A) (as_etvar B) ≡ false
 
--- n is the number of the first of them that is there, or 0
-pub data AlikeBy (A B : Ty) (n : ℕ) : Type 0 where
-  by_rule : (R : Rule) → 22 ≤ n → n ≡ rule_number R → Comes A B (λ h judge Γ. closes R Γ) → AlikeBy A B n
-  by_none : n ≡ 0 → NotAlike A B → AlikeBy A B n
+-- the first of them that is there
+pub data AlikeBy (A B : Ty) : Option declared.Rule → Type 0 where
+  by_rule : {n : declared.Rule} → Comes A B (λ h judge Γ. closes (rule_of n) Γ) → AlikeBy A B (Some n)
+  by_none : NotAlike A B → AlikeBy A B None
 
-pub record AlikeTypes (q w : List ℕ) (t a b n : ℕ) : Type 0 where
+pub record AlikeTypes (q w : List ℕ) (t a b : ℕ) (n : Option declared.Rule) : Type 0 where
   pub is : (A B : Ty) → Den q w t a A → Den q w t b B → AlikeBy A B n
 
 -- A is an unknown that does not occur in B
@@ -67,12 +66,12 @@ pub record Absent (q w : List ℕ) (t a b : ℕ) (r : Bool) : Type 0 where
   pub yes : r ≡ true → (A B : Ty) → Den q w t a A → Den q w t b B → AbsentFrom A B
   pub no : r ≡ false → (A B : Ty) → Den q w t a A → Den q w t b B → not_in B (as_etvar A) ≡ none
 
--- the arm that two codes tell
-pub data Formed (k m : ℕ) : Arm → Type 0 where
-  both_arrows : k ≡ 5 → m ≡ 5 → Formed k m arm.Arr
-  right_forall : m ≡ 6 → Formed k m (arm.All R)
-  left_forall : (m ≡ 6 → ⊥) → k ≡ 6 → Formed k m (arm.All L)
-  no_form : (k ≡ 5 → m ≡ 5 → ⊥) → (m ≡ 6 → ⊥) → (k ≡ 6 → ⊥) → Formed k m arm.Neither
+-- the arm that two forms tell
+pub data Formed (k m : Form) : Arm → Type 0 where
+  both_arrows : k ≡ Form.Arrow → m ≡ Form.Arrow → Formed k m arm.Arr
+  right_forall : m ≡ Form.Forall → Formed k m (arm.All R)
+  left_forall : (m ≡ Form.Forall → ⊥) → k ≡ Form.Forall → Formed k m (arm.All L)
+  no_form : (k ≡ Form.Arrow → m ≡ Form.Arrow → ⊥) → (m ≡ Form.Forall → ⊥) → (k ≡ Form.Forall → ⊥) → Formed k m arm.Neither
 
 -- the arm that an unknown on a side tells
 pub data ByUnknown (q w : List ℕ) (t a b : ℕ) : Arm → Type 0 where
@@ -82,7 +81,7 @@ pub data ByUnknown (q w : List ℕ) (t a b : ℕ) : Arm → Type 0 where
 
 -- the first arm that is there, with the types' parts that it asks for
 pub data ArmFits (A B : Ty) : Arm → Type 0 where
-  fits_refl : {n : ℕ} (R : Rule) → n ≡ rule_number R → Comes A B (λ h judge Γ. closes R Γ) → ArmFits A B (arm.Refl n)
+  fits_refl : {n : declared.Rule} → Comes A B (λ h judge Γ. closes (rule_of n) Γ) → ArmFits A B (arm.Refl n)
   fits_arr : {A₁ A₂ B₁ B₂ : Ty} → A ≡ arrow A₁ A₂ → B ≡ arrow B₁ B₂ → Comes A B (λ h judge Γ. sub_arr h judge Γ (A₁, A₂) (B₁, B₂)) → ArmFits A B arm.Arr
   fits_all : {s : program.Side} {x : TyVar} {T : Ty} → on_side (side s) A B ≡ forall x T
       → Comes A B (λ h judge Γ. sub_all (side s) h judge Γ (on_side (side s) B A) (x, T)) → ArmFits A B (arm.All s)

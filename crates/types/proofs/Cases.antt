@@ -5,8 +5,8 @@ use Prim.Native.Nat.{ℕ, ◌≤◌, ◌<◌}
 use native.Mathlib.Omega.{arith}
 use Rattle.definition.specs.Syntax.{TyVar, Ty, int, bool, var, etvar, arrow, forall}
 use Rattle.layout.specs.Denotes.{Den}
-use Rattle.types.specs.Reading.{Held, Tagged}
-use Rattle.types.proofs.Codes.{base_case, name_case, arrow_case, forall_case, sizes}
+use Rattle.types.specs.Reading.{Tagged}
+use Rattle.types.proofs.Codes.{base_case, name_case, arrow_case, forall_case}
 
 module _ {q w : List ℕ} {t r k : ℕ} (P : Ty → Type 0) (c : Tagged q w t r k) where
   pub by_base : k < 3 → (Den q w t r int → P int) → (Den q w t r bool → P bool) → (T : Ty) → Den q w t r T → P T
@@ -21,7 +21,3 @@ module _ {q w : List ℕ} {t r k : ℕ} (P : Ty → Type 0) (c : Tagged q w t r 
 
   pub by_forall : k ≡ 6 → ((a : TyVar) (A : Ty) → Den q w t r (forall a A) → P (forall a A)) → (T : Ty) → Den q w t r T → P T
   by_forall e f T d = forall_case (λ T. Den q w t r T → P T) T (sym (c.is T d) ∙ e) f d
-
--- there is no other code
-pub no_other : {q w : List ℕ} {t r k : ℕ} → Held q w t r → Tagged q w t r k → 5 ≤ k → (k ≡ 5 → ⊥) → (k ≡ 6 → ⊥) → ⊥
-no_other h c l f g = f (omega (arith, c.is h.type h.den, (sizes h.type).high, g))

@@ -1,13 +1,16 @@
--- What a type's code tells of the type.
-use mathlib.Core.Path.{◌≡◌, refl}
+-- What a type's code tells of the type, and a form of its number.
+use mathlib.Core.Path.{◌≡◌, refl, sym, ◌∙◌, ap}
+use mathlib.Core.Logic.{◌⊎◌, ⊎_elim}
 use Prim.Native.Nat.{ℕ, ◌≤◌, ◌<◌}
 use native.Mathlib.Omega.{arith}
+use Rattle.std.specs.Prelude.{if◌then◌else◌, eqb}
 use Rattle.definition.specs.Syntax.{TyVar, Ty, int, bool, var, etvar, arrow, forall}
 use Rattle.definition.specs.Rules.{ty_code}
 use Rattle.layout.specs.Places.{size}
 use Rattle.layout.specs.Denotes.{capped}
 use Rattle.layout.proofs.Places.{size_some}
-use Rattle.types.specs.Reading.{record_size}
+use Rattle.types.specs.Reading.{form_number, record_size}
+use Rattle.types.specs.declared.Form.{Form}
 
 -- ## What holds of each form of type that has the code holds of the type
 
@@ -47,6 +50,46 @@ module _ (P : Ty → Type 0) where
   forall_case (etvar a) e f = absurd (omega arith)
   forall_case (arrow A B) e f = absurd (omega arith)
   forall_case (forall a A) e f = f a A
+
+-- ## What the arms of a match on a form tell of its number
+
+module _ {f : Form} where
+  pub base_form : (f ≡ Form.Int) ⊎ (f ≡ Form.Bool) → form_number f < 3
+  base_form = ⊎_elim (λ e. omega (arith, ap form_number e)) (λ e. omega (arith, ap form_number e))
+
+  pub name_form : (f ≡ Form.Var) ⊎ (f ≡ Form.ETVar) → (3 ≤ form_number f) × (form_number f < 5)
+  name_form = ⊎_elim (λ e. (omega (arith, ap form_number e), omega (arith, ap form_number e)))
+      (λ e. (omega (arith, ap form_number e), omega (arith, ap form_number e)))
+
+  pub parts_form : (f ≡ Form.Arrow) ⊎ (f ≡ Form.Forall) → 5 ≤ form_number f
+  parts_form = ⊎_elim (λ e. omega (arith, ap form_number e)) (λ e. omega (arith, ap form_number e))
+
+-- a form that is none of the two with parts
+pub leaf_form : (f : Form) → (f ≡ Form.Arrow → ⊥) → (f ≡ Form.Forall → ⊥) → form_number f < 5
+leaf_form Form.Int x y = omega arith
+leaf_form Form.Bool x y = omega arith
+leaf_form Form.Var x y = omega arith
+leaf_form Form.ETVar x y = omega arith
+leaf_form Form.Arrow x y = absurd (x refl)
+leaf_form Form.Forall x y = absurd (y refl)
+
+-- two forms of one number are one
+form_at : ℕ → Form
+form_at n =
+    if eqb n 1 then Form.Int else if eqb n 2 then Form.Bool else if eqb n 3 then Form.Var else if eqb n 4 then Form.ETVar
+    else if eqb n 5 then Form.Arrow else Form.Forall
+
+form_back : (f : Form) → form_at (form_number f) ≡ f
+unfolding form_at
+form_back Form.Int = refl
+form_back Form.Bool = refl
+form_back Form.Var = refl
+form_back Form.ETVar = refl
+form_back Form.Arrow = refl
+form_back Form.Forall = refl
+
+pub same_form : (f g : Form) → form_number f ≡ form_number g → f ≡ g
+same_form f g e = sym (form_back f) ∙ ap form_at e ∙ form_back g
 
 -- T begins with the name b
 pub data Naming : Ty → TyVar → Type 0 where

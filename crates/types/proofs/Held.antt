@@ -1,5 +1,6 @@
--- What is held: in a run, by its code, and through its parts.
-use mathlib.Core.Path.{◌≡◌, refl, sym, ◌∙◌}
+-- What is held: in a run, by its code or its form, and through its parts.
+use mathlib.Core.Path.{◌≡◌, refl, sym, ◌∙◌, ap}
+use mathlib.Core.Logic.{◌⊎◌}
 use mathlib.Core.List.{List}
 use Prim.Native.Nat.{ℕ, ◌≤◌, ◌<◌}
 use native.Mathlib.Omega.{arith}
@@ -7,7 +8,9 @@ use Rattle.definition.specs.Syntax.{Ty}
 use Rattle.layout.specs.Denotes.{Den}
 use Rattle.layout.specs.Room.{Room}
 use Rattle.layout.specs.declared.State.{State}
-use Rattle.types.specs.Reading.{Held, HeldAs, HeldNamed, Tagged, rank, PartBelow, LeftOf, RightOf, BodyOf}
+use Rattle.types.specs.Reading.{Held, HeldAs, HeldNamed, Tagged, form_number, FormOf, rank, PartBelow, LeftOf, RightOf, BodyOf}
+use Rattle.types.specs.declared.Form.{Form}
+use Rattle.types.proofs.Codes.{name_form}
 use Rattle.types.proofs.Reading.{arrow_held, forall_held}
 
 -- ## In a run
@@ -28,6 +31,21 @@ module _ {q w : List ℕ} {t r : ℕ} where
 
     pub held_named : 3 ≤ k → (k ≡ 5 → ⊥) → HeldNamed q w t r
     held_named l f = let e = c.is h.type h.den in record { held = h; low = omega arith; other = λ g. f (e ∙ g) }
+
+  -- ## By the form
+
+  module _ {f : Form} (h : Held q w t r) (c : FormOf q w t r f) where
+    pub held_arrow : f ≡ Form.Arrow → HeldAs q w t r 5
+    held_arrow e = held_as h c 5 (ap form_number e)
+
+    pub held_forall : f ≡ Form.Forall → HeldAs q w t r 6
+    held_forall e = held_as h c 6 (ap form_number e)
+
+    pub named_var : (f ≡ Form.Var) ⊎ (f ≡ Form.ETVar) → HeldNamed q w t r
+    named_var e = held_named h c (name_form e).0 (λ g. omega (arith, (name_form e).1))
+
+    pub named_forall : f ≡ Form.Forall → HeldNamed q w t r
+    named_forall e = held_named h c (omega (arith, ap form_number e)) (λ g. omega (arith, ap form_number e))
 
   -- ## Parts: each is held, and ranks below its whole
 

@@ -17,7 +17,8 @@ use Rattle.layout.specs.declared.TyVar.{TyVar}
 use Rattle.layout.proofs.Places.{ty_code_lem, ty_within}
 use Rattle.layout.proofs.Monotypes.{mono_in_question, mono_in_work}
 use Rattle.layout.proofs.Denotes.{den_written, past_ty, mono_is_walk}
-use Rattle.types.specs.Reading.{Held, HeldAs, Tagged, Mono, Named, PartBelow, LeftOf, RightOf, BodyOf, LengthOf, record_size, RecordLength, WordsOf}
+use Rattle.types.specs.Reading.{Held, HeldAs, Tagged, Mono, Named, PartBelow, LeftOf, RightOf, BodyOf, LengthOf, form_number, FormOf, record_size, RecordLength, WordsOf}
+use Rattle.types.specs.declared.Form.{Form}
 use Rattle.types.proofs.Codes.{arrow_case, forall_case, Naming, var_names, etvar_names, forall_names, sizes, two_words, leaf_size}
 use Rattle.types.proofs.Records.{made_record, made_length, made_name, made_left, made_right, made_body}
 
@@ -64,17 +65,11 @@ past_is h l d = past_ty h.base (den_written l d)
 -- ## Places that a reader may look at
 
 module _ {q w : List ℕ} {t r : ℕ} (h : Held q w t r) where
-  pub code_in_question : r < BASE → r < length q
-  code_in_question l = (ty_code_lem (den_written l h.den)).within
-
   pub name_in_question : r < BASE → 3 ≤ ty_code h.type → r + 1 < length q
   name_in_question l c = omega (arith, ty_within (den_written l h.den), (two_words h.type c).0)
 
   pub record_in_work : BASE ≤ r → r - BASE + record_size h.type ≤ length w
   record_in_work l = omega (arith, (made_record l h.den).end, h.fits)
-
-  pub code_in_work : BASE ≤ r → r - BASE < length w
-  code_in_work l = omega (arith, record_in_work l, (sizes h.type).some)
 
   pub name_in_work : BASE ≤ r → 3 ≤ ty_code h.type → r - BASE + 1 < length w
   name_in_work l c = omega (arith, record_in_work l, (two_words h.type c).1)
@@ -156,7 +151,7 @@ module _ {q w : List ℕ} {t r : ℕ} (h : Held q w t r) where
   pub length_written : {e : ℕ} → r < BASE → e ≡ past w r → LengthOf q w t r (e - r)
   length_written l f = length_of (λ T d. omega (arith, past_is h l d))
 
-  pub length_leaf : {k n : ℕ} → Tagged q w t r k → k < 5 → RecordLength k n → LengthOf q w t r n
+  pub length_leaf : {f : Form} {n : ℕ} → FormOf q w t r f → form_number f < 5 → RecordLength f n → LengthOf q w t r n
   length_leaf c l n = length_of (λ T d. n.is T (c.is T d) ∙ leaf_size T (omega (arith, c.is T d)))
 
   pub length_made : {k n : ℕ} → BASE ≤ r → Tagged q w t r k → 5 ≤ k → n ≡ get_or w (r - BASE + 3) 0 → LengthOf q w t r n
@@ -171,11 +166,5 @@ module _ {q w : List ℕ} {t r : ℕ} (h : Held q w t r) where
     in_work = λ m T d. absurd (omega arith);
   }
 
-  pub end_in_work : {k n : ℕ} → BASE ≤ r → Tagged q w t r k → RecordLength k n → r - BASE + n ≤ length w
+  pub end_in_work : {f : Form} {n : ℕ} → BASE ≤ r → FormOf q w t r f → RecordLength f n → r - BASE + n ≤ length w
   end_in_work l c n = omega (arith, record_in_work h l, n.is h.type (c.is h.type h.den))
-
-  pub words_made : {k n : ℕ} → BASE ≤ r → Tagged q w t r k → RecordLength k n → WordsOf q w t r (take (r - BASE + n - (r - BASE)) (drop (r - BASE) w))
-  words_made {k} {n} l c f = record {
-    in_question = λ m T d. absurd (omega arith);
-    in_work = λ m T d. let z : r - BASE + n - (r - BASE) ≡ record_size T = omega (arith, f.is T (c.is T d)) in ap (λ (n : ℕ). take n (drop (r - BASE) w)) z;
-  }

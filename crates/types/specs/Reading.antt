@@ -9,6 +9,7 @@ use Rattle.layout.specs.Names.{ty}
 use Rattle.layout.specs.Places.{size}
 use Rattle.layout.specs.Denotes.{capped, Den, Base}
 use Rattle.layout.specs.declared.TyVar.{TyVar}
+use Rattle.types.specs.declared.Form.{Form}
 
 -- ## What a reader may rely on
 
@@ -35,6 +36,18 @@ pub record HeldNamed (q w : List ℕ) (t r : ℕ) : Type 0 where
 
 pub record Tagged (q w : List ℕ) (t r k : ℕ) : Type 0 where
   pub is : (T : Ty) → Den q w t r T → k ≡ ty_code T
+
+-- a form's number is the code of the types of that form
+abbrev pub form_number : Form → ℕ
+form_number Form.Int = 1
+form_number Form.Bool = 2
+form_number Form.Var = 3
+form_number Form.ETVar = 4
+form_number Form.Arrow = 5
+form_number Form.Forall = 6
+
+abbrev pub FormOf : List ℕ → List ℕ → ℕ → ℕ → Form → Type 0
+FormOf q w t r f = Tagged q w t r (form_number f)
 
 pub record Mono (q w : List ℕ) (t r : ℕ) (b : Bool) : Type 0 where
   pub is : (T : Ty) → Den q w t r T → b ≡ is_mono T
@@ -80,8 +93,8 @@ record_size (etvar a) = 2
 record_size (arrow A B) = 4
 record_size (forall a A) = 4
 
-pub record RecordLength (k n : ℕ) : Type 0 where
-  pub is : (T : Ty) → k ≡ ty_code T → n ≡ record_size T
+pub record RecordLength (f : Form) (n : ℕ) : Type 0 where
+  pub is : (T : Ty) → form_number f ≡ ty_code T → n ≡ record_size T
 
 -- the part of the question that the type fills (its words: proofs/Words), or its record in work
 pub record WordsOf (q w : List ℕ) (t r : ℕ) (ws : List ℕ) : Type 0 where

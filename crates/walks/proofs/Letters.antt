@@ -1,12 +1,11 @@
 -- The pairs of letters in work: what stays, what is laid, and how `same_var` goes through them.
 use mathlib.Core.Path.{◌≡◌, refl, sym, ap, ap₂, ◌∙◌}
 use mathlib.Core.List.{List, ◌∷◌}
-use mathlib.Core.Bool.{Bool, false, ◌&&◌, ◌||◌}
+use mathlib.Core.Bool.{Bool, true, false, ◌&&◌, ◌||◌}
 use Prim.Native.Nat.{ℕ, zero, suc, ◌+◌, ◌-◌, ◌*◌, ◌≤◌, ◌<◌}
 use native.Mathlib.Nat.{le_refl}
 use native.Mathlib.Omega.{arith}
 use lib.Dec.{eqb}
-use borrow.Author.Tests.{eq-eqb, ne_eqb}
 use lib.ListN.{get_or}
 use Rattle.definition.specs.Syntax.{pick}
 use Rattle.definition.specs.Types.{same_name}
@@ -47,25 +46,31 @@ pub record Outer (w : List ℕ) (t n x y i : ℕ) : Type 0 where
   pub few : i ≤ n
   pub is : same_by w t x y n ≡ same_by w t x y i
 
-pub both_free : {w : List ℕ} {t n x y i : ℕ} → Outer w t n x y i → i ≤ 0 → eqb x y ≡ same_by w t x y n
+pub both_free : {w : List ℕ} {t n x y i : ℕ} {z : Bool} → Outer w t n x y i → i ≤ 0 → z ≡ eqb x y → z ≡ same_by w t x y n
 unfolding same_var letters_at same_name
-both_free {i = zero} o h = sym o.is
-both_free {i = suc i} o h = absurd (omega arith)
+both_free {i = zero} o h e = e ∙ sym o.is
+both_free {i = suc i} o h e = absurd (omega arith)
 
-module _ {w : List ℕ} {t n x y i c d : ℕ} (o : Outer w t n x y i) (some : 0 < i) (left : c ≡ get_or w (t + 2 * (i - 1)) 0) (right : d ≡ get_or w (t + 2 * (i - 1) + 1) 0) where
-  -- the innermost of these is the pair of c and d
-  innermost : same_by w t x y n ≡ pick (eqb c x || eqb d y) (eqb c x && eqb d y) (same_by w t x y (i - 1))
+module _ {w : List ℕ} {t n x y i : ℕ} (o : Outer w t n x y i) (some : 0 < i) where
+  -- the names of the innermost of these pairs
+  abbrev left : ℕ
+  left = get_or w (t + 2 * (i - 1)) 0
+
+  abbrev right : ℕ
+  right = get_or w (t + 2 * (i - 1) + 1) 0
+
+  innermost : same_by w t x y n ≡ pick (eqb left x || eqb right y) (eqb left x && eqb right y) (same_by w t x y (i - 1))
   unfolding same_var letters_at same_name
-  innermost = let one_less : i ≡ suc (i - 1) = omega arith in o.is ∙ ap (same_by w t x y) one_less ∙ rw (left, right) refl
+  innermost = let one_less : i ≡ suc (i - 1) = omega arith in o.is ∙ ap (same_by w t x y) one_less ∙ refl
 
-  pub left_bound : c ≡ x → eqb d y ≡ same_by w t x y n
+  pub left_bound : {z : Bool} → true ≡ eqb left x → z ≡ eqb right y → z ≡ same_by w t x y n
   unfolding pick
-  left_bound e = sym (innermost ∙ rw (eq-eqb c x e) refl)
+  left_bound e f = f ∙ sym (innermost ∙ rw (sym e) refl)
 
-  pub right_bound : (c ≡ x → ⊥) → d ≡ y → false ≡ same_by w t x y n
+  pub right_bound : false ≡ eqb left x → true ≡ eqb right y → false ≡ same_by w t x y n
   unfolding pick
-  right_bound e f = sym (innermost ∙ rw (ne_eqb c x e, eq-eqb d y f) refl)
+  right_bound e f = sym (innermost ∙ rw (sym e, sym f) refl)
 
-  pub neither_bound : (c ≡ x → ⊥) → (d ≡ y → ⊥) → Outer w t n x y (i - 1)
+  pub neither_bound : false ≡ eqb left x → false ≡ eqb right y → Outer w t n x y (i - 1)
   unfolding pick
-  neither_bound e f = record { few = omega (arith, o.few); is = innermost ∙ rw (ne_eqb c x e, ne_eqb d y f) refl }
+  neither_bound e f = record { few = omega (arith, o.few); is = innermost ∙ rw (sym e, sym f) refl }

@@ -1,11 +1,12 @@
 -- The arms of `same_type`.
 use mathlib.Core.Path.{◌≡◌, refl, sym, ap, ap₂, ◌∙◌}
 use mathlib.Core.List.{List, ◌∷◌}
-use mathlib.Core.Bool.{Bool, true, false, ◌&&◌}
+use mathlib.Core.Bool.{Bool, true, false, not, ◌&&◌}
 use Prim.Native.Nat.{ℕ, ◌+◌, ◌*◌, ◌≤◌, ◌<◌}
 use native.Mathlib.Nat.{le_refl}
 use native.Mathlib.Omega.{arith}
 use lib.ListN.{length}
+use denote.Enum.Bare.{sameb, differs_true, differs_false}
 use Rattle.definition.specs.Syntax as syntax
 use Rattle.definition.specs.Syntax.{Ty, int, bool, var, etvar, arrow, forall}
 use Rattle.definition.specs.Types.{same_name}
@@ -17,12 +18,23 @@ use Rattle.layout.specs.Places.{size}
 use Rattle.layout.specs.Denotes.{Den}
 use Rattle.layout.proofs.Words.{keep_refl, keep_trans, keep_less}
 use Rattle.layout.proofs.Denotes.{den_frame, base_frame}
-use Rattle.types.specs.Reading.{Held, HeldAs, Tagged, rank, LeftOf, RightOf, BodyOf}
+use Rattle.types.specs.Reading.{Held, HeldAs, Tagged, form_number, rank, LeftOf, RightOf, BodyOf}
+use Rattle.types.specs.declared.Form.{Form}
+use Rattle.types.specs.contracts.Form.{the_type}
+use Rattle.types.proofs.Codes.{same_form}
 use Rattle.types.proofs.Held.{held_as, held_named, left_below, right_below, body_below}
 use Rattle.types.proofs.Cases.{by_base, by_name, by_arrow, by_forall}
 use Rattle.walks.specs.Letters.{BothNamed, BothNames, letters_at, Comparing, Same}
 use Rattle.walks.specs.declared.NamePair.{NamePair}
 use Rattle.walks.proofs.Letters.{below, letters_stay, laid}
+
+-- ## What comparing two forms tells
+
+pub forms_agree : (f g : Form) → false ≡ not (sameb the_type f g) → f ≡ g
+forms_agree f g e = differs_false the_type tt f g (sym e)
+
+pub forms_differ : (f g : Form) → true ≡ not (sameb the_type f g) → form_number f ≡ form_number g → ⊥
+forms_differ f g e n = differs_true the_type f g (sym e) (same_form f g n)
 
 -- ## What a call asks for
 
@@ -92,16 +104,7 @@ module _ {v : ℕ} (i : OneCode v) where
   pub two_as : (j : ℕ) → i.k ≡ j → HeldAs i.q i.w i.t i.s j
   two_as j e = held_as i.comparing.two i.two j e
 
--- ## Names, and types of other codes
-
-below_three : (A : Ty) → (ty_code A ≡ 3 → ⊥) → (ty_code A ≡ 4 → ⊥) → (ty_code A ≡ 5 → ⊥) → (ty_code A ≡ 6 → ⊥) → ty_code A < 3
-unfolding ty_code
-below_three int f g x y = omega arith
-below_three bool f g x y = omega arith
-below_three (var a) f g x y = absurd (f refl)
-below_three (etvar a) f g x y = absurd (g refl)
-below_three (arrow A B) f g x y = absurd (x refl)
-below_three (forall a A) f g x y = absurd (y refl)
+-- ## Names, and types of other forms
 
 -- nothing was written
 told : {q w : List ℕ} {t n r s : ℕ} {z : Bool} → ((A B : Ty) → Den q w t r A → Den q w t s B → z ≡ same_ty (letters_at w t n) A B) → Same q w w t n r s z
@@ -111,11 +114,9 @@ pub same_apart : {q w : List ℕ} {t n r s k m : ℕ} → Tagged q w t r k → T
 same_apart {w = w} {t = t} {n = n} c c' f = told (λ A B d e. sym (other_forms (letters_at w t n) A B (λ g. f (c.is A d ∙ g ∙ sym (c'.is B e)))))
 
 module _ {v : ℕ} (i : OneCode v) where
-  pub same_base : (i.k ≡ 3 → ⊥) → (i.k ≡ 4 → ⊥) → (i.k ≡ 5 → ⊥) → (i.k ≡ 6 → ⊥) → Tells i i.w true
+  pub same_base : i.k < 3 → Tells i i.w true
   unfolding ty_code same_ty
-  same_base f g x y =
-      let e = i.one.is i.comparing.one.type i.comparing.one.den in
-      let l : i.k < 3 = rw e (below_three i.comparing.one.type (λ z. f (e ∙ z)) (λ z. g (e ∙ z)) (λ z. x (e ∙ z)) (λ z. y (e ∙ z))) in
+  same_base l =
       told (λ A B d e. by_base (λ A. true ≡ same_ty (letters_of i) A B) i.one l
       (λ d. by_base (λ B. true ≡ same_ty (letters_of i) int B) i.two l (λ e. refl) (λ e. absurd (omega (arith, i.one.is int d, i.two.is bool e))) B e)
       (λ d. by_base (λ B. true ≡ same_ty (letters_of i) bool B) i.two l (λ e. absurd (omega (arith, i.one.is bool d, i.two.is int e))) (λ e. refl) B e)
@@ -203,8 +204,8 @@ module _ {v : ℕ} (j : LeftsCompared v) where
     keep = by_arrow (Keeps i.on w₂) i.on.two i.five g;
   }
 
-  pub same_no : j.same ≡ false → Tells j.both.on j.w₁ false
-  same_no f = by_arrows false (λ A A' B B' d e h. rw (sym h ∙ f) refl) lefts_keep
+  pub same_no : j.same ≡ false → Tells j.both.on j.w₁ j.same
+  same_no f = by_arrows j.same (λ A A' B B' d e h. f ∙ rw (sym h ∙ f) refl) lefts_keep
 
   pub same_both : {w₂ : List ℕ} {z : Bool} → j.same ≡ true
       → Same j.both.on.q j.w₁ w₂ j.both.on.t j.both.on.n j.both.to j.both.to' z → Tells j.both.on w₂ z

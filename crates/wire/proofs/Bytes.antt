@@ -1,11 +1,11 @@
 -- Words put among bytes, and words read from them, one after the other.
 use mathlib.Core.Path.{◌≡◌, refl, sym, ap, ◌∙◌}
 use mathlib.Core.List.{List, [], ◌∷◌, ◌++◌, append_assoc}
-use Prim.Native.Nat.{ℕ, zero, suc, ◌+◌, ◌*◌, ◌/◌, ◌%◌, ◌≤◌, ◌<◌}
+use Prim.Native.Nat.{ℕ, zero, suc, ◌+◌, ◌*◌, ◌≤◌, ◌<◌}
 use native.Mathlib.Omega.{arith}
 use native.Mathlib.Numerals.{add-one}
 use lib.ListN.{length, get_or, set, take, drop, length-append}
-use lib.Seq.{sets-eq, set_at, drop-nil, drop-cons, drop-drop, take_all, take-add, paste, take-paste, drop-paste}
+use lib.Seq.{set_at, drop-nil, drop-cons, drop-drop, take_all, take_at, drop_at, take-add, paste, take-paste, drop-paste}
 use Rattle.definition.specs.Host.{word_at, words_of, bytes_of}
 
 -- ## Putting
@@ -15,16 +15,10 @@ unfolding bytes_of
 length_bytes [] = refl
 length_bytes (w ∷ ws) = omega (arith, length_bytes ws)
 
--- four stores put a word
-pub put_word : (d : List ℕ) (at x : ℕ) → at + 4 ≤ length d
-    → set (set (set (set d at (x % 256)) (at + 1) (x / 256 % 256)) (at + 2) (x / 65536 % 256)) (at + 3) (x / 16777216 % 256)
-    ≡ paste d at (bytes_of (x ∷ [])) 4
+bytes_append : (ws vs : List ℕ) → bytes_of (ws ++ vs) ≡ bytes_of ws ++ bytes_of vs
 unfolding bytes_of
-put_word d at x h =
-    let e₁ : at + 1 ≡ suc at = omega arith in
-    let e₂ : at + 2 ≡ suc (suc at) = omega arith in
-    let e₃ : at + 3 ≡ suc (suc (suc at)) = omega arith in
-    rw (e₁, e₂, e₃) (sets-eq (bytes_of (x ∷ [])) d at h)
+bytes_append [] vs = refl
+bytes_append (w ∷ ws) vs = rw (bytes_append ws vs)
 
 -- what comes next in s, put behind its first n
 paste_more : (d : List ℕ) (at : ℕ) (s : List ℕ) (n m : ℕ) → at + n ≤ length d → n ≤ length s
@@ -54,14 +48,17 @@ put_more d at ws i to h k e f g =
     g ∙ rw (e, f, j) (rw n at (paste_more d at (bytes_of ws) (4 * i) 4 (omega arith) (omega (arith, length_bytes ws))))
 
 -- four numbers, then words behind them
-pub put_both : (a b c e : ℕ) (ws d : List ℕ) {d₁ d₂ : List ℕ} → 16 + 4 * length ws ≤ length d → d₁ ≡ paste d 0 (bytes_of (a ∷ b ∷ c ∷ e ∷ [])) 16
-    → d₂ ≡ paste d₁ 16 (bytes_of ws) (4 * length ws) → d₂ ≡ bytes_of (a ∷ b ∷ c ∷ e ∷ ws) ++ drop (16 + 4 * length ws) d
-unfolding bytes_of
-put_both a b c e ws d h f g =
-    let s : List ℕ = bytes_of (a ∷ b ∷ c ∷ e ∷ ws) in
-    let l : length s ≤ 16 + 4 * length ws = omega (arith, length_bytes ws) in
-    let z : 0 + (16 + 4 * length ws) ≡ 16 + 4 * length ws = omega arith in
-    g ∙ rw f (paste_more d 0 s 16 (4 * length ws) (omega arith) (omega (arith, length_bytes ws)) ∙ rw (take_all (16 + 4 * length ws) s l, z))
+pub put_both : (ns ws d : List ℕ) {d₁ d₂ : List ℕ} → length ns ≡ 4 → 16 + 4 * length ws ≤ length d → d₁ ≡ paste d 0 (bytes_of ns) (4 * length ns)
+    → d₂ ≡ paste d₁ 16 (bytes_of ws) (4 * length ws) → d₂ ≡ bytes_of (ns ++ ws) ++ drop (16 + 4 * length ws) d
+put_both ns ws d {d₁} {d₂} l h f g =
+    let m : ℕ = 4 * length ws in
+    let n : length (bytes_of ns) ≡ 16 = omega (arith, length_bytes ns) in
+    let i : 4 * length ns ≡ 16 = omega arith in
+    let e : d₁ ≡ bytes_of ns ++ drop 16 d = f ∙ rw (i, take_all 16 (bytes_of ns) (omega arith)) in
+    let front : take 16 d₁ ≡ bytes_of ns = ap (take 16) e ∙ take_at (bytes_of ns) (drop 16 d) 16 n in
+    let back : drop 16 d₁ ≡ drop 16 d = ap (drop 16) e ∙ drop_at (bytes_of ns) (drop 16 d) 16 n in
+    let far : drop (16 + m) d₁ ≡ drop (16 + m) d = sym (drop-drop m 16 d₁) ∙ ap (drop m) back ∙ drop-drop m 16 d in
+    g ∙ rw (front, far, take_all m (bytes_of ws) (omega (arith, length_bytes ws)), bytes_append ns ws)
 
 -- ## Reading
 

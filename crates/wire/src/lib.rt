@@ -1,21 +1,9 @@
 // Words on the wire: little-endian bytes.
 #![tactic(auto)]
 
-ghost use Rattle.std.specs.Prelude.{◌≡◌, [], ◌∷◌, ◌++◌, ◌+◌, ◌*◌, ◌%◌, ◌≤◌, ◌<◌, length, drop};
+ghost use Rattle.std.specs.Prelude.{◌≡◌, [], ◌∷◌, ◌++◌, ◌+◌, ◌*◌, ◌≤◌, length, drop};
 ghost use Rattle.std.proofs.Math.Seq.{paste};
 ghost use Rattle.definition.specs.Host.{word_at, words_of, bytes_of};
-
-fn wide(x: u8) -> u32
-    ensures { (result ≡ x) × (result < 256) }
-{
-    x as u32
-}
-
-fn low(x: u32) -> u8
-    ensures { result ≡ x % 256 }
-{
-    (x % 256) as u8
-}
 
 // The word i of b.
 pub fn word_at(b: &[u8], i: usize) -> u32
@@ -23,7 +11,7 @@ pub fn word_at(b: &[u8], i: usize) -> u32
     ensures { result ≡ word_at b.now i }
 {
     let j = 4 * i;
-    wide(b[j]) + 256 * wide(b[j + 1]) + 65536 * wide(b[j + 2]) + 16777216 * wide(b[j + 3])
+    u32::from_le_bytes([b[j], b[j + 1], b[j + 2], b[j + 3]])
 }
 
 // The first n words of b, into ws.
@@ -31,11 +19,8 @@ pub fn read_words(b: &[u8], ws: &mut [u32], n: usize)
     requires { (4 * n ≤ length b.now) × (n ≤ length ws.old) }
     ensures { ws.new ≡ words_of b.now n ++ drop n ws.old }
 {
-    let mut i = 0;
-    while i < n {
-        let x = word_at(b, i);
-        ws[i] = x;
-        i += 1;
+    for (i, w) in ws[..n].iter_mut().enumerate() {
+        *w = word_at(b, i);
     }
 }
 
@@ -44,10 +29,7 @@ fn put_word(dst: &mut [u8], at: usize, x: u32)
     requires { at + 4 ≤ length dst.old }
     ensures { dst.new ≡ paste dst.old at (bytes_of (x ∷ [])) 4 }
 {
-    dst[at] = low(x);
-    dst[at + 1] = low(x / 256);
-    dst[at + 2] = low(x / 65536);
-    dst[at + 3] = low(x / 16777216);
+    dst[at..at + 4].copy_from_slice(&x.to_le_bytes());
 }
 
 // The words ws from a place on.
@@ -55,21 +37,16 @@ fn put_words(dst: &mut [u8], at: usize, ws: &[u32])
     requires { at + 4 * length ws.now ≤ length dst.old }
     ensures { dst.new ≡ paste dst.old at (bytes_of ws.now) (4 * length ws.now) }
 {
-    let mut i = 0;
-    let mut to = at;
-    while i < ws.len() {
-        put_word(dst, to, ws[i]);
-        i += 1;
-        to += 4;
+    for (i, w) in ws.iter().enumerate() {
+        put_word(dst, at + 4 * i, *w);
     }
 }
 
 // A reply: its four numbers, then the words of its report.
-pub fn put_reply(reply: &mut [u8], code: u32, at: u32, len: u32, units: u32, report: &[u32])
+pub fn put_reply(reply: &mut [u8], numbers: [u32; 4], report: &[u32])
     requires { 16 + 4 * length report.now ≤ length reply.old }
-    ensures { reply.new ≡ bytes_of (code ∷ at ∷ len ∷ units ∷ report.now) ++ drop (16 + 4 * length report.now) reply.old }
+    ensures { reply.new ≡ bytes_of (numbers ++ report.now) ++ drop (16 + 4 * length report.now) reply.old }
 {
-    let four = [code, at, len, units];
-    put_words(reply, 0, &four);
+    put_words(reply, 0, &numbers);
     put_words(reply, 16, report);
 }

@@ -6,7 +6,7 @@ use Prim.Native.Nat.{ℕ, ◌+◌, ◌-◌, ◌≤◌}
 use native.Mathlib.Omega.{arith}
 use borrow.Author.Tests.{eqb-true}
 use lib.Dec.{eqb}
-use lib.ListN.{length, get_or}
+use lib.ListN.{get_or}
 use Rattle.layout.specs.Words.{Keep, Copied}
 use Rattle.layout.specs.declared.Span.{Span}
 use Rattle.layout.proofs.Words.{keep_refl}
@@ -71,11 +71,6 @@ stands_written {s = s} {p = p} v u =
 -- ## Copied, or written
 
 module _ {q w : List ℕ} {t : ℕ} {g : Span} {s : List ℕ} {p : ℕ} {k : Standing} (v : Writable q w t (AfterCount (OfContext q w t g)) s p) where
-  pub after_room : g ≡ k.g → Stands q w t s p k → (p + (k.end - k.at) ≤ length s) × (p + (k.end - k.at) ≤ 4294967295)
-  after_room e x =
-      let a = x.reads _ (rw e at v.spelled.says) (record { room = omega (arith, v.room.room, x.below); small = omega (arith, v.room.small, x.below) }) in
-      (omega (arith, a.end_is, v.room.room), omega (arith, a.end_is, v.room.small))
-
   pub after_copied : {s' : List ℕ} → g ≡ k.g → Stands q w t s p k → Copied s s' k.at p (k.end - k.at)
       → WritesAfter q w t g s s' p (record { g = g; at = p; end = p + (k.end - k.at) })
   after_copied {s'} e x c = record { span = refl; place = refl; writes = writes; stands = stands_written v writes }
@@ -93,9 +88,6 @@ module _ {q w : List ℕ} {t : ℕ} {g : Span} {s : List ℕ} {p : ℕ} {k : Sta
 pub after_written : {q w : List ℕ} {t : ℕ} {g : Span} {s s' : List ℕ} {p z : ℕ} → Writable q w t (AfterCount (OfContext q w t g)) s p
     → Writes (AfterCount (OfContext q w t g)) s s' p z → WritesAfter q w t g s s' p (record { g = g; at = p; end = z })
 after_written v u = record { span = refl; place = refl; writes = u; stands = stands_written v u }
-
-pub measures_same : {q w : List ℕ} {t : ℕ} {g : Span} {k : Known} → g ≡ k.g → Measures q w t k.g k → Measures q w t g k
-measures_same e x = rw e x
 
 pub measures_own : {q w : List ℕ} {t : ℕ} {g : Span} {k : Known} → Measures q w t g k → Measures q w t k.g k
 measures_own x = record { span = refl; long = rw x.span x.long }

@@ -14,13 +14,6 @@ pub record Summing (q w : List ℕ) (t : ℕ) (S₀ S : List ℕ → Type 0) (su
   pub small : sum ≤ 2 ^ 32
   pub whole : (m : ℕ) → Long (2 ^ 32) S m → Long (2 ^ 32) S₀ (min (sum + m) (2 ^ 32))
 
-pub sum_first : {q w : List ℕ} {t : ℕ} {S : List ℕ → Type 0} → Spelled q w t S → Summing q w t S S 0
-sum_first x = record {
-  rest = x;
-  small = omega arith;
-  whole = λ m k. record { is = λ ws y. let e = k.is ws y in omega arith };
-}
-
 module _ {q w : List ℕ} {t : ℕ} {S₀ S : List ℕ → Type 0} {sum : ℕ} where
   pub sum_next : {One S' : List ℕ → Type 0} {n sum' : ℕ} → ((ws : List ℕ) → S ws → (One Then S') ws) → Summing q w t S₀ S sum
       → Long (2 ^ 32) One n → sum' ≡ min (sum + n) (2 ^ 32) → Summing q w t S₀ S' sum'
@@ -41,8 +34,9 @@ pub record Putting (q w : List ℕ) (t : ℕ) (S₀ : List ℕ → Type 0) (s₀
   pub rest : Writable q w t S s z
   pub whole : (s' : List ℕ) (y : ℕ) → Writes S s s' z y → Writes S₀ s₀ s' p y
 
-pub put_first : {q w : List ℕ} {t : ℕ} {S : List ℕ → Type 0} {s : List ℕ} {p : ℕ} → Writable q w t S s p → Putting q w t S s p S s p
-put_first x = record { rest = x; whole = λ s' y k. k }
+pub put_first : {q w : List ℕ} {t : ℕ} {S₀ S : List ℕ → Type 0} {s : List ℕ} {p : ℕ} → ((ws : List ℕ) → S₀ ws → S ws)
+    → Writable q w t S₀ s p → Putting q w t S₀ s p S s p
+put_first f x = record { rest = writable_as f x; whole = λ s' y k. writes_as f k }
 
 module _ {q w : List ℕ} {t : ℕ} {S₀ S : List ℕ → Type 0} {s₀ s : List ℕ} {p z : ℕ} where
   pub put_next : {One S' : List ℕ → Type 0} {s' : List ℕ} {y : ℕ} → ((ws : List ℕ) → S ws → (One Then S') ws) → Putting q w t S₀ s₀ p S s z

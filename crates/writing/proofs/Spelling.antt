@@ -1,13 +1,12 @@
 -- Laws of what stands for words: one thing after the other, another way to say it, sections, words or none.
 use mathlib.Core.Path.{◌≡◌, refl, sym, ◌∙◌, ap}
-use mathlib.Core.Bool.{Bool, true, false, true≢false, false≢true}
 use mathlib.Core.List.{List, [], ◌∷◌, ◌++◌}
 use Prim.Native.Nat.{ℕ, ◌+◌, ◌-◌, ◌≤◌, ◌<◌, ◌^◌, min}
 use native.Mathlib.Omega.{arith}
 use lib.ListN.{length, set, length-set, length-append}
 use lib.Seq.{sets, length-sets}
 use Rattle.definition.specs.Syntax.{section}
-use Rattle.writing.specs.Spelling.{Just, ◌Then◌, AfterCount, OrNone, Long, Spelled, RoomAt, PutWords, Writable, Writes}
+use Rattle.writing.specs.Spelling.{Just, ◌Then◌, AfterCount, Long, Spelled, RoomAt, PutWords, Writable, Writes}
 use Rattle.writing.proofs.Placing.{sets_append, sets_cons, set_before}
 
 -- ## Words at a place
@@ -48,11 +47,6 @@ module _ {S S' : List ℕ → Type 0} (f : (ws : List ℕ) → S ws → S' ws) w
 
   pub long_as : {limit n : ℕ} → Long limit S' n → Long limit S n
   long_as k = record { is = λ ws x. k.is ws (f ws x) }
-
--- what was written keeps the slice's length
-pub writes_length : {S : List ℕ → Type 0} {q w : List ℕ} {t : ℕ} {s s' : List ℕ} {p z : ℕ} → Writable q w t S s p → Writes S s s' p z
-    → length s' ≡ length s
-writes_length x k = past_length (k.past _ x.spelled.says x.room)
 
 -- ## One after the other
 
@@ -106,7 +100,6 @@ writable_inner x = let y = x.spelled.says in record {
 
 -- the count is a word, and has its place
 pub record Counted (s s₁ : List ℕ) (p z : ℕ) : Type 0 where
-  pub long : length s₁ ≡ length s
   pub first : p + 1 ≤ z
   pub place : p < length s₁
   pub small : z ≤ 4294967295
@@ -118,7 +111,6 @@ counted x k =
     let y = writable_inner x in
     let a = k.past _ y.spelled.says y.room in
     record {
-      long = past_length a;
       first = omega (arith, a.next);
       place = omega (arith, past_length a, y.room.room);
       small = omega (arith, a.next, y.room.small);
@@ -143,32 +135,10 @@ writes_section k e = record {
       e);
 }
 
-pub spelled_inner : {S : List ℕ → Type 0} {q w : List ℕ} {t : ℕ} → Spelled q w t (AfterCount S) → Spelled q w t S
-spelled_inner x = record { ground = x.ground; words = x.says.inner; says = x.says.spelled }
-
 -- a length that stops at 2 ^ 32, from one that stops there or one before
 pub long_section : {S : List ℕ → Type 0} {limit n k : ℕ} → Long limit S n → 2 ^ 32 ≤ limit + 1 → k ≡ min (1 + n) (2 ^ 32) → Long (2 ^ 32) (AfterCount S) k
 unfolding section
 long_section f l e = record { is = λ ws x. omega (arith, ap length x.is, f.is x.inner x.spelled) }
-
--- ## Words or none
-
-module _ {S : List ℕ → Type 0} where
-  pub if_filled : (ws : List ℕ) → S ws → OrNone true S ws
-  if_filled ws x = record { filled = λ e. x; unused = λ e. absurd (true≢false e) }
-
-  pub if_unused : OrNone false S []
-  if_unused = record { filled = λ e. absurd (false≢true e); unused = λ e. refl }
-
-  module _ {b : Bool} (e : b ≡ true) where
-    pub then_filled : (ws : List ℕ) → OrNone b S ws → S ws
-    then_filled ws x = x.filled e
-
-  pub writes_unused : {b : Bool} (s : List ℕ) (p : ℕ) → b ≡ false → Writes (OrNone b S) s s p p
-  writes_unused s p e = record { past = λ ws x r. rw (x.unused e) (past_none s p) }
-
-  pub long_unused : {b : Bool} (limit : ℕ) → b ≡ false → Long limit (OrNone b S) 0
-  long_unused limit e = record { is = λ ws x. omega (arith, ap length (x.unused e)) }
 
 -- ## Words that are known
 
@@ -191,6 +161,9 @@ writes_word {s} {s₁} {s'} {vs} {p} {m} {z} {a} e f k = record {
           is = sets_cons s p a m vs e f y.is;
           next = omega (arith, y.next);
         })
+
+pub writes_two : {s s₁ s' : List ℕ} {p a b : ℕ} → s₁ ≡ set s p a → s' ≡ set s₁ (p + 1) b → Writes (Just (a ∷ b ∷ [])) s s' p (p + 2)
+writes_two e f = writes_word e refl (writes_word f (omega arith) (writes_none _ _))
 
 pub long_just : (vs : List ℕ) {limit : ℕ} → length vs ≤ limit → Long limit (Just vs) (length vs)
 long_just vs l = record { is = λ ws x. omega (arith, ap length x.is) }

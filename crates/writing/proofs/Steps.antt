@@ -1,5 +1,6 @@
 -- The steps of writing a type.
 use mathlib.Core.Path.{◌≡◌, refl, sym, ◌∙◌, ap}
+use mathlib.Core.Logic.{◌⊎◌}
 use mathlib.Core.List.{List, [], ◌∷◌, ◌++◌, append-nil}
 use Prim.Native.Nat.{ℕ, ◌+◌, ◌-◌, ◌*◌, ◌≤◌, ◌<◌, ◌^◌}
 use native.Mathlib.Omega.{arith}
@@ -16,10 +17,10 @@ use Rattle.layout.specs.declared.TyVar.{TyVar}
 use Rattle.layout.proofs.Words.{keep_refl, keep_trans, keep_set}
 use Rattle.layout.proofs.Places.{size_some}
 use Rattle.layout.proofs.Denotes.{den_small}
-use Rattle.types.specs.Reading.{Held, HeldAs, Tagged, Named, LeftOf, RightOf, BodyOf}
-use Rattle.types.proofs.Held.{left_held, right_held}
+use Rattle.types.specs.Reading.{Held, Tagged, form_number, FormOf, Named, LeftOf, RightOf, BodyOf}
+use Rattle.types.specs.declared.Form.{Form}
 use Rattle.types.proofs.Cases.{by_base, by_name, by_arrow, by_forall}
-use Rattle.types.proofs.Codes.{sizes}
+use Rattle.types.proofs.Codes.{base_form, name_form}
 use Rattle.writing.specs.Types.{Waiting, no_more, more, Stepped, Steps}
 use Rattle.writing.proofs.Placing.{sets_cons}
 
@@ -31,9 +32,6 @@ waiting_held h = record { base = h.ground.base; fits = h.ground.fits; cap = h.gr
 pub held_small : {q w : List ℕ} {t r : ℕ} → Held q w t r → r < 2 ^ 32
 held_small h = omega (arith, den_small h.den, h.fits, h.cap)
 
-pub parts_small : {q w : List ℕ} {t r l m : ℕ} → HeldAs q w t r 5 → LeftOf q w t r l → RightOf q w t r m → (l < 2 ^ 32) × (m < 2 ^ 32)
-parts_small h x y = (held_small (left_held h x), held_small (right_held h y))
-
 -- a type has half as many words as its code at least
 code_size : (T : Ty) → ty_code T ≤ 2 * size T
 unfolding ty_code
@@ -44,27 +42,21 @@ code_size (etvar a) = omega arith
 code_size (arrow A B) = omega (arith, size_some A, size_some B)
 code_size (forall a A) = omega (arith, size_some A)
 
--- what the code tells that was read
-pub record Seen (s : List ℕ) (p low k : ℕ) : Type 0 where
-  pub small : k < 2 ^ 32
-  pub place : p < length s
-  pub within : low < length s
-  pub two : 3 ≤ k → p + 2 ≤ low + 1
-  pub three : 5 ≤ k → p + 3 ≤ low + 1
-  pub six : 5 ≤ k → (k ≡ 5 → ⊥) → k ≡ 6
+-- what the form tells that was read
+pub record Seen (p low : ℕ) (f : Form) : Type 0 where
+  pub name : (f ≡ Form.Var) ⊎ (f ≡ Form.ETVar) → p + 2 ≤ low + 1
+  pub arrow : f ≡ Form.Arrow → p + 3 ≤ low + 1
+  pub forall : f ≡ Form.Forall → p + 3 ≤ low + 1
 
-pub seen : {q w : List ℕ} {t : ℕ} {s : List ℕ} {p low k : ℕ} → Waiting q w t s p low → Tagged q w t (get_or s low 0) k → Seen s p low k
-seen h c =
+pub seen : {q w : List ℕ} {t : ℕ} {s : List ℕ} {p low : ℕ} {f : Form} → Waiting q w t s p low → FormOf q w t (get_or s low 0) f
+    → Seen p low f
+seen {f = f} h c =
     let e = c.is h.type h.den in
-    let f = (sizes h.type).high in
     let n = code_size h.type in
     record {
-      small = omega (arith, f);
-      place = omega (arith, size_some h.type, h.room, h.within);
-      within = h.within;
-      two = λ l. omega (arith, n, h.room);
-      three = λ l. omega (arith, n, h.room);
-      six = λ l g. omega (arith, f, g);
+      name = λ g. omega (arith, n, h.room, (name_form g).0);
+      arrow = λ g. omega (arith, n, h.room, ap form_number g);
+      forall = λ g. omega (arith, n, h.room, ap form_number g);
     }
 
 -- ## The steps
@@ -82,38 +74,44 @@ unfolding ty_words ty_code
 base_words {k = k} c l =
     by_base (λ T. ty_words T ≡ k ∷ []) c l (λ d. ap (λ (n : ℕ). n ∷ []) (sym (c.is int d))) (λ d. ap (λ (n : ℕ). n ∷ []) (sym (c.is bool d)))
 
-module _ {q w : List ℕ} {t : ℕ} {s : List ℕ} {p low k : ℕ} (within : low < length s) (c : Tagged q w t (get_or s low 0) k) where
-  -- all words are put
-  step_whole : {T : Ty} {s' : List ℕ} (ws : List ℕ) → 1 ≤ length ws → ty_words T ≡ ws → s' ≡ sets s p ws
-      → Stepped q w t s s' p low T (record { at = p + length ws; low = low + 1 })
-  step_whole ws l e f = record {
-    head = ws;
-    tail = [];
-    is = e ∙ sym (append-nil ws);
-    some = l;
-    at_is = refl;
-    keep = rw f (keep_refl _ _ (sets s p ws));
-    waits = no_more refl;
-  }
+-- the word of a form's number
+pub coded : {q w : List ℕ} {t r k : ℕ} (f : Form) → FormOf q w t r f → k ≡ form_number f → Tagged q w t r k
+coded f form code = record { is = λ T d. code ∙ form.is T d }
 
-  pub step_base : {s₁ : List ℕ} → k < 3 → s₁ ≡ set s p k → Steps q w t s s₁ p low (record { at = p + 1; low = low + 1 })
-  step_base l e = record { is = λ T d o. step_whole (k ∷ []) (omega arith) (base_words c l T d) e }
+-- all words are put
+step_whole : {q w : List ℕ} {t : ℕ} {s s' : List ℕ} {p low : ℕ} {T : Ty} (ws : List ℕ) → 1 ≤ length ws → ty_words T ≡ ws → s' ≡ sets s p ws
+    → Stepped q w t s s' p low T (record { at = p + length ws; low = low + 1 })
+step_whole {s = s} {p = p} ws l e f = record {
+  head = ws;
+  tail = [];
+  is = e ∙ sym (append-nil ws);
+  some = l;
+  at_is = refl;
+  keep = rw f (keep_refl _ _ (sets s p ws));
+  waits = no_more refl;
+}
 
-  pub step_name : {a : TyVar} {s₁ s₂ : List ℕ} → Named q w t (get_or s low 0) a → 3 ≤ k → k < 5 → s₁ ≡ set s p k → s₂ ≡ set s₁ (p + 1) a.0
-      → Steps q w t s s₂ p low (record { at = p + 2; low = low + 1 })
+module _ {q w : List ℕ} {t : ℕ} {s : List ℕ} {p low k : ℕ} {v : Form} (form : FormOf q w t (get_or s low 0) v) (code : k ≡ form_number v) where
+  pub step_base : {s₁ : List ℕ} → (v ≡ Form.Int) ⊎ (v ≡ Form.Bool) → s₁ ≡ set s p k → Steps q w t s s₁ p low (record { at = p + 1; low = low + 1 })
+  step_base h e = record { is = λ T d o. step_whole (k ∷ []) (omega arith) (base_words (coded v form code) (omega (arith, base_form h)) T d) e }
+
+  pub step_name : {a : TyVar} {s₁ s₂ : List ℕ} → Named q w t (get_or s low 0) a → (v ≡ Form.Var) ⊎ (v ≡ Form.ETVar)
+      → s₁ ≡ set s p k → s₂ ≡ set s₁ (p + 1) a.0 → Steps q w t s s₂ p low (record { at = p + 2; low = low + 1 })
   unfolding ty_words ty_code
-  step_name {a} {s₂ = s₂} n l m e f = record {
-    is = by_name (λ T. p + size T ≤ low + 1 → Stepped q w t s s₂ p low T (record { at = p + 2; low = low + 1 })) c l (omega arith)
-        (λ b d o. step_whole (k ∷ a.0 ∷ []) (omega arith) (named_words 3 [] (c.is (var b) d) (n.of_var b d)) (name_put s p k a.0 e f))
-        (λ b d o. step_whole (k ∷ a.0 ∷ []) (omega arith) (named_words 4 [] (c.is (etvar b) d) (n.of_etvar b d)) (name_put s p k a.0 e f));
+  step_name {a} {s₂ = s₂} n h e f = record {
+    is = by_name (λ T. p + size T ≤ low + 1 → Stepped q w t s s₂ p low T (record { at = p + 2; low = low + 1 }))
+        (coded v form code) (omega (arith, (name_form h).0)) (omega (arith, (name_form h).1))
+        (λ b d o. step_whole (k ∷ a.0 ∷ []) (omega arith) (named_words 3 [] (code ∙ form.is (var b) d) (n.of_var b d)) (name_put s p k a.0 e f))
+        (λ b d o. step_whole (k ∷ a.0 ∷ []) (omega arith) (named_words 4 [] (code ∙ form.is (etvar b) d) (n.of_etvar b d)) (name_put s p k a.0 e f));
   }
 
-  pub step_arrow : {l m : ℕ} {s₁ s₂ s₃ : List ℕ} → LeftOf q w t (get_or s low 0) l → RightOf q w t (get_or s low 0) m → k ≡ 5
-      → s₁ ≡ set s p k → s₂ ≡ set s₁ low m → s₃ ≡ set s₂ (low - 1) l
+  pub step_arrow : {l m : ℕ} {s₁ s₂ s₃ : List ℕ} → LeftOf q w t (get_or s low 0) l → RightOf q w t (get_or s low 0) m
+      → v ≡ Form.Arrow → low < length s → s₁ ≡ set s p k → s₂ ≡ set s₁ low m → s₃ ≡ set s₂ (low - 1) l
       → Steps q w t s s₃ p low (record { at = p + 1; low = low - 1 })
   unfolding ty_words ty_code
-  step_arrow {l} {m} {s₁} {s₂} {s₃} x y five e f g = record {
-    is = by_arrow (λ T. p + size T ≤ low + 1 → Stepped q w t s s₃ p low T (record { at = p + 1; low = low - 1 })) c five go;
+  step_arrow {l} {m} {s₁} {s₂} {s₃} x y h within e f g = record {
+    is = by_arrow (λ T. p + size T ≤ low + 1 → Stepped q w t s s₃ p low T (record { at = p + 1; low = low - 1 }))
+        (coded v form code) (code ∙ ap form_number h) go;
   }
     where
       go : (A B : Ty) → Den q w t (get_or s low 0) (arrow A B) → p + size (arrow A B) ≤ low + 1
@@ -136,19 +134,20 @@ module _ {q w : List ℕ} {t : ℕ} {s : List ℕ} {p low k : ℕ} (within : low
           record {
             head = k ∷ [];
             tail = ty_words A ++ (ty_words B ++ []);
-            is = rw (five, append-nil);
+            is = rw (code ∙ ap form_number h, append-nil);
             some = omega arith;
             at_is = refl;
             keep = rw e at (keep_trans k₂ k₃);
             waits = more dl (more dr (no_more end) refl) refl;
           }
 
-  pub step_forall : {a : TyVar} {m : ℕ} {s₁ s₂ s₃ : List ℕ} → Named q w t (get_or s low 0) a → BodyOf q w t (get_or s low 0) m → k ≡ 6
-      → s₁ ≡ set s p k → s₂ ≡ set s₁ (p + 1) a.0 → s₃ ≡ set s₂ low m
+  pub step_forall : {a : TyVar} {m : ℕ} {s₁ s₂ s₃ : List ℕ} → Named q w t (get_or s low 0) a → BodyOf q w t (get_or s low 0) m
+      → v ≡ Form.Forall → low < length s → s₁ ≡ set s p k → s₂ ≡ set s₁ (p + 1) a.0 → s₃ ≡ set s₂ low m
       → Steps q w t s s₃ p low (record { at = p + 2; low = low })
   unfolding ty_words ty_code
-  step_forall {a} {m} {s₁} {s₂} {s₃} n y six e f g = record {
-    is = by_forall (λ T. p + size T ≤ low + 1 → Stepped q w t s s₃ p low T (record { at = p + 2; low = low })) c six go;
+  step_forall {a} {m} {s₁} {s₂} {s₃} n y h within e f g = record {
+    is = by_forall (λ T. p + size T ≤ low + 1 → Stepped q w t s s₃ p low T (record { at = p + 2; low = low }))
+        (coded v form code) (code ∙ ap form_number h) go;
   }
     where
       go : (b : syntax.TyVar) (A : Ty) → Den q w t (get_or s low 0) (forall b A) → p + size (forall b A) ≤ low + 1
@@ -163,7 +162,7 @@ module _ {q w : List ℕ} {t : ℕ} {s : List ℕ} {p low k : ℕ} (within : low
           record {
             head = k ∷ a.0 ∷ [];
             tail = ty_words A ++ [];
-            is = named_words 6 (ty_words A) six (n.of_forall b A d) ∙ ap (λ (vs : List ℕ). k ∷ a.0 ∷ vs) (sym (append-nil (ty_words A)));
+            is = named_words 6 (ty_words A) (code ∙ ap form_number h) (n.of_forall b A d) ∙ ap (λ (vs : List ℕ). k ∷ a.0 ∷ vs) (sym (append-nil (ty_words A)));
             some = omega arith;
             at_is = refl;
             keep = rw (name_put s p k a.0 e f) at k₃;

@@ -1,5 +1,5 @@
 -- What stands for words of the report: how long the words are, and that they are written.
-use Rattle.std.specs.Prelude.{◌≡◌, Bool, true, false, List, [], ◌++◌, ℕ, ◌+◌, ◌≤◌, min, length}
+use Rattle.std.specs.Prelude.{◌≡◌, Option, Some, None, List, [], ◌++◌, ℕ, ◌+◌, ◌≤◌, min, length}
 use Rattle.std.proofs.lemmas.List.Edits.{sets}
 use Rattle.definition.specs.Syntax.{section}
 use Rattle.layout.specs.Sizes.{CAP}
@@ -35,10 +35,10 @@ pub record AfterCount (S : List ℕ → Type 0) (ws : List ℕ) : Type 0 where
   pub spelled : S inner
   pub is : ws ≡ section inner
 
--- words or none
-pub record OrNone (b : Bool) (S : List ℕ → Type 0) (ws : List ℕ) : Type 0 where
-  pub filled : b ≡ true → S ws
-  pub unused : b ≡ false → ws ≡ []
+-- what there is by its words, or none
+abbrev pub OrNone : {X : Type 0} → (X → List ℕ → Type 0) → Option X → List ℕ → Type 0
+OrNone S (Some x) = S x
+OrNone S None = Just []
 
 -- ## Lengths, which stop at a limit
 

@@ -1,5 +1,5 @@
 -- Writing a type: what waits, and one step.
-use Rattle.std.specs.Prelude.{◌≡◌, Bool, List, [], ◌++◌, ℕ, ◌+◌, ◌≤◌, ◌<◌, length, get_or}
+use Rattle.std.specs.Prelude.{◌≡◌, Option, List, [], ◌++◌, ℕ, ◌+◌, ◌≤◌, ◌<◌, length, get_or}
 use Rattle.std.proofs.lemmas.List.Edits.{sets}
 use Rattle.definition.specs.Syntax.{Ty, ty_words}
 use Rattle.layout.specs.Places.{size}
@@ -12,8 +12,8 @@ abbrev pub OfType : List ℕ → List ℕ → ℕ → ℕ → List ℕ → Type 
 OfType q w t r = Spells (Den q w t r) ty_words
 
 -- a type, or a part that is not used
-abbrev pub OfPart : List ℕ → List ℕ → ℕ → Bool → ℕ → List ℕ → Type 0
-OfPart q w t b r = OrNone b (OfType q w t r)
+abbrev pub OfPart : List ℕ → List ℕ → ℕ → Option ℕ → List ℕ → Type 0
+OfPart q w t = OrNone (OfType q w t)
 
 -- references wait in s from low to end for the types whose words are ws
 pub data Waits (q w : List ℕ) (t : ℕ) (s : List ℕ) : ℕ → ℕ → List ℕ → Type 0 where

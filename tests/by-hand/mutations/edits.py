@@ -4,7 +4,7 @@ from typing import NamedTuple
 
 OPERATORS = {"<": "<=", "<=": "<", ">": ">=", ">=": ">", "==": "!=", "!=": "==", "+": "-", "-": "+", "*": "+", "/": "*", "%": "/",
              "&&": "||", "||": "&&", "+=": "-=", "-=": "+="}
-PAIRS = [("true", "false"), ("INT", "BOOL"), ("BAD_SHAPE", "RESERVED_NAME")]
+PAIRS = [("true", "false"), ("INT", "BOOL"), ("BadShape", "ReservedName")]
 NAMED = {a: b for pair in PAIRS for a, b in (pair, pair[::-1])}
 NUMBER = re.compile(r"(?<![\w.])\d[\d_]*(?!\w)")
 ARM = re.compile(r"^(\s*)(\S.*?) => (.*),$")

@@ -2,8 +2,8 @@
 use Rattle.contexts.proofs.Search.{before_none, before_some}
 use Rattle.contexts.proofs.before.Goals as goal
 
-pub returns-then-i-n : goal.returns-then-i-n
-returns-then-i-n c = search before_none
+pub returns-then-i-g : goal.returns-then-i-g
+returns-then-i-g c = search before_none
 
 pub returns : goal.returns
 returns c = search before_some

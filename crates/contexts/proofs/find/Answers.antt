@@ -4,4 +4,4 @@ use Rattle.contexts.proofs.Search.{first_split}
 use Rattle.contexts.proofs.find.Goals as goal
 
 pub returns : goal.returns
-returns c = first_split (key c.args.k) (rw (c.kind-kind.ensures, c.name-name.ensures.0) at c.first.ensures)
+returns c = first_split (key c.args.k) (rw (c.kind.ensures, c.name.ensures.0) at c.first.ensures)

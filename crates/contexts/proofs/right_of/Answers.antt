@@ -1,9 +1,6 @@
--- `right_of` meets its contract.
-use Rattle.contexts.proofs.Search.{right_none, right_some}
+-- `right_of` meets its contract where there is none; what is right of one is what `find` says.
+use Rattle.contexts.proofs.Search.{right_none}
 use Rattle.contexts.proofs.right_of.Goals as goal
 
-pub returns-then-i-n : goal.returns-then-i-n
-returns-then-i-n c = search right_none
-
-pub returns : goal.returns
-returns c = search right_some
+pub returns-then-i-g : goal.returns-then-i-g
+returns-then-i-g c = search right_none

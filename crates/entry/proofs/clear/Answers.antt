@@ -1,17 +1,14 @@
 -- `clear` meets its contract.
 use native.Mathlib.Omega.{arith}
-use mathlib.Core.Path.{refl}
-use Rattle.entry.proofs.Clearing.{front_more}
+use mathlib.Core.Path.{◌≡◌}
+use Prim.Native.Nat.{◌+◌, ◌*◌, ◌/◌}
+use Rattle.entry.proofs.Clearing.{Front, front_more}
 use Rattle.entry.proofs.clear.Goals as goal
 
-pub loop-end-preserved : goal.loop-end-preserved
-loop-end-preserved c = (
-  omega arith,
-  refl,
-  c.loop-end.invariant.2,
-  front_more c.loop-end.invariant.3 c.loop-end.end (omega arith) (omega arith) _
-      c.clear_block.ensures,
-)
+pub loop-i-preserved : goal.loop-i-preserved
+loop-i-preserved c = front_more c.loop-i.invariant (256 * (c.loop-i.i + 1)) (omega arith) (omega arith) _ c.clear_block.ensures
 
 pub returns : goal.returns
-returns c = (front_more c.loop-end.invariant.3 c.args.n c.loop-end.invariant.0 c.loop-end.invariant.2 _ c.zero.ensures).is
+returns c =
+    let e : c.loop-i.i ≡ c.args.n / 256 = omega arith in let f : Front c.args.work.now c.loop-i.work (256 * (c.args.n / 256)) = rw e at
+    c.loop-i.invariant in (front_more f c.args.n (omega arith) (omega arith) _ (c.fill.ensures.after (λ y m. m))).is

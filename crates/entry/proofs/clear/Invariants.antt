@@ -1,12 +1,7 @@
 -- `clear` meets its contract.
-use mathlib.Core.Path.{◌≡◌}
-use Prim.Native.Nat.{◌+◌, ◌≤◌, ◌-◌}
-use lib.ListN.{length}
+use Prim.Native.Nat.{◌*◌}
 use Rattle.entry.proofs.Clearing.{Front}
 use Rattle.entry.proofs.clear.Given as goal
 
-abbrev pub invariant-loop-end : goal.invariant-loop-end
-invariant-loop-end l = (l.i ≤ l.n) × (l.end ≡ l.i + 256) × (l.n ≤ length l.initial.work) × Front l.initial.work l.work l.i
-
-abbrev pub decreases-loop-end : goal.decreases-loop-end
-decreases-loop-end l = l.n - l.i
+abbrev pub invariant-loop-i : goal.invariant-loop-i
+invariant-loop-i l = Front l.initial.work l.work (256 * l.i)

@@ -2,8 +2,8 @@
 use Rattle.entry.proofs.Opening.{prepared, sized, loading, opens}
 use Rattle.entry.proofs.prepare.Goals as goal
 
-pub work_words-low-requires : goal.work_words-low-requires
-work_words-low-requires c = search prepared
+pub work_words-requires : goal.work_words-requires
+work_words-requires c = search prepared
 
 pub fill_ends-requires : goal.fill_ends-requires
 fill_ends-requires c = search sized

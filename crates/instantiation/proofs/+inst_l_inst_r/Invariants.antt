@@ -21,5 +21,5 @@ decreases-inst_r l = 5 * l.st.left + 1
 abbrev pub decreases-inst_rule : goal.decreases-inst_rule
 decreases-inst_rule l = 5 * l.st.left + 4
 
-abbrev pub decreases-on_side : goal.decreases-on_side
-decreases-on_side l = 5 * l.st.left + 2
+abbrev pub decreases-inst_on : goal.decreases-inst_on
+decreases-inst_on l = 5 * l.st.left + 2

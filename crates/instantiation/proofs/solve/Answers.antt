@@ -1,26 +1,19 @@
 -- `solve` meets its contract.
 use Rattle.rules.specs.Sides.{side}
-use Rattle.instantiation.proofs.Sides.{first_is}
-use Rattle.instantiation.proofs.Solving.{side_unknown, side_held, space_type, solve_occurs, solve_done, never_poly}
+use Rattle.instantiation.proofs.Sides.{solve_rule}
+use Rattle.instantiation.proofs.Solving.{side_unknown, solve_occurs, solve_done, never_poly}
 use Rattle.instantiation.proofs.solve.Goals as goal
 
 pub name_of-x-requires : goal.name_of-x-requires
-name_of-x-requires c = search (side_unknown, side)
+name_of-x-requires c = search side_unknown
 
-pub is_mono-mono-requires : goal.is_mono-mono-requires
-is_mono-mono-requires c = search (side_held, side)
+pub returns-then-not-is_mono : goal.returns-then-not-is_mono
+returns-then-not-is_mono c = search never_poly
 
-pub occurs_check-occurs-requires : goal.occurs_check-occurs-requires
-occurs_check-occurs-requires c = search (side_held, side)
-
-pub returns-then-occurs : goal.returns-then-occurs
-returns-then-occurs c = search solve_occurs
-
-pub solved-requires : goal.solved-requires
-solved-requires c = search (space_type, side)
-
-pub returns-then-mono : goal.returns-then-mono
-returns-then-mono c = search (solve_done, first_is)
+pub returns-then-occurs_check : goal.returns-then-occurs_check
+returns-then-occurs_check c = search solve_occurs
 
 pub returns : goal.returns
-returns c = search never_poly
+returns c =
+    solve_done c.requires c.name_of-x.ensures c.is_mono.ensures c.if-not-is_mono.false c.occurs_check.ensures c.if-occurs_check.false
+    (solve_rule (side c.args.s) c.one-rule.ensures) c.solved.ensures

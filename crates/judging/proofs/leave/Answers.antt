@@ -1,18 +1,12 @@
 -- `leave` meets its contract.
-use Rattle.judging.proofs.Paying.{leave_conclude, leave_fail, leave_spent}
+use Rattle.judging.proofs.Paying.{is_err, leave_conclude, leave_fail, leave_spent}
 use Rattle.judging.proofs.leave.Goals as goal
 
-pub conclude-requires : goal.conclude-requires
-conclude-requires c = c.requires.answers c.in-Done.is
+pub returns-in-Ok : goal.returns-in-Ok
+returns-in-Ok c = search leave_conclude
 
-pub charged_since-charge-requires : goal.charged_since-charge-requires
-charged_since-charge-requires c = c.requires.fails c.in-Fail.is
+pub returns-in-Err-Fail : goal.returns-in-Err-Fail
+returns-in-Err-Fail c = leave_fail (is_err c.in-Err-Fail.is (rw c.in-Err-Fail.is at c.in-Err-Fail.field-0-is)) c.charged_since.ensures
 
-pub returns-in-Done : goal.returns-in-Done
-returns-in-Done c = search leave_conclude
-
-pub returns-in-Fail : goal.returns-in-Fail
-returns-in-Fail c = search leave_fail
-
-pub returns-in-Spent : goal.returns-in-Spent
-returns-in-Spent c = search leave_spent
+pub returns-in-Err-Spent : goal.returns-in-Err-Spent
+returns-in-Err-Spent c = leave_spent (is_err c.in-Err-Spent.is (rw c.in-Err-Spent.is at c.in-Err-Spent.field-0-is))

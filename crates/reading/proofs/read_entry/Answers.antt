@@ -1,33 +1,24 @@
 -- `read_entry` meets its contract.
-use mathlib.Core.Path.{refl}
-use Rattle.reading.proofs.Items.{onward, word_on}
-use Rattle.reading.proofs.Contexts.{binding_rows, binding_end, binding_none, binding_var, binding_tvar, binding_etvar, binding_setvar, binding_mark, entry_read}
+use native.Mathlib.Omega.{arith}
+use Rattle.std.proofs.lemmas.Grind.{common_steps}
+use Rattle.reading.proofs.Items.{passed, on, off}
+use Rattle.reading.proofs.Contexts.{entry_end, entry_none, entry_typed, entry_named}
 use Rattle.reading.proofs.read_entry.Goals as goal
 
-pub returns-then-end-p : goal.returns-then-end-p
-returns-then-end-p c = search (entry_read, binding_end)
+pub returns-in_err-code : goal.returns-in_err-code
+returns-in_err-code c = rw (passed c.from_residual.ensures.1) (entry_end c.requires c.in_err-code.ensures)
 
-pub then_type-requires : goal.then_type-requires
-then_type-requires c = (onward (refl, c.requires) c.if-end-p.false (λ n. word_on n _) c.read_name.ensures).1
+pub returns-in_err-read_name-in-32 : goal.returns-in_err-read_name-in-32
+returns-in_err-read_name-in-32 c =
+    rw (passed c.from_residual-in_err-read_name-in-32.ensures.1)
+    (entry_typed c.requires c.in_ok-code.ensures c.in_err-read_name-in-32.ensures (omega arith) off)
 
-pub then_type-requires-in-35 : goal.then_type-requires-in-35
-then_type-requires-in-35 c = (onward (refl, c.requires) c.if-end-p.false (λ n. word_on n _) c.read_name-in-35.ensures).1
-
-pub returns-in-32 : goal.returns-in-32
-returns-in-32 c = search (entry_read, binding_var)
+pub returns-in_ok-read_name-in-32 : goal.returns-in_ok-read_name-in-32
+returns-in_ok-read_name-in-32 c =
+    entry_typed c.requires c.in_ok-code.ensures c.in_ok-read_name-in-32.ensures (omega arith) (on c.read_type.ensures)
 
 pub returns-in-33 : goal.returns-in-33
-returns-in-33 c = search (entry_read, binding_tvar)
-
-pub returns-in-34 : goal.returns-in-34
-returns-in-34 c = search (entry_read, binding_etvar)
-
-pub returns-in-35 : goal.returns-in-35
-returns-in-35 c = search (entry_read, binding_setvar)
-
-pub returns-in-36 : goal.returns-in-36
-returns-in-36 c = search (entry_read, binding_mark)
+returns-in-33 c = entry_named c.requires c.in_ok-code.ensures c.read_name-in-33.ensures (grind (arith, common_steps))
 
 pub returns-in_default : goal.returns-in_default
-unfolding binding_rows
-returns-in_default c = search (entry_read, binding_none)
+returns-in_default c = entry_none c.requires c.in_ok-code.ensures (grind (arith, common_steps)) c.bad_shape.ensures

@@ -1,24 +1,28 @@
 -- `read_question` meets its contract.
+use mathlib.Core.Path.{◌≡◌}
 use native.Mathlib.Omega.{arith}
-use Rattle.reading.proofs.Questions.{kind_low, kind_high, mode_end, mode_bad, question_read}
+use Rattle.std.proofs.lemmas.Grind.{common_steps}
+use Rattle.reading.proofs.Items.{passed}
+use Rattle.reading.proofs.Questions.{mode_number, kind_bad, mode_end, mode_bad, question_read}
 use Rattle.reading.proofs.read_question.Goals as goal
+use Rattle.reading.proofs.read_question.Goals.{in-0, in-1}
 
-pub returns-then-kind-lt1 : goal.returns-then-kind-lt1
-returns-then-kind-lt1 c = kind_low _ (search) (search) (omega arith)
+pub returns-in_default : goal.returns-in_default
+returns-in_default c = kind_bad _ c.requires.0 c.requires.1 c.in_default.ensures c.bad_shape.ensures
 
-pub returns-then-kind-gt7 : goal.returns-then-kind-gt7
-returns-then-kind-gt7 c = kind_high _ (search) (search) (omega arith)
+pub returns-in_err-read_word : goal.returns-in_err-read_word
+returns-in_err-read_word c =
+    rw (passed c.from_residual.ensures.1) (mode_end _ c.requires.0 c.requires.1 _ c.in-Ok.ensures c.in_err-read_word.ensures)
 
-pub returns-then-q-lt2 : goal.returns-then-q-lt2
-returns-then-q-lt2 c = search mode_end
-
-pub returns-then-mode-gt1 : goal.returns-then-mode-gt1
-returns-then-mode-gt1 c =
-    mode_bad _ c.requires.0 c.requires.1 c.word-kind.ensures.0 c.if-kind-lt1.false c.if-kind-gt7.false c.if-q-lt2.false (omega (
-      arith,
-      c.word-mode.ensures.0,
-      c.if-mode-gt1.true,
-    ))
+pub returns-in_default-2 : goal.returns-in_default-2
+returns-in_default-2 c =
+    mode_bad _ c.requires.0 c.requires.1 _ c.in-Ok.ensures c.in_ok-read_word.ensures (grind (arith, common_steps))
+    c.bad_shape-in_default-2.ensures
 
 pub returns : goal.returns
-returns c = search question_read
+returns c =
+    let e : c.in_ok-read_word.field-0 ≡ mode_number c.match-branch-2.mode = elim c.match-branch-2.branch [
+      | in-0 w ↦ rw w.mode-is w.in-0.is
+      | in-1 w ↦ rw w.mode-is w.in-1.is
+    ] in
+    question_read _ c.requires.0 c.requires.1 _ c.in-Ok.ensures c.in_ok-read_word.ensures e c.read_sections.ensures

@@ -1,12 +1,13 @@
 -- `read_unknown` meets its contract.
+use Rattle.reading.proofs.Items.{passed}
 use Rattle.reading.proofs.Sections.{unknown_end, unknown_is, unknown_none}
 use Rattle.reading.proofs.read_unknown.Goals as goal
 
-pub returns-then-end-p : goal.returns-then-end-p
-returns-then-end-p c = search unknown_end
+pub returns-in_err-read_word : goal.returns-in_err-read_word
+returns-in_err-read_word c = rw (passed c.from_residual.ensures.1) (unknown_end c.requires c.in_err-read_word.ensures)
 
-pub returns-in-4 : goal.returns-in-4
-returns-in-4 c = search unknown_is
+pub returns-then-branch-eq4 : goal.returns-then-branch-eq4
+returns-then-branch-eq4 c = unknown_is c.requires c.in_ok-read_word.ensures c.if-branch-eq4.true c.read_name.ensures
 
-pub returns-in_default : goal.returns-in_default
-returns-in_default c = search unknown_none
+pub returns : goal.returns
+returns c = unknown_none c.requires c.in_ok-read_word.ensures c.if-branch-eq4.false c.bad_shape.ensures

@@ -4,10 +4,10 @@ use Rattle.report.specs.Reports.{fits, too_long}
 use Rattle.report.proofs.outcome.Goals as goal
 
 pub returns-then-n-gt-MOST : goal.returns-then-n-gt-MOST
-returns-then-n-gt-MOST c = too_long {m = 4294967295} (λ h. omega arith) (omega arith)
+returns-then-n-gt-MOST c = too_long (λ h. omega arith) (omega arith)
 
 pub returns-then-room-n : goal.returns-then-room-n
-returns-then-room-n c = too_long {m = c.args.n} (λ h. omega arith) (omega arith)
+returns-then-room-n c = too_long (λ h. omega arith) (omega arith)
 
 pub returns : goal.returns
 returns c = search fits

@@ -1,13 +1,10 @@
 -- `tree_length` meets its contract.
 use native.Mathlib.Omega.{arith}
-use Rattle.writing.proofs.Spelling.{spelled_as, spelled_first, spelled_inner, long_section}
-use Rattle.writing.proofs.Loops.{sum_first, sum_next, sum_end}
+use Rattle.writing.proofs.Spelling.{spelled_as, spelled_first, long_section}
+use Rattle.writing.proofs.Loops.{sum_next, sum_end}
 use Rattle.writing.proofs.After.{measures_own}
 use Rattle.report.proofs.Nodes.{nodes_room, nodes_first, nodes_none}
 use Rattle.report.proofs.tree_length.Goals as goal
-
-pub loop-m-init : goal.loop-m-init
-loop-m-init c = search (sum_first, spelled_inner)
 
 pub overflow_sub-m : goal.overflow_sub-m
 overflow_sub-m c = search nodes_room

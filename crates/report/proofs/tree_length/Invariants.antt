@@ -6,8 +6,10 @@ use Rattle.report.proofs.tree_length.Given as goal
 
 abbrev pub invariant-loop-m : goal.invariant-loop-m
 invariant-loop-m l =
-    Summing l.q l.work l.top (OfNodes l.q l.work l.top l.low l.high) (OfNodes l.q l.work l.top l.low l.m) l.total × Measures l.q l.work
-    l.top l.last.g l.last
+    let q = l.store.q.now in
+    let w = l.store.work.now in
+    let t = l.store.top in
+    Summing q w t (OfNodes q w t l.low l.high) (OfNodes q w t l.low l.m) l.total × Measures q w t l.last.g l.last
 
 abbrev pub decreases-loop-m : goal.decreases-loop-m
 decreases-loop-m l = l.m

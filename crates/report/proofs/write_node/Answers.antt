@@ -1,5 +1,4 @@
 -- `write_node` meets its contract.
-use Rattle.writing.proofs.Spelling.{writes_length}
 use Rattle.report.proofs.Writing.{three_fits, input_fits, left_fits, right_fits, output_fits, result_fits, node_written}
 use Rattle.report.proofs.write_node.Goals as goal
 
@@ -32,6 +31,3 @@ pub returns : goal.returns
 returns c =
     node_written c.node_at-n.ensures c.requires.0 c.requires.1 c.write_three-first.ensures c.write_after-input.ensures
     c.write_section-right.ensures c.write_section-next.ensures c.write_after-output.ensures c.write_section-end.ensures
-
-pub shape_of-report : goal.shape_of-report
-shape_of-report c = writes_length c.requires.0 (returns c).writes

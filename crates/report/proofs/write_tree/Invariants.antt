@@ -6,8 +6,11 @@ use Rattle.report.proofs.write_tree.Given as goal
 
 abbrev pub invariant-loop-m : goal.invariant-loop-m
 invariant-loop-m l =
-    Putting l.q l.work l.top (OfNodes l.q l.work l.top l.low l.high) l.initial.report l.initial.next (OfNodes l.q l.work l.top l.low l.m)
-    l.report l.next × Stands l.q l.work l.top l.report l.next l.last
+    let q = l.store.q.now in
+    let w = l.store.work.now in
+    let t = l.store.top in
+    Putting q w t (OfNodes q w t l.low l.high) l.initial.report l.initial.next (OfNodes q w t l.low l.m) l.report l.next
+    × Stands q w t l.report l.next l.last
 
 abbrev pub decreases-loop-m : goal.decreases-loop-m
 decreases-loop-m l = l.m

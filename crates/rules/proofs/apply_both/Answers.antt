@@ -1,21 +1,22 @@
 -- `apply_both` meets its contract.
+use Rattle.judging.proofs.Steps.{stop_is}
 use Rattle.rules.proofs.Between.{apply_then, as_they_are, first_spent, second_spent, both_done}
 use Rattle.rules.proofs.apply_both.Goals as goal
 
-pub returns-in_default : goal.returns-in_default
-returns-in_default c = rw c.if-applies.true (first_spent c.apply_ctx_type.ensures c.in_default.is)
+pub returns-then-not-applies : goal.returns-then-not-applies
+returns-then-not-applies c = rw c.if-not-applies.true as_they_are
 
-pub apply_ctx_type-requires-then-applies : goal.apply_ctx_type-requires-then-applies
-apply_ctx_type-requires-then-applies c = search apply_then
+pub returns-in_err-first : goal.returns-in_err-first
+returns-in_err-first c =
+    rw (c.if-not-applies.false, stop_is _ c.from_residual.ensures.1) (first_spent c.apply_ctx_type.ensures c.in_err-first.was)
 
-pub returns-in_default-apply_ctx_type : goal.returns-in_default-apply_ctx_type
-returns-in_default-apply_ctx_type c =
-    rw c.if-applies.true (second_spent c.apply_ctx_type.ensures c.in-Done.is c.apply_ctx_type-then-applies.ensures
-    c.in_default-apply_ctx_type.is)
+pub apply_ctx_type-requires-2 : goal.apply_ctx_type-requires-2
+apply_ctx_type-requires-2 c = apply_then c.requires c.apply_ctx_type.ensures c.in_ok-first.was
 
-pub returns-then-applies : goal.returns-then-applies
-returns-then-applies c =
-    rw c.if-applies.true (both_done c.apply_ctx_type.ensures c.in-Done.is c.apply_ctx_type-then-applies.ensures c.in-Done-apply_ctx_type.is)
+pub returns-in_err-second : goal.returns-in_err-second
+returns-in_err-second c =
+    rw (c.if-not-applies.false, stop_is _ c.from_residual-in_err-second.ensures.1) (second_spent c.apply_ctx_type.ensures c.in_ok-first.was c.apply_ctx_type-2.ensures c.in_err-second.was)
 
 pub returns : goal.returns
-returns c = rw c.if-applies.false as_they_are
+returns c =
+    rw c.if-not-applies.false (both_done c.apply_ctx_type.ensures c.in_ok-first.was c.apply_ctx_type-2.ensures c.in_ok-second.was)

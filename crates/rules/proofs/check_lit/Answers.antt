@@ -3,4 +3,4 @@ use Rattle.rules.proofs.Plain.{check_lit_done}
 use Rattle.rules.proofs.check_lit.Goals as goal
 
 pub returns : goal.returns
-returns c = search check_lit_done
+returns c = check_lit_done c.requires.0 c.requires.1 c.plain_out.ensures

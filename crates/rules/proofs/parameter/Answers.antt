@@ -1,18 +1,23 @@
 -- `parameter` meets its contract.
+use Rattle.judging.proofs.Steps.{stop_is}
 use Rattle.rules.proofs.Between.{comparing, not_compared, parameter_spent, parameter_same, parameter_other}
 use Rattle.rules.proofs.parameter.Goals as goal
 
-pub returns-in_default : goal.returns-in_default
-returns-in_default c = search parameter_spent
+pub returns-then-not-h : goal.returns-then-not-h
+returns-then-not-h c = not_compared c.if-not-h.true
 
-pub same_type-same-requires : goal.same_type-same-requires
-same_type-same-requires c = search comparing
+pub returns-in_err-applied : goal.returns-in_err-applied
+returns-in_err-applied c =
+    rw (stop_is _ c.from_residual.ensures.1) (parameter_spent c.if-not-h.false c.apply_ctx_type.ensures c.in_err-applied.was)
 
-pub returns-then-same : goal.returns-then-same
-returns-then-same c = search parameter_same
+pub same_type-requires : goal.same_type-requires
+same_type-requires c = comparing c.requires c.apply_ctx_type.ensures c.in_ok-applied.was
 
-pub returns-then-compares : goal.returns-then-compares
-returns-then-compares c = search parameter_other
+pub returns-then-same_type : goal.returns-then-same_type
+returns-then-same_type c =
+    parameter_same c.if-not-h.false c.apply_ctx_type.ensures c.in_ok-applied.was c.same_type.ensures c.requires.two.room c.if-same_type.true
 
 pub returns : goal.returns
-returns c = search not_compared
+returns c =
+    rw c.fail.ensures (parameter_other c.if-not-h.false c.apply_ctx_type.ensures c.in_ok-applied.was c.same_type.ensures c.requires.two.room
+    c.if-same_type.false)

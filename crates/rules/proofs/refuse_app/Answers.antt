@@ -3,4 +3,4 @@ use Rattle.rules.proofs.Plain.{app_refused}
 use Rattle.rules.proofs.refuse_app.Goals as goal
 
 pub returns : goal.returns
-returns c = search app_refused
+returns c = rw c.fail.ensures (app_refused c.requires)

@@ -3,14 +3,11 @@ use native.Mathlib.Omega.{arith}
 use Rattle.sections.proofs.Nodes.{no_node, broken_off, met}
 use Rattle.sections.proofs.node_at.Goals as goal
 
-pub returns-then-n-le3 : goal.returns-then-n-le3
-returns-then-n-le3 c = no_node _ _ (omega arith)
+pub returns-then-saturating_sub-at : goal.returns-then-saturating_sub-at
+returns-then-saturating_sub-at c = no_node _ _ (omega arith)
 
-pub returns-then-n-at : goal.returns-then-n-at
-returns-then-n-at c = no_node _ _ (omega arith)
-
-pub returns-then-whole_at : goal.returns-then-whole_at
-returns-then-whole_at c = search met
+pub returns-then-not-whole_at : goal.returns-then-not-whole_at
+returns-then-not-whole_at c = search broken_off
 
 pub returns : goal.returns
-returns c = search broken_off
+returns c = search met

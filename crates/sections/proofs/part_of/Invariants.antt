@@ -1,12 +1,9 @@
--- `part_of` meets its contract: after i turns the bounds are those of section i.
+-- `part_of` meets its contract: after so many turns the bounds are those of that section.
 use mathlib.Core.Path.{◌≡◌}
-use Prim.Native.Nat.{◌-◌, ◌≤◌}
+use Prim.Native.Nat.{◌≤◌}
 use lib.ListN.{take}
 use Rattle.sections.specs.Sections.{bounds_of}
 use Rattle.sections.proofs.part_of.Given as goal
 
-abbrev pub invariant-loop-i : goal.invariant-loop-i
-invariant-loop-i l = (l.i ≤ l.k) × (bounds_of l.i (take l.n l.report) ≡ (l.b.from, l.b.to)) × (l.b.from ≤ l.b.to) × (l.b.to ≤ l.n)
-
-abbrev pub decreases-loop-i : goal.decreases-loop-i
-decreases-loop-i l = l.k - l.i
+abbrev pub invariant-loop : goal.invariant-loop
+invariant-loop l = (bounds_of l.counter (take l.n l.report) ≡ (l.b.from, l.b.to)) × (l.b.from ≤ l.b.to) × (l.b.to ≤ l.n)

@@ -1,14 +1,11 @@
 -- `whole_at` meets its contract.
-use native.Mathlib.Omega.{arith}
+use mathlib.Core.Path.{◌∙◌}
+use borrow.Author.Tests.{le-ltb}
 use Rattle.sections.proofs.Nodes.{not_whole, is_whole}
-use borrow.Author.Rules.{rules}
 use Rattle.sections.proofs.whole_at.Goals as goal
 
-pub returns-then-n-at : goal.returns-then-n-at
-returns-then-n-at c = search (not_whole, rules)
+pub returns-then-at-n : goal.returns-then-at-n
+returns-then-at-n c = is_whole _ _ c.if-at-n.true
 
-pub overflow_cast-count : goal.overflow_cast-count
-overflow_cast-count c = omega (arith, c.type_inv.words c.args.at)
-
-pub returns : goal.returns
-returns c = search (is_whole, rules)
+pub returns-else-at-n : goal.returns-else-at-n
+returns-else-at-n c = le-ltb _ _ c.if-at-n.false ∙ not_whole _ _ c.if-at-n.false

@@ -1,14 +1,14 @@
 -- `absent` meets its contract.
-use native.Mathlib.Omega.{arith}
-use Rattle.types.proofs.Held.{held_named}
-use Rattle.subtyping.proofs.Arms.{absent_other, absent_by}
+use mathlib.Core.Logic.{inr}
+use Rattle.types.proofs.Held.{named_var}
+use Rattle.subtyping.proofs.Arms.{etvar_form, absent_other, absent_by}
 use Rattle.subtyping.proofs.absent.Goals as goal
 
-pub returns-then-k-ne4 : goal.returns-then-k-ne4
-returns-then-k-ne4 c = search absent_other
+pub name_of-requires : goal.name_of-requires
+name_of-requires c = named_var c.requires.left c.form.ensures (inr (etvar_form _ c.if-eq.ensures))
 
-pub name_of-x-requires : goal.name_of-x-requires
-name_of-x-requires c = held_named (search) c.tag-k.ensures (omega arith) (λ e. omega arith)
+pub returns-then-eq : goal.returns-then-eq
+returns-then-eq c = absent_by _ c.form.ensures c.if-eq.ensures c.name_of.ensures _ c.occurs_check.ensures
 
-pub returns : goal.returns
-returns c = search absent_by
+pub returns-else-eq : goal.returns-else-eq
+returns-else-eq c = absent_other _ c.form.ensures c.if-eq.false c.if-eq.ensures

@@ -1,30 +1,52 @@
 -- `alike` meets its contract.
-use native.Mathlib.Omega.{arith}
-use Rattle.types.proofs.Held.{held_named}
-use Rattle.subtyping.proofs.Arms.{alike_apart, alike_base, alike_large, alike_named, alike_other}
+use mathlib.Core.Logic.{inl, inr}
+use mathlib.Core.Path.{sym, ◌∙◌}
+use Rattle.types.proofs.Held.{named_var}
+use Rattle.walks.proofs.Same.{forms_agree}
+use Rattle.subtyping.proofs.Arms.{alike_apart, alike_base, alike_large, alike_vars, other_vars, alike_etvars, other_etvars}
 use Rattle.subtyping.proofs.alike.Goals as goal
 
-pub returns-then-k-m : goal.returns-then-k-m
-returns-then-k-m c = search alike_apart
+pub returns-then-ne : goal.returns-then-ne
+returns-then-ne c = alike_apart _ _ c.if-ne.ensures c.form-form.ensures c.form.ensures
 
-pub returns-then-k-lt3 : goal.returns-then-k-lt3
-returns-then-k-lt3 c = search alike_base
+pub returns-in-Int : goal.returns-in-Int
+returns-in-Int c = alike_base _ _ c.if-ne.ensures c.form-form.ensures c.form.ensures c.in-Int.is
 
-pub returns-then-k-gt4 : goal.returns-then-k-gt4
-returns-then-k-gt4 c = search alike_large
+pub returns-in-Arrow : goal.returns-in-Arrow
+returns-in-Arrow c = alike_large _ _ c.if-ne.ensures c.form-form.ensures c.form.ensures c.in-Arrow.is
 
-pub name_of-x-requires : goal.name_of-x-requires
-name_of-x-requires c = held_named (search) c.tag-k.ensures (omega arith) (λ e. omega arith)
+-- two Vars
 
-pub name_of-y-requires : goal.name_of-y-requires
-name_of-y-requires c = held_named (search) c.tag-m.ensures (omega arith) (λ e. omega arith)
+pub name_of-requires : goal.name_of-requires
+name_of-requires c = named_var c.requires.left c.form-form.ensures (inl c.in-Var.is)
 
-pub returns-then-x-y : goal.returns-then-x-y
-returns-then-x-y c =
-    alike_named c.tag-k.ensures c.tag-m.ensures c.if-k-m.false (omega arith) (omega arith) c.name_of-x.ensures c.name_of-y.ensures
-    c.if-x-y.true
+pub name_of-requires-in-Var-1 : goal.name_of-requires-in-Var-1
+name_of-requires-in-Var-1 c = named_var c.requires.right c.form.ensures (inl (sym (forms_agree _ _ c.if-ne.ensures) ∙ c.in-Var.is))
 
-pub returns : goal.returns
-returns c =
-    alike_other c.tag-k.ensures c.tag-m.ensures c.if-k-m.false (omega arith) (omega arith) c.name_of-x.ensures c.name_of-y.ensures
-    c.if-x-y.false
+pub returns-in-Var : goal.returns-in-Var
+returns-in-Var c =
+    alike_vars _ _ c.if-ne.ensures c.form-form.ensures c.form.ensures c.name_of.ensures c.name_of-in-Var-1.ensures c.in-Var.is
+    c.if-eq.ensures
+
+pub returns-in_default : goal.returns-in_default
+returns-in_default c =
+    other_vars _ _ c.if-ne.ensures c.form-form.ensures c.form.ensures c.name_of.ensures c.name_of-in-Var-1.ensures c.in-Var.is
+    c.if-eq.ensures
+
+-- two ETVars
+
+pub name_of-requires-in-ETVar-1 : goal.name_of-requires-in-ETVar-1
+name_of-requires-in-ETVar-1 c = named_var c.requires.left c.form-form.ensures (inr c.in-ETVar.is)
+
+pub name_of-requires-in-ETVar-2 : goal.name_of-requires-in-ETVar-2
+name_of-requires-in-ETVar-2 c = named_var c.requires.right c.form.ensures (inr (sym (forms_agree _ _ c.if-ne.ensures) ∙ c.in-ETVar.is))
+
+pub returns-in-ETVar : goal.returns-in-ETVar
+returns-in-ETVar c =
+    alike_etvars _ _ c.if-ne.ensures c.form-form.ensures c.form.ensures c.name_of-in-ETVar-1.ensures c.name_of-in-ETVar-2.ensures
+    c.in-ETVar.is c.if-eq-2.ensures
+
+pub returns-in_default-2 : goal.returns-in_default-2
+returns-in_default-2 c =
+    other_etvars _ _ c.if-ne.ensures c.form-form.ensures c.form.ensures c.name_of-in-ETVar-1.ensures c.name_of-in-ETVar-2.ensures
+    c.in-ETVar.is c.if-eq-2.ensures

@@ -13,12 +13,12 @@ returns c =
     record {
       keep = c.put4.ensures.keep;
       ref = refl;
-      den = λ A B d e. arrow_put (arrow_mono c.is_mono-first.ensures c.is_mono-second.ensures
+      den = λ A B d e. arrow_put (arrow_mono c.is_mono.ensures c.is_mono-2.ensures
           d e) (rw c.with_mono-head.ensures.0 at c.put4.ensures) (omega (
             arith,
-            c.sat_add-length.ensures,
-            c.sat_add-parts.ensures,
-            c.type_length-l.ensures.is A d,
-            c.type_length-r.ensures.is B e,
+            c.sum_to-length.ensures,
+            c.sum_to-parts.ensures,
+            c.type_length.ensures.is A d,
+            c.type_length-2.ensures.is B e,
           )) d e;
     }

@@ -5,4 +5,4 @@ use Rattle.types.proofs.put_etvar.Goals as goal
 
 pub returns : goal.returns
 returns c =
-    record { keep = c.put2.ensures.keep; ref = refl; den = λ q. etvar_put _ refl (rw c.with_mono-head.ensures.0 at c.put2.ensures) }
+    record { keep = c.put2.ensures.keep; ref = refl; den = λ q. etvar_put _ refl (rw c.with_mono.ensures.0 at c.put2.ensures) }

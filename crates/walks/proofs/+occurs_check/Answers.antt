@@ -1,51 +1,53 @@
 -- `occurs_check` meets its contract.
-use native.Mathlib.Omega.{arith}
-use Rattle.types.proofs.Cases.{no_other}
-use Rattle.types.proofs.Held.{held_as, held_named, left_below, right_below, body_below}
+use mathlib.Core.Path.{refl}
+use Rattle.types.proofs.Codes.{base_form, name_form}
+use Rattle.types.proofs.Held.{held_arrow, held_forall, named_var, named_forall, left_below, right_below, body_below}
 use Rattle.walks.proofs.Occurs.{occurs_base, occurs_name, occurs_left, occurs_right, occurs_bound, occurs_body}
 use Rattle.walks.proofs.+occurs_check.Goals as goal
 
-pub left_of-left-requires : goal.left_of-left-requires
-left_of-left-requires t c = search held_as
+pub name_of-requires : goal.name_of-requires
+name_of-requires t c = search named_var
 
-pub occurs_check-occurs-requires : goal.occurs_check-occurs-requires
-occurs_check-occurs-requires t c = left_below (search) (search held_as) c.left_of-left.ensures
-
-pub returns-then-occurs : goal.returns-then-occurs
-returns-then-occurs t c = search occurs_left
-
-pub right_of-right-requires : goal.right_of-right-requires
-right_of-right-requires t c = search held_as
+pub left_of-requires : goal.left_of-requires
+left_of-requires t c = search held_arrow
 
 pub occurs_check-requires : goal.occurs_check-requires
-occurs_check-requires t c = right_below (search) (search held_as) c.right_of-right.ensures
+occurs_check-requires t c = left_below c.decreases (search held_arrow) c.left_of.ensures
 
-pub name_of-name-requires : goal.name_of-name-requires
-name_of-name-requires t c = held_named c.requires c.tag-k.ensures (omega arith) (λ e. omega arith)
+pub right_of-requires : goal.right_of-requires
+right_of-requires t c = search held_arrow
 
-pub returns-then-bound-sought : goal.returns-then-bound-sought
-returns-then-bound-sought t c = search occurs_bound
+pub occurs_check-requires-else-occurs_check : goal.occurs_check-requires-else-occurs_check
+occurs_check-requires-else-occurs_check t c = right_below c.decreases (search held_arrow) c.right_of.ensures
 
-pub body_of-body-requires : goal.body_of-body-requires
-body_of-body-requires t c = search held_as
+pub name_of-requires-in-Forall : goal.name_of-requires-in-Forall
+name_of-requires-in-Forall t c = search named_forall
 
-pub occurs_check-requires-in-6 : goal.occurs_check-requires-in-6
-occurs_check-requires-in-6 t c = body_below (search) (search held_as) c.body_of-body.ensures
+pub body_of-requires : goal.body_of-requires
+body_of-requires t c = search held_forall
 
-pub name_of-name-requires-in-3 : goal.name_of-name-requires-in-3
-name_of-name-requires-in-3 t c = held_named c.requires c.tag-k.ensures (omega arith) (λ e. omega arith)
+pub occurs_check-requires-then-ne : goal.occurs_check-requires-then-ne
+occurs_check-requires-then-ne t c = body_below c.decreases (search held_forall) c.body_of.ensures
 
-pub returns-else-occurs : goal.returns-else-occurs
-returns-else-occurs t c = search occurs_right
+pub returns-in-Int : goal.returns-in-Int
+returns-in-Int t c = occurs_base c.form.ensures (base_form c.in-Int.is)
 
-pub returns-else-bound-sought : goal.returns-else-bound-sought
-returns-else-bound-sought t c = search occurs_body
+pub returns-in-Var : goal.returns-in-Var
+returns-in-Var t c =
+    let n = name_form c.in-Var.is in
+    occurs_name c.form.ensures n.0 n.1 c.name_of.ensures c.eq.ensures
 
-pub returns-in-3 : goal.returns-in-3
-returns-in-3 t c = search occurs_name
+pub returns-then-occurs_check : goal.returns-then-occurs_check
+returns-then-occurs_check t c = occurs_left c.in-Arrow.ensures refl c.left_of.ensures c.occurs_check.ensures c.if-occurs_check.true
 
-pub returns-in_default : goal.returns-in_default
-returns-in_default t c = occurs_base c.tag-k.ensures (omega arith)
+pub returns-else-occurs_check : goal.returns-else-occurs_check
+returns-else-occurs_check t c =
+    occurs_right c.in-Arrow.ensures refl c.left_of.ensures c.occurs_check.ensures c.if-occurs_check.false c.right_of.ensures
+    c.occurs_check-else-occurs_check.ensures
 
-pub returns-in_default-2 : goal.returns-in_default-2
-returns-in_default-2 t c = search no_other
+pub returns-then-ne : goal.returns-then-ne
+returns-then-ne t c =
+    occurs_body c.in-Forall.ensures refl c.name_of-in-Forall.ensures c.ne.ensures c.if-ne.true c.body_of.ensures c.occurs_check-then-ne.ensures
+
+pub returns-else-ne : goal.returns-else-ne
+returns-else-ne t c = occurs_bound c.in-Forall.ensures refl c.name_of-in-Forall.ensures c.ne.ensures c.if-ne.false

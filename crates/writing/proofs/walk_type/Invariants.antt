@@ -3,8 +3,8 @@ use Prim.Native.Nat.{◌-◌}
 use Rattle.writing.proofs.Types.{Writing}
 use Rattle.writing.proofs.walk_type.Given as goal
 
-abbrev pub invariant-loop-low : goal.invariant-loop-low
-invariant-loop-low l = Writing l.q l.work l.top l.r l.at l.end l.initial.report l.report l.pen l.low
+abbrev pub invariant-loop-pen : goal.invariant-loop-pen
+invariant-loop-pen l = Writing l.store.q.now l.store.work.now l.store.top l.r l.at l.end l.initial.report l.report l.pen.at l.pen.low
 
-abbrev pub decreases-loop-low : goal.decreases-loop-low
-decreases-loop-low l = l.end - l.pen
+abbrev pub decreases-loop-pen : goal.decreases-loop-pen
+decreases-loop-pen l = l.end - l.pen.at

@@ -1,72 +1,64 @@
 -- `write_head` meets its contract.
 use mathlib.Core.Path.{ap}
+use Prim.Native.Nat.{ℕ}
 use native.Mathlib.Omega.{arith}
 use lib.ListN.{length, length-set}
-use Rattle.types.proofs.Held.{held_as, held_named, body_held}
-use Rattle.writing.proofs.Steps.{waiting_held, held_small, parts_small, seen, step_base, step_name, step_arrow, step_forall}
+use Rattle.types.proofs.Held.{held_arrow, held_forall, named_var, named_forall, left_held, right_held, body_held}
+use Rattle.writing.proofs.Steps.{waiting_held, held_small, seen, step_base, step_name, step_arrow, step_forall}
 use Rattle.writing.proofs.write_head.Goals as goal
 
-pub overflow_cast-r : goal.overflow_cast-r
-overflow_cast-r c = omega (arith, c.type_inv.report c.args.low)
+pub returns-in-Int : goal.returns-in-Int
+returns-in-Int c = search step_base
 
-pub put-requires : goal.put-requires
-put-requires c = let v = seen c.requires c.tag-k.ensures in (v.place, v.small)
+pub name_of-requires : goal.name_of-requires
+name_of-requires c = search (named_var, waiting_held)
 
-pub returns-then-k-lt3 : goal.returns-then-k-lt3
-returns-then-k-lt3 c = search step_base
+pub put-requires-in-Var : goal.put-requires-in-Var
+put-requires-in-Var c =
+    (omega (arith, (seen c.requires c.form-form.ensures).name c.in-Var.is, c.requires.within, ap length c.put.ensures, length-set {A = ℕ}), omega arith)
 
-pub left_of-left-requires : goal.left_of-left-requires
-left_of-left-requires c = search (held_as, waiting_held)
+pub returns-in-Var : goal.returns-in-Var
+returns-in-Var c = search step_name
 
-pub right_of-right-requires : goal.right_of-right-requires
-right_of-right-requires c = search (held_as, waiting_held)
+pub right_of-requires : goal.right_of-requires
+right_of-requires c = search (held_arrow, waiting_held)
 
-pub overflow_sub-next : goal.overflow_sub-next
-overflow_sub-next c = let v = seen c.requires c.tag-k.ensures in omega (arith, v.three (omega (arith, c.if-k-eq5.true)))
+pub put-requires-in-Arrow : goal.put-requires-in-Arrow
+put-requires-in-Arrow c =
+    let h = held_arrow (waiting_held c.requires) c.form-form.ensures c.in-Arrow.is in
+    (omega (arith, c.requires.within, ap length c.put.ensures, length-set {A = ℕ}), held_small (right_held h c.right_of.ensures))
 
-pub put-requires-then-k-eq5 : goal.put-requires-then-k-eq5
-put-requires-then-k-eq5 c =
-    let h = held_as (waiting_held c.requires) c.tag-k.ensures 5 c.if-k-eq5.true in let k = parts_small h c.left_of-left.ensures
-    c.right_of-right.ensures in (
-      omega (
-        arith,
-        c.requires.within,
-        ap length c.put.ensures,
-        length-set c.args.report.now c.args.at
-            c.tag-k.result,
-      ),
-      omega (arith, k),
-    )
+pub overflow_sub-low : goal.overflow_sub-low
+overflow_sub-low c = omega (arith, (seen c.requires c.form-form.ensures).arrow c.in-Arrow.is)
 
-pub put-requires-then-k-eq5-2 : goal.put-requires-then-k-eq5-2
-put-requires-then-k-eq5-2 c =
-    let h = held_as (waiting_held c.requires) c.tag-k.ensures 5 c.if-k-eq5.true in let k = parts_small h c.left_of-left.ensures
-    c.right_of-right.ensures in (omega (arith, c.requires.within), omega (arith, k))
+pub left_of-requires : goal.left_of-requires
+left_of-requires c = search (held_arrow, waiting_held)
 
-pub returns-then-k-eq5 : goal.returns-then-k-eq5
-returns-then-k-eq5 c = search step_arrow
+pub put-requires-in-Arrow-2 : goal.put-requires-in-Arrow-2
+put-requires-in-Arrow-2 c =
+    let h = held_arrow (waiting_held c.requires) c.form-form.ensures c.in-Arrow.is in
+    (omega (arith, c.requires.within, ap length c.put.ensures, ap length c.put-in-Arrow.ensures, length-set {A = ℕ}), held_small (left_held h c.left_of.ensures))
 
-pub name_of-a-requires : goal.name_of-a-requires
-name_of-a-requires c = search (held_named, waiting_held)
+pub overflow_sub-result : goal.overflow_sub-result
+overflow_sub-result c = omega (arith, (seen c.requires c.form-form.ensures).arrow c.in-Arrow.is)
 
-pub put-requires-2 : goal.put-requires-2
-put-requires-2 c = let v = seen c.requires c.tag-k.ensures in (omega (arith, v.two c.if-k-lt3.false, v.within), omega (arith))
+pub returns-in-Arrow : goal.returns-in-Arrow
+returns-in-Arrow c = search step_arrow
 
-pub returns-then-k-lt5 : goal.returns-then-k-lt5
-returns-then-k-lt5 c = search step_name
+pub name_of-requires-in-Forall : goal.name_of-requires-in-Forall
+name_of-requires-in-Forall c = search (named_forall, waiting_held)
 
-pub body_of-body-requires : goal.body_of-body-requires
-body_of-body-requires c = held_as (search waiting_held) (search) 6 ((seen c.requires c.tag-k.ensures).six c.if-k-lt5.false c.if-k-eq5.false)
+pub put-requires-in-Forall : goal.put-requires-in-Forall
+put-requires-in-Forall c =
+    (omega (arith, (seen c.requires c.form-form.ensures).forall c.in-Forall.is, c.requires.within, ap length c.put.ensures, length-set {A = ℕ}), omega arith)
 
-pub put-requires-3 : goal.put-requires-3
-put-requires-3 c =
-    let h = held_as (waiting_held c.requires) c.tag-k.ensures 6 ((seen c.requires c.tag-k.ensures).six c.if-k-lt5.false c.if-k-eq5.false) in
-    (omega (arith, c.requires.within), held_small (body_held h c.body_of-body.ensures))
+pub body_of-requires : goal.body_of-requires
+body_of-requires c = search (held_forall, waiting_held)
 
-pub overflow_add-result-2 : goal.overflow_add-result-2
-overflow_add-result-2 c = let v = seen c.requires c.tag-k.ensures in omega (arith, v.three c.if-k-lt5.false, c.ranges.low)
+pub put-requires-in-Forall-2 : goal.put-requires-in-Forall-2
+put-requires-in-Forall-2 c =
+    let h = held_forall (waiting_held c.requires) c.form-form.ensures c.in-Forall.is in
+    (omega (arith, c.requires.within, ap length c.put.ensures, ap length c.put-in-Forall.ensures, length-set {A = ℕ}), held_small (body_held h c.body_of.ensures))
 
-pub returns : goal.returns
-returns c =
-    step_forall c.requires.within c.tag-k.ensures c.name_of-a.ensures c.body_of-body.ensures ((seen c.requires c.tag-k.ensures).six
-    c.if-k-lt5.false c.if-k-eq5.false) c.put.ensures c.put-2.ensures c.put-3.ensures
+pub returns-in-Forall : goal.returns-in-Forall
+returns-in-Forall c = search step_forall

@@ -1,7 +1,7 @@
 -- `row_of` meets its contract.
 use native.Mathlib.Omega.{arith}
 use Rattle.loading.proofs.Table.{base_row, name_row}
-use Rattle.loading.proofs.ends.row_of.Goals.{in_default-via-then-code-lt1, in_default-via-else-code-lt1+else-code-lt3+else-code-lt5}
+use Rattle.loading.proofs.ends.row_of.Goals.{in_default-via-then-q-p-lt1, in_default-via-else-q-p-lt1+else-this-lt3+else-this-lt5}
 use Rattle.loading.proofs.ends.row_of.Goals as goal
 
 pub other_row-requires : goal.other_row-requires
@@ -9,8 +9,8 @@ other_row-requires c = (
   c.requires,
   record {
     code = λ l. elim c.in_default.branch [
-      | in_default-via-then-code-lt1 w ↦ omega arith
-      | in_default-via-else-code-lt1+else-code-lt3+else-code-lt5 w ↦ omega arith
+      | in_default-via-then-q-p-lt1 w ↦ omega arith
+      | in_default-via-else-q-p-lt1+else-this-lt3+else-this-lt5 w ↦ omega arith
     ];
   },
 )
