@@ -1,5 +1,5 @@
 -- From what a run came to, to its reply.
-use mathlib.Core.Path.{◌≡◌, refl, ap}
+use mathlib.Core.Path.{◌≡◌, refl}
 use mathlib.Core.Bool.{false, ◌&&◌}
 use mathlib.Core.List.{List}
 use mathlib.Core.Option.{some-injective}
@@ -13,15 +13,15 @@ use mir.Facts.{no_leb}
 use Rattle.definition.specs.Syntax.{pick}
 use Rattle.definition.specs.Run.{Out}
 use Rattle.definition.specs.Rules.{Result}
-use Rattle.definition.specs.Reply.{most, refusal, error_code, reported, out_reply}
+use Rattle.definition.specs.Reply.{most, refusal, reported, out_reply}
 use Rattle.definition.specs.Memory.{report_after}
 use Rattle.laws.specs.Count.{charged}
+use Rattle.laws.proofs.Codes.{error}
 use Rattle.laws.proofs.Steps.{is_true, is_false}
 use Rattle.layout.specs.declared.State.{State}
 use Rattle.judging.specs.declared.Answer.{Answer}
 use Rattle.judging.specs.declared.Bad.{Bad}
 use Rattle.judging.specs.declared.Stop.TheVariants.{Fail, Spent}
-use Rattle.judging.specs.Names.{error_of}
 use Rattle.judging.specs.Ending.{Step, EndsJ, ran_out}
 use Rattle.std.specs.Prelude.{Result as Outcome, Ok, Err}
 use Rattle.judging.proofs.Steps.{came, failed_by}
@@ -93,6 +93,9 @@ module _ {q w : List ℕ} {s : State} {z : Step} {b : Bad} (pre : FinishPre q w 
   pub error_units : b.charge < 2 ^ 32
   error_units = omega (arith, error_charge, pre.budget)
 
+  pub error_code : b.code < 2 ^ 32
+  error_code = let f = failed_by pre.ends d in omega (arith, f.fails.code, (error f.e.error).most)
+
   pub error_words : Spelled q w b.st.top (OfError q w b)
   error_words =
       let x = (failed_by pre.ends d).fails in
@@ -102,13 +105,13 @@ module _ {q w : List ℕ} {s : State} {z : Step} {b : Bad} (pre : FinishPre q w 
     pub error_length : length_of y < 2 ^ 32
     error_length = told_small (error_reported (failed_by pre.ends d).fails rep)
 
-    pub error_gives : (kind : ℕ) → Finishes q w kind s z sl sl' (told_of (error_code (error_of b.error)) b.name b.charge y)
+    pub error_gives : (kind : ℕ) → Finishes q w kind s z sl sl' (told_of b.code b.name b.charge y)
     unfolding out_reply
     error_gives kind = record {
       gives = λ R h.
           let f = failed_by h d in
           let x = f.fails in
-          rw (error_charge, f.is) (told_gives (s.left - b.st.left) _ (ap error_code x.error) x.name (error_reported x rep));
+          rw (error_charge, f.is) (told_gives (s.left - b.st.left) _ x.code x.name (error_reported x rep));
     }
 
 -- ## Out of budget

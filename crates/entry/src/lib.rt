@@ -130,12 +130,12 @@ fn finish<'a>(
 {
     match z {
         Ok(a) => {
-            let y = report::report_result(q, work, kind, a, from.low, report);
+            let y = report::report_result(q, work, kind.number(), a, from.low, report);
             told(0, 0, a.charge, y)
         }
         Err(Stop::Fail(b)) => {
             let y = report::report_error(q, work, b, report);
-            told(b.error.code(), b.name, b.charge, y)
+            told(b.code as u32, b.name, b.charge, y)
         }
         Err(Stop::Spent) => spent(from.left),
     }

@@ -5,7 +5,7 @@ use Prim.Native.Nat.{ℕ, suc, ◌+◌}
 use native.Mathlib.Omega.{arith}
 use Rattle.std.specs.Prelude.{Ok}
 use Rattle.definition.specs.Syntax
-use Rattle.definition.specs.Syntax.{etvar, arrow, Judgement, check, leaf, ◌&◌, children}
+use Rattle.definition.specs.Syntax.{etvar, arrow, Judgement, check, leaf, ◌&◌, rule_number, children}
 use Rattle.definition.specs.Run.{◌>>=◌, and_then, give, fresh}
 use Rattle.definition.specs.Rules.{judge, on, as_arrow, as_etvar, split, inf_app_arr, inf_app_etvar, infer_app_rule, ◌or_else◌}
 use Rattle.layout.specs.Names.{ty}
@@ -17,7 +17,6 @@ use Rattle.types.specs.Reading.{HeldAs, HeldNamed, Named, LeftOf, RightOf}
 use Rattle.types.proofs.Held.{room_held, held_as}
 use Rattle.judging.specs.declared.Answer.{Answer}
 use Rattle.judging.specs.declared.Here.{Here}
-use Rattle.judging.specs.declared.Rule.TheVariants as rule
 use Rattle.judging.specs.Asking.{here, check_ask, app_ask}
 use Rattle.judging.specs.Ending.{Step, Judged, Fires}
 use Rattle.judging.proofs.Asking.{app_asked}
@@ -56,8 +55,8 @@ module _ (m : Here) {q w : List ℕ} {s : State} {g : Span} {r ex : ℕ} (pre : 
 
     module _ {w₁ : List ℕ} {z : Step} (call : Judged m q w w₁ s g (check_ask ex a) z) where
       pub arr_done : {t : Answer} {y : Step} → z ≡ Ok t
-          → PlainOut t.st t.g c rule.InfAppArr 1 y → Fires m q w w₁ s g (app_ask r ex) y
-      unfolding children
+          → PlainOut t.st t.g c 15 1 y → Fires m q w w₁ s g (app_ask r ex) y
+      unfolding rule_number children
       arr_done d fin = record {
         run = λ j k.
             let b = returns arr_asks call d k in
@@ -97,8 +96,8 @@ module _ (m : Here) {q w : List ℕ} {s : State} {g : Span} {r ex : ℕ} (pre : 
 
     module _ {w₂ : List ℕ} {z : Step} (call : Judged m q w₁ w₂ o.st o.g (check_ask ex o.b) z) where
       pub etvar_done : {t : Answer} {y : Step} → z ≡ Ok t
-          → PlainOut t.st t.g o.c rule.InfAppETVar 1 y → Fires m q w w₂ s g (app_ask r ex) y
-      unfolding children
+          → PlainOut t.st t.g o.c 16 1 y → Fires m q w w₂ s g (app_ask r ex) y
+      unfolding rule_number children
       etvar_done d fin = record {
         run = λ j k.
             let b = returns etvar_asks call d k in

@@ -6,7 +6,7 @@ use Prim.Native.Nat.{ℕ, ◌+◌, ◌*◌}
 use native.Mathlib.Omega.{arith}
 use Rattle.std.specs.Prelude.{Result as Outcome, Ok, Err, IsErrAnd}
 use Rattle.definition.specs.Syntax
-use Rattle.definition.specs.Syntax.{TyVar, Ty, int, arrow, Expr, Ctx, on_r, Judgement, infer, check, subtype, leaf, ◌&◌, children, var_bnd, tvar_bnd}
+use Rattle.definition.specs.Syntax.{TyVar, Ty, int, arrow, Expr, Ctx, on_r, Judgement, infer, check, subtype, leaf, ◌&◌, rule_number, children, var_bnd, tvar_bnd}
 use Rattle.definition.specs.Run.{Out, done, M, ◌>>=◌, give}
 use Rattle.definition.specs.Contexts.{k_var, k_tvar, ◌▹◌, right_of}
 use Rattle.definition.specs.Types.{apply}
@@ -147,8 +147,8 @@ module _ (m : Here) {q w : List ℕ} {s : State} {g : Span} {ex r : ℕ} (pre : 
             pub lam_back : {j : Judgement} (k : At pre.rule j) → Returns lam_asks call k t
             lam_back k = returns lam_asks call d k
 
-            pub lam_done : {w₄ : List ℕ} {y : Step} → KeepOut false w₃ w₄ t (k_var (tm l.x)) INT rule.ChkLam 1 y → Fires m q w w₄ s g (check_ask ex r) y
-            unfolding children kept
+            pub lam_done : {w₄ : List ℕ} {y : Step} → KeepOut false w₃ w₄ t (k_var (tm l.x)) INT 19 1 y → Fires m q w w₄ s g (check_ask ex r) y
+            unfolding rule_number children kept
             lam_done f = record {
               run = λ j k.
                   let b = lam_back k in
@@ -201,8 +201,8 @@ module _ (m : Here) {q w : List ℕ} {s : State} {g : Span} {ex r : ℕ} (pre : 
       pub all_back : {j : Judgement} (k : At pre.rule j) → Returns all_asks call k t
       all_back k = returns all_asks call d k
 
-      pub all_done : {w₃ : List ℕ} {y : Step} → KeepOut false w₂ w₃ t (k_tvar (ty o.b)) INT rule.ChkAll 1 y → Fires m q w w₃ s g (check_ask ex r) y
-      unfolding children kept
+      pub all_done : {w₃ : List ℕ} {y : Step} → KeepOut false w₂ w₃ t (k_tvar (ty o.b)) INT 20 1 y → Fires m q w w₃ s g (check_ask ex r) y
+      unfolding rule_number children kept
       all_done f = record {
         run = λ j k.
             let b = all_back k in
@@ -254,8 +254,8 @@ module _ (m : Here) {q w : List ℕ} {s : State} {g : Span} {ex r : ℕ} (pre : 
       pub sub_unless : {e : Stop} {o : Step} → y ≡ Err e → IsErrAnd o (λ x. x ≡ e) → Fires m q w w₂ s g (check_ask ex r) o
       sub_unless i h = rw (stop_is _ h ∙ sym i) (record { run = λ j k. otherwise _ _ (sub_way₂ k) (sub_runs k) (not_done i) })
 
-      pub sub_done : {v : Answer} {o : Step} → y ≡ Ok v → PlainOut v.st v.g INT rule.ChkSub 2 o → Fires m q w w₂ s g (check_ask ex r) o
-      unfolding children
+      pub sub_done : {v : Answer} {o : Step} → y ≡ Ok v → PlainOut v.st v.g INT 21 2 o → Fires m q w w₂ s g (check_ask ex r) o
+      unfolding rule_number children
       sub_done i fin = record {
         run = λ j k.
             let b = back _ _ (sub_way₂ k) (sub_runs k) i in

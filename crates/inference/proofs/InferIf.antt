@@ -5,7 +5,7 @@ use Prim.Native.Nat.{ℕ, ◌+◌, ◌*◌}
 use native.Mathlib.Omega.{arith}
 use Rattle.std.specs.Prelude.{Ok, Err, IsErrAnd}
 use Rattle.definition.specs.Syntax
-use Rattle.definition.specs.Syntax.{bool, Judgement, infer, check, subtype, leaf, ◌&◌, children}
+use Rattle.definition.specs.Syntax.{bool, Judgement, infer, check, subtype, leaf, ◌&◌, rule_number, children}
 use Rattle.definition.specs.Run.{◌>>=◌, give}
 use Rattle.definition.specs.Rules.{judge, infer_rule, inf_if, branch}
 use Rattle.layout.specs.Sizes.{BOOL}
@@ -16,7 +16,6 @@ use Rattle.expressions.specs.declared.If.{If}
 use Rattle.expressions.specs.Forms.{IsIf, IfOf}
 use Rattle.judging.specs.declared.Answer.{Answer}
 use Rattle.judging.specs.declared.Here.{Here}
-use Rattle.judging.specs.declared.Rule.TheVariants as rule
 use Rattle.judging.specs.declared.Stop.{Stop}
 use Rattle.judging.specs.Asking.{here, infer_ask, check_ask}
 use Rattle.judging.specs.Ending.{Step, Judged, RunsJ, Fires}
@@ -91,8 +90,8 @@ module _ (m : Here) {q w : List ℕ} {s : State} {g : Span} {ex : ℕ} (pre : In
           pub if_unless : {e : Stop} {o : Step} → y ≡ Err e → IsErrAnd o (λ x. x ≡ e) → Fires m q w w₄ s g (infer_ask ex) o
           if_unless i h = rw (stop_is _ h ∙ sym i) (record { run = λ j k. otherwise _ _ (if_way₄ k) (if_runs k) (not_done i) })
 
-          pub if_done : {x : Answer} {o : Step} → y ≡ Ok x → PlainOut x.st x.g u.ty rule.InfIf 4 o → Fires m q w w₄ s g (infer_ask ex) o
-          unfolding children
+          pub if_done : {x : Answer} {o : Step} → y ≡ Ok x → PlainOut x.st x.g u.ty 7 4 o → Fires m q w w₄ s g (infer_ask ex) o
+          unfolding rule_number children
           if_done i fin = record {
             run = λ j k.
                 let b = back _ _ (if_way₄ k) (if_runs k) i in

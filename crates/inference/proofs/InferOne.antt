@@ -7,7 +7,7 @@ use native.Mathlib.Omega.{arith}
 use native.Mathlib.Numerals.{add-one}
 use Rattle.std.specs.Prelude.{Result as Outcome, Ok, Err, IsErrAnd}
 use Rattle.definition.specs.Syntax
-use Rattle.definition.specs.Syntax.{etvar, arrow, forall, Judgement, infer, check, leaf, ◌&◌, children, var_bnd, tvar_bnd, etvar_bnd}
+use Rattle.definition.specs.Syntax.{etvar, arrow, forall, Judgement, infer, check, leaf, ◌&◌, rule_number, children, var_bnd, tvar_bnd, etvar_bnd}
 use Rattle.definition.specs.Run.{◌>>=◌, and_then, give, fresh}
 use Rattle.definition.specs.Contexts.{k_var, k_tvar, ◌▹◌, solved_and_right}
 use Rattle.definition.specs.Types.{apply}
@@ -35,7 +35,6 @@ use Rattle.contexts.proofs.Build.{small_one, push_one}
 use Rattle.substitution.specs.Calls.{ApplyPre, Applied}
 use Rattle.judging.specs.declared.Answer.{Answer}
 use Rattle.judging.specs.declared.Here.{Here}
-use Rattle.judging.specs.declared.Rule.TheVariants as rule
 use Rattle.judging.specs.declared.Stop.{Stop}
 use Rattle.judging.specs.declared.Stop.TheVariants.{Spent}
 use Rattle.judging.specs.Asking.{here, EntryFrom, infer_ask, check_ask}
@@ -67,8 +66,8 @@ module _ (m : Here) {q w : List ℕ} {s : State} {g : Span} {ex : ℕ} (pre : In
   ann_asks = record { at = λ j k. ask_check (infer_asked ex k).run (ann k).part (written (ann k).type) }
 
   pub ann_done : {w₁ : List ℕ} {z y : Step} {r : Answer} → Judged m q w w₁ s g (check_ask p.e p.ty) z → z ≡ Ok r
-      → PlainOut r.st r.g p.ty rule.InfAnn 1 y → Fires m q w w₁ s g (infer_ask ex) y
-  unfolding children
+      → PlainOut r.st r.g p.ty 12 1 y → Fires m q w w₁ s g (infer_ask ex) y
+  unfolding rule_number children
   ann_done call d fin = record {
     run = λ j k.
         let b = returns ann_asks call d k in
@@ -106,8 +105,8 @@ module _ (m : Here) {q w : List ℕ} {s : State} {g : Span} {ex : ℕ} (pre : In
     }
 
     pub abs_done : {w₂ w₃ : List ℕ} {z y : Step} {r : Answer} → Judged m q w₁ w₂ o.st o.g (check_ask p.body o.b) z → z ≡ Ok r
-        → KeepOut true w₂ w₃ r (k_var (tm p.x)) o.ty rule.InfLam 1 y → Fires m q w w₃ s g (infer_ask ex) y
-    unfolding children kept
+        → KeepOut true w₂ w₃ r (k_var (tm p.x)) o.ty 4 1 y → Fires m q w w₃ s g (infer_ask ex) y
+    unfolding rule_number children kept
     abs_done call d fin = record {
       run = λ j k.
           let b = returns abs_asks call d k in let u = lam k in
@@ -161,7 +160,7 @@ module _ (m : Here) {q w : List ℕ} {s : State} {g : Span} {ex : ℕ} (pre : In
               record { held = room_held rm u.den; below = u.run.below; room = omega (arith, rm.fits); low = rm.low }
 
           pub tabs_done : {w₄ : List ℕ} {y : Step} → TabsOut q w₃ w₄ t.st r.g (ty p.a) t.ty y → Fires m q w w₄ s g (infer_ask ex) y
-          unfolding children
+          unfolding rule_number children
           tabs_done fin = record {
             run = λ j k.
                 let u = tabs_applied k in
@@ -199,8 +198,8 @@ module _ (m : Here) {q w : List ℕ} {s : State} {g : Span} {ex : ℕ} (pre : In
         run = λ j k. let b = tapp_back k in there (λ u. u.st) (DenOne q w₂) _ _ b.way (o.passes _ _ b.den (written (tapp k).type)) f;
       })
 
-      pub tapp_done : {t : Made} {y : Step} → v ≡ Ok t → PlainOut t.st r.g t.ty rule.InfTApp 1 y → Fires m q w w₂ s g (infer_ask ex) y
-      unfolding children
+      pub tapp_done : {t : Made} {y : Step} → v ≡ Ok t → PlainOut t.st r.g t.ty 14 1 y → Fires m q w w₂ s g (infer_ask ex) y
+      unfolding rule_number children
       tapp_done f fin = record {
         run = λ j k.
             let b = tapp_back k in

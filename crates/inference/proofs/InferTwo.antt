@@ -1,5 +1,5 @@
 -- The rules of infer that ask two judgements: InfApp, InfLet, and the operators.
-use mathlib.Core.Path.{◌≡◌, refl}
+use mathlib.Core.Path.{◌≡◌, refl, ◌∙◌, ap}
 use mathlib.Core.Bool.{true}
 use mathlib.Core.List.{List, [], ◌∷◌}
 use Prim.Native.Nat.{ℕ}
@@ -7,7 +7,7 @@ use native.Mathlib.Omega.{arith}
 use Rattle.std.specs.Option.{unwrap_or}
 use Rattle.std.specs.Prelude.{Option, Some, None, Result as Outcome, Ok, Err, IsErrAnd}
 use Rattle.definition.specs.Syntax
-use Rattle.definition.specs.Syntax.{pick, Ty, Expr, Ctx, Judgement, infer, check, infer_app, Trees, leaf, ◌&◌, children, var_bnd}
+use Rattle.definition.specs.Syntax.{pick, Ty, Expr, Ctx, Judgement, infer, check, infer_app, Trees, leaf, ◌&◌, rule_number, children, var_bnd}
 use Rattle.definition.specs.Run.{Out, M, ◌>>=◌, give}
 use Rattle.definition.specs.Contexts.{k_var, ◌▹◌, solved_and_right}
 use Rattle.definition.specs.Types.{apply}
@@ -29,10 +29,10 @@ use Rattle.contexts.specs.Build.{Space, SmallEntries, Pushed}
 use Rattle.contexts.specs.declared.Opened.{Opened}
 use Rattle.contexts.proofs.Build.{small_one, push_one}
 use Rattle.substitution.specs.Calls.{ApplyPre, Applied}
+use Rattle.judging.specs.Names.{rule_of}
 use Rattle.judging.specs.declared.Answer.{Answer}
 use Rattle.judging.specs.declared.Ask.{Ask}
 use Rattle.judging.specs.declared.Here.{Here}
-use Rattle.judging.specs.declared.Rule.TheVariants as rule
 use Rattle.judging.specs.declared.Stop.TheVariants.{Spent}
 use Rattle.judging.specs.Asking.{here, EntryFrom, infer_ask, check_ask, app_ask}
 use Rattle.judging.specs.Ending.{Step, Judged, Fires}
@@ -85,8 +85,8 @@ module _ (m : Here) {q w : List ℕ} {s : State} {g : Span} {ex : ℕ} (pre : In
         app_asks₂ = record { at = λ j k. let u = app_applied k in ask_app u.run (app k).arg u.den }
 
         pub app_done : {w₃ : List ℕ} {y o : Step} {u : Answer} → Judged m q w₂ w₃ t.st r.g (app_ask t.ty p.arg) y → y ≡ Ok u
-            → PlainOut u.st u.g u.ty rule.InfApp 2 o → Fires m q w w₃ s g (infer_ask ex) o
-        unfolding children
+            → PlainOut u.st u.g u.ty 5 2 o → Fires m q w w₃ s g (infer_ask ex) o
+        unfolding rule_number children
         app_done call₂ d₂ fin = record {
           run = λ j k.
               let b = returns app_asks₂ call₂ d₂ k in
@@ -133,8 +133,8 @@ module _ (m : Here) {q w : List ℕ} {s : State} {g : Span} {ex : ℕ} (pre : In
       let_asks₂ = record { at = λ j k. let b = let_back k in ask_infer (push_one i b.run (as_var made b.den)) (lets k).body }
 
       pub let_done : {w₃ w₄ : List ℕ} {y v : Step} {u : Answer} → Judged m q w₂ w₃ o.st o.g (infer_ask p.body) y → y ≡ Ok u
-          → KeepOut true w₃ w₄ u (k_var (tm p.x)) u.ty rule.InfLet 2 v → Fires m q w w₄ s g (infer_ask ex) v
-      unfolding children kept
+          → KeepOut true w₃ w₄ u (k_var (tm p.x)) u.ty 6 2 v → Fires m q w w₄ s g (infer_ask ex) v
+      unfolding rule_number children kept
       let_done call₂ d₂ fin = record {
         run = λ j k.
             let b = returns let_asks₂ call₂ d₂ k in
@@ -188,11 +188,11 @@ module _ (m : Here) {q w : List ℕ} {s : State} {g : Span} {ex : ℕ} (pre : In
         at = λ j k. let b = op_back k in ask_check b.run (op k).right (rw e (right_den o.against b.den (λ a i. by.side i b.way.room.base)));
       }
 
-      pub op_done : {w₂ : List ℕ} {y x : Step} {v : Answer} → Judged m q w₁ w₂ r.st r.g (check_ask p.right t) y → y ≡ Ok v
-          → PlainOut v.st v.g o.gives o.rule 2 x → Fires m q w w₂ s g (infer_ask ex) x
+      pub op_done : {n : ℕ} {w₂ : List ℕ} {y x : Step} {v : Answer} → Judged m q w₁ w₂ r.st r.g (check_ask p.right t) y → y ≡ Ok v
+          → n ≡ rule_number (rule_of o.rule) → PlainOut v.st v.g o.gives n 2 x → Fires m q w w₂ s g (infer_ask ex) x
       unfolding children
-      op_done call₂ d₂ fin = record {
+      op_done call₂ d₂ e fin = record {
         run = λ j k.
             let b = returns op_asks₂ call₂ d₂ k in
-            finish by.r (fin.finished _ _) b.run (by.gives b.way.room.base) b.way (omega arith) by.rule refl (omega arith);
+            finish by.r (fin.finished _ _) b.run (by.gives b.way.room.base) b.way (omega arith) (e ∙ ap rule_number by.rule) refl (omega arith);
       }

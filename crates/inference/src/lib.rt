@@ -10,7 +10,7 @@ ghost use Rattle.inference.specs.Rules.{Operates, Related};
 
 use expressions::Form as Expr;
 use judging::{Ask, Here, Rule, Step};
-use layout::{BOOL, INT, Key, Kind, Span, State};
+use layout::{BOOL, INT, Key, Kind, Span, State, word};
 use types::{Form, Store};
 
 // ---- infer
@@ -24,7 +24,7 @@ pub fn infer(q: &[u32], work: &mut [u32], h: Here, st: State, g: Span, ex: usize
     let inner = judging::enter(st, g)?;
     let z = inf_rule(q, work, h, inner, g, ex);
     let ask = Ask {
-        kind: Kind::Infer,
+        kind: Kind::Infer as usize,
         ex,
         left: 0,
         right: 0,
@@ -61,7 +61,7 @@ fn infer_ann(q: &[u32], work: &mut [u32], h: Here, st: State, g: Span, ex: usize
 {
     let p = expressions::typed_of(q, work, ex);
     let r = check(q, work, h, st, g, p.e, p.ty)?;
-    Ok(rules::plain_out(r.st, r.g, p.ty, Rule::InfAnn, 1))
+    Ok(rules::plain_out(r.st, r.g, p.ty, Rule::InfAnn as usize, 1))
 }
 
 // InfLam: the body is checked against a fresh unknown; solved entries of left, then right.
@@ -73,7 +73,7 @@ fn infer_abs(q: &[u32], work: &mut [u32], h: Here, st: State, g: Span, ex: usize
     let p = expressions::abs_of(q, work, ex);
     let o = rules::lam_in(q, work, h, st, g, p.x, p.ty);
     let r = check(q, work, h, o.st, o.g, p.body, o.b)?;
-    Ok(rules::keep_out(work, true, r, Key::Var(p.x), o.ty, Rule::InfLam, 1))
+    Ok(rules::keep_out(work, true, r, Key::Var(p.x), o.ty, Rule::InfLam as usize, 1))
 }
 
 // InfApp: the function's type, with the context applied, takes the argument.
@@ -86,7 +86,7 @@ fn infer_application(q: &[u32], work: &mut [u32], h: Here, st: State, g: Span, e
     let r = infer(q, work, h, st, g, p.func)?;
     let applied = substitution::apply_ctx_type(q, work, r.st, r.g, r.ty)?;
     let u = infer_app(q, work, h, applied.st, r.g, applied.ty, p.arg)?;
-    Ok(rules::plain_out(u.st, u.g, u.ty, Rule::InfApp, 2))
+    Ok(rules::plain_out(u.st, u.g, u.ty, Rule::InfApp as usize, 2))
 }
 
 // InfTAbs: the body is inferred under the name; solved entries of left, then right.
@@ -112,7 +112,7 @@ fn infer_tapp(q: &[u32], work: &mut [u32], h: Here, st: State, g: Span, ex: usiz
     let p = expressions::typed_of(q, work, ex);
     let r = infer(q, work, h, st, g, p.e)?;
     let made = rules::instantiate(q, work, r.st, r.ty, p.ty)?;
-    Ok(rules::plain_out(made.st, r.g, made.ty, Rule::InfTApp, 1))
+    Ok(rules::plain_out(made.st, r.g, made.ty, Rule::InfTApp as usize, 1))
 }
 
 // InfLet: the body is inferred under the name with the first expression's type; solved entries of left, then right.
@@ -126,7 +126,7 @@ fn infer_let(q: &[u32], work: &mut [u32], h: Here, st: State, g: Span, ex: usize
     let e = judging::entry(h, Key::Var(p.x), r.ty);
     let o = contexts::push(work, r.st, r.g, [e]);
     let u = infer(q, work, h, o.st, o.g, p.body)?;
-    Ok(rules::keep_out(work, true, u, Key::Var(p.x), u.ty, Rule::InfLet, 2))
+    Ok(rules::keep_out(work, true, u, Key::Var(p.x), u.ty, Rule::InfLet as usize, 2))
 }
 
 // InfIf: a Bool, two branches, the first's type below the second's; strict mode applies the context to both before.
@@ -140,7 +140,7 @@ fn infer_if(q: &[u32], work: &mut [u32], h: Here, st: State, g: Span, ex: usize)
     let u = infer(q, work, h, r.st, r.g, p.yes)?;
     let v = infer(q, work, h, u.st, u.g, p.no)?;
     let o = subtype_applied(q, work, h, h.manner.applies_branches, v.st, v.g, u.ty, v.ty)?;
-    Ok(rules::plain_out(o.st, o.g, u.ty, Rule::InfIf, 4))
+    Ok(rules::plain_out(o.st, o.g, u.ty, Rule::InfIf as usize, 4))
 }
 
 // What an operator's rule asks: the type that its left side is checked against (None where it is inferred), the result; and which it is.
@@ -183,7 +183,7 @@ fn infer_binop(q: &[u32], work: &mut [u32], h: Here, st: State, g: Span, ex: usi
     }?;
     let ty = sides.against.unwrap_or(r.ty);
     let u = check(q, work, h, r.st, r.g, p.right, ty)?;
-    Ok(rules::plain_out(u.st, u.g, sides.gives, sides.rule, 2))
+    Ok(rules::plain_out(u.st, u.g, sides.gives, sides.rule.number(), 2))
 }
 
 // ---- check
@@ -197,7 +197,7 @@ pub fn check(q: &[u32], work: &mut [u32], h: Here, st: State, g: Span, ex: usize
     let inner = judging::enter(st, g)?;
     let z = chk_rule(q, work, h, inner, g, ex, ty);
     let ask = Ask {
-        kind: Kind::Check,
+        kind: Kind::Check as usize,
         ex,
         left: 0,
         right: ty,
@@ -216,7 +216,7 @@ fn chk_rule(q: &[u32], work: &mut [u32], h: Here, st: State, g: Span, ex: usize,
         work,
         top: st.top,
     };
-    let rule = rules::check_choice(expressions::form_of(q, ex), store.form(ty));
+    let rule = rules::check_choice(word(q, ex), store.tag(ty));
     match rule {
         Rule::ChkLitInt | Rule::ChkLitBool => rules::check_lit(q, work, h, st, g, ex, ty, rule),
         Rule::ChkLam => chk_lam(q, work, h, st, g, ex, ty),
@@ -242,7 +242,7 @@ fn chk_lam(q: &[u32], work: &mut [u32], h: Here, st: State, g: Span, ex: usize, 
     let e = judging::entry(h, Key::Var(l.x), p);
     let o = contexts::push(work, compared, g, [e]);
     let r = check(q, work, h, o.st, o.g, l.body, c)?;
-    Ok(rules::keep_out(work, false, r, Key::Var(l.x), INT, Rule::ChkLam, 1))
+    Ok(rules::keep_out(work, false, r, Key::Var(l.x), INT, Rule::ChkLam as usize, 1))
 }
 
 // ChkAll: under the name that the Forall binds; right alone.
@@ -253,7 +253,15 @@ fn chk_all(q: &[u32], work: &mut [u32], h: Here, st: State, g: Span, ex: usize, 
 {
     let o = rules::open_right(q, work, h, st, g, ty);
     let r = check(q, work, h, o.st, o.g, ex, o.ty)?;
-    Ok(rules::keep_out(work, false, r, Key::TVar(o.b), INT, Rule::ChkAll, 1))
+    Ok(rules::keep_out(
+        work,
+        false,
+        r,
+        Key::TVar(o.b),
+        INT,
+        Rule::ChkAll as usize,
+        1,
+    ))
 }
 
 // ChkSub: the inferred type below the expected one, both with the context applied.
@@ -264,7 +272,7 @@ fn chk_sub(q: &[u32], work: &mut [u32], h: Here, st: State, g: Span, ex: usize, 
 {
     let r = infer(q, work, h, st, g, ex)?;
     let u = subtype_applied(q, work, h, true, r.st, r.g, r.ty, ty)?;
-    Ok(rules::plain_out(u.st, u.g, INT, Rule::ChkSub, 2))
+    Ok(rules::plain_out(u.st, u.g, INT, Rule::ChkSub as usize, 2))
 }
 
 // subtype of two types, with the context applied to both where `applies`.
@@ -304,7 +312,7 @@ pub fn infer_app(
     let inner = judging::enter(st, g)?;
     let z = app_rule(q, work, h, inner, g, ty, ex);
     let ask = Ask {
-        kind: Kind::InferApp,
+        kind: Kind::InferApp as usize,
         ex,
         left: ty,
         right: 0,
@@ -343,7 +351,7 @@ fn app_arr(q: &[u32], work: &mut [u32], h: Here, st: State, g: Span, ty: usize, 
     };
     let (a, c) = (store.left_of(ty), store.right_of(ty));
     let r = check(q, work, h, st, g, ex, a)?;
-    Ok(rules::plain_out(r.st, r.g, c, Rule::InfAppArr, 1))
+    Ok(rules::plain_out(r.st, r.g, c, Rule::InfAppArr as usize, 1))
 }
 
 // InfAppETVar: the unknown becomes an Arrow of two fresh ones.
@@ -360,5 +368,5 @@ fn app_etvar(q: &[u32], work: &mut [u32], h: Here, st: State, g: Span, ty: usize
     let a = store.name_of(ty);
     let o = rules::part(q, work, h, st, g, a);
     let r = check(q, work, h, o.st, o.g, ex, o.b)?;
-    Ok(rules::plain_out(r.st, r.g, o.c, Rule::InfAppETVar, 1))
+    Ok(rules::plain_out(r.st, r.g, o.c, Rule::InfAppETVar as usize, 1))
 }

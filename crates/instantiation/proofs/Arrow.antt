@@ -6,7 +6,7 @@ use native.Mathlib.Nat.{le_refl}
 use native.Mathlib.Omega.{arith}
 use Rattle.std.specs.Prelude.{Result, Ok, Err}
 use Rattle.definition.specs.Syntax as syntax
-use Rattle.definition.specs.Syntax.{Ty, int, etvar, arrow, Side, Judgement, inst, leaf, ◌&◌, children}
+use Rattle.definition.specs.Syntax.{Ty, int, etvar, arrow, Side, Judgement, inst, rule_number, leaf, ◌&◌, children}
 use Rattle.definition.specs.Run.{Out, done, and_then, give}
 use Rattle.definition.specs.Types.{apply}
 use Rattle.definition.specs.Rules.{Fired, other, inst_arr, split, rule, judge}
@@ -27,10 +27,8 @@ use Rattle.substitution.proofs.Passing.{Reached, reached}
 use Rattle.substitution.proofs.Passing as passing
 use Rattle.judging.specs.Asking.{here, Asks, inst_ask, JudgePre}
 use Rattle.judging.specs.Ending.{Step, Judged, Fires}
-use Rattle.judging.specs.Names.{rule_of}
 use Rattle.judging.specs.declared.Answer.{Answer}
 use Rattle.judging.specs.declared.Here.{Here}
-use Rattle.judging.specs.declared.Rule.{Rule}
 use Rattle.judging.specs.declared.Stop.TheVariants.{Spent}
 use Rattle.judging.proofs.Asking.{InstAsked, inst_asked, asks_inst}
 use Rattle.judging.proofs.Steps.{NotDone, Came}
@@ -213,7 +211,7 @@ module _ {t : ℕ} (h : Halved t) where
             pub arr_else₂ : NotDone z₂ → Ends w₄ z₂
             arr_else₂ nd = else_fires (λ j k. record { ts = _; so = so₃ k; i = _; asks = asks₂ k; next = _; says = says₃ k }) call₂ nd
 
-            pub arr_done : {u₂ : Answer} {n : Rule} {x : Step} → z₂ ≡ Ok u₂ → rule_of n ≡ inst_arr h.sd → PlainOut u₂.st u₂.g INT n 2 x → Ends w₄ x
+            pub arr_done : {u₂ : Answer} {n : ℕ} {x : Step} → z₂ ≡ Ok u₂ → n ≡ rule_number (inst_arr h.sd) → PlainOut u₂.st u₂.g INT n 2 x → Ends w₄ x
             unfolding children
             arr_done d₂ number th = record {
               run = λ j k. through_ends (so₃ k) call₂ (asks₂ k) d₂ (inst_arr h.sd) number (λ t. refl) (omega arith) th _ (says₃ k);

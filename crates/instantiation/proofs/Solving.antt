@@ -7,12 +7,12 @@ use native.Mathlib.Nat.{le_refl}
 use native.Mathlib.Omega.{arith}
 use Rattle.std.specs.Prelude.{Err}
 use Rattle.definition.specs.Syntax as syntax
-use Rattle.definition.specs.Syntax.{Ty, int, etvar, setvar_bnd, Ctx, Side, Judgement, inst, Rule, leaf, children, occurs_check}
+use Rattle.definition.specs.Syntax.{Ty, int, etvar, setvar_bnd, Ctx, Side, Judgement, inst, Rule, rule_number, leaf, children, occurs_check}
 use Rattle.definition.specs.Run.{Out, done}
 use Rattle.definition.specs.Contexts.{before, replace}
 use Rattle.definition.specs.Types.{is_mono, occurs}
 use Rattle.definition.specs.Rules.{Fired, ◌from◌, inst_solve, inst_reach, rule, judge}
-use Rattle.definition.specs.Reply.{error_at}
+use Rattle.definition.specs.Reply.{error_code, error_at}
 use Rattle.layout.specs.Names.{ty}
 use Rattle.layout.specs.Words.{Keep}
 use Rattle.layout.specs.Denotes.{Den, Run}
@@ -27,7 +27,7 @@ use Rattle.walks.specs.Walks.{Occurs}
 use Rattle.contexts.proofs.Build.{replace_one}
 use Rattle.judging.specs.Asking.{here, inst_ask, RulePre}
 use Rattle.judging.specs.Ending.{Step, shown_one, Failed, RunsR, Fires}
-use Rattle.judging.specs.Names.{rule_of}
+use Rattle.judging.specs.Names.{rule_of, error_of}
 use Rattle.judging.specs.declared.Here.{Here}
 use Rattle.judging.specs.declared.Shown.TheVariants.{OneType}
 use Rattle.judging.specs.declared.Rule as program
@@ -57,7 +57,7 @@ closed {w = w} {w₁} {s} {g} R e ex room run d c O eq =
     let lo = p.low in
     let kp : Keep s.top s.low w w₁ = keep_less (le_refl _) (omega (arith, room.fits)) c.replaced.grown.keep in
     rw c.is
-    (ends c.o.st c.o.g R e refl (omega arith) (built c.o.st begin kp (omega arith) lo (omega arith))
+    (ends c.o.st c.o.g R (ap rule_number e) refl (omega arith) (built c.o.st begin kp (omega arith) lo (omega arith))
     (room_on c.o.st 4 room kp (omega arith) (omega arith) (omega (arith, room.fits)) (omega (arith, room.names)))
     (rw ex at (replace_one c.replaced run (as_solved c.made d))) O (rw (lf, ff) eq))
 
@@ -92,14 +92,14 @@ module _ {q w : List ℕ} {s : State} {g : Span} {sd : Side} {a t : ℕ} (pre : 
   late Γ v T r d e y eq = pre.late.is Γ v y r d (rw eq at e)
 
   pub solve_occurs : {m : Here} {z : Stop} → b ≡ true
-      → z ≡ Fail (record { st = s; error = OccursCheck; name = x.0; shown = OneType t; charge = 0 })
+      → z ≡ Fail (record { st = s; code = error_code (error_of OccursCheck); name = x.0; shown = OneType t; charge = 0 })
       → Fires m q w w s g (inst_ask sd a t) (Err z)
   unfolding error_at
   solve_occurs {m} h i = rw i (record {
     run = λ j k.
         let v = inst_asked sd a t k in
-        let f : Failed q w (record { st = s; error = OccursCheck; name = x.0; shown = OneType t; charge = 0 }) (occurs_check v.x v.T) s.left =
-        record { base = pre.pre.room.base; within = room_within pre.pre.room; error = refl; name = ap (λ (y : syntax.TyVar). y.number) (nm.of_etvar v.x v.unknown); shown = shown_one v.den; left = refl } in
+        let f : Failed q w (record { st = s; code = error_code (error_of OccursCheck); name = x.0; shown = OneType t; charge = 0 }) (occurs_check v.x v.T) s.left =
+        record { base = pre.pre.room.base; within = room_within pre.pre.room; code = refl; name = ap (λ (y : syntax.TyVar). y.number) (nm.of_etvar v.x v.unknown); shown = shown_one v.den; left = refl } in
         refuses begin f _
         (ap (λ (i : Judgement). rule (here m) (judge (here m)) i s.left s.fresh) v.is
         ∙ occurs_is (here m) (judge (here m)) v.Γ v.x s.left s.fresh sd v.T (pre.plain v.T v.den)

@@ -1,6 +1,6 @@
 -- What the rules of instantiation require and ensure, on either side.
 use Rattle.std.specs.Prelude.{◌≡◌, Bool, true, false, List, [], ◌∷◌, ℕ, ◌<◌, Ok}
-use Rattle.definition.specs.Syntax.{TyVar, Ty, etvar, Ctx, Side, on_l, on_r}
+use Rattle.definition.specs.Syntax.{TyVar, Ty, etvar, Ctx, Side, on_l, on_r, rule_number}
 use Rattle.definition.specs.Contexts.{before}
 use Rattle.definition.specs.Rules.{ty_code}
 use Rattle.layout.specs.Sizes.{INT}
@@ -15,6 +15,7 @@ use Rattle.judging.specs.Asking.{EntryFrom, inst_ask, RulePre}
 use Rattle.judging.specs.declared.Here.{Here}
 use Rattle.judging.specs.declared.Rule.{Rule}
 use Rattle.judging.specs.Ending.{Step}
+use Rattle.judging.specs.Names.{rule_of}
 use Rattle.contexts.specs.Build.{Replaced}
 use Rattle.contexts.specs.declared.Opened.{Opened}
 use Rattle.rules.specs.declared.Side as program
@@ -58,4 +59,4 @@ pub record SolvedBy (h : Here) (w w' : List ℕ) (s : State) (g : Span) (a : dec
   pub e : Entry
   pub made : EntryFrom h (SETVar a) r e
   pub replaced : Replaced w w' s g (ty a) (e ∷ []) o
-  pub is : z ≡ Ok (record { st = o.st; g = o.g; ty = INT; rule = n; kids = 0; charge = 0 })
+  pub is : z ≡ Ok (record { st = o.st; g = o.g; ty = INT; rule = rule_number (rule_of n); kids = 0; charge = 0 })

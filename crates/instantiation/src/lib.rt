@@ -40,13 +40,13 @@ fn asked(s: Side, a: usize, ty: usize) -> Ask
 {
     match s {
         Side::L => Ask {
-            kind: Kind::InstL,
+            kind: Kind::InstL as usize,
             ex: 0,
             left: a,
             right: ty,
         },
         Side::R => Ask {
-            kind: Kind::InstR,
+            kind: Kind::InstR as usize,
             ex: 0,
             left: ty,
             right: a,
@@ -65,7 +65,7 @@ fn solved(work: &mut [u32], h: Here, st: State, g: Span, a: TyVar, r: usize, rul
         st: o.st,
         g: o.g,
         ty: INT,
-        rule,
+        rule: rule.number(),
         kids: 0,
         charge: 0,
     })
@@ -250,7 +250,7 @@ fn inst_arr(
     let applied = substitution::apply_ctx_type(q, work, r.st, r.g, right)?;
     let u = inst_on(q, work, h, applied.st, r.g, s, o.c, applied.ty)?;
     let rule = one(s, Rule::InstLArr, Rule::InstRArr);
-    Ok(rules::plain_out(u.st, u.g, INT, rule, 2))
+    Ok(rules::plain_out(u.st, u.g, INT, rule.number(), 2))
 }
 
 // InstLAllR, InstRAllL: the Forall, on the other side, opened; of the output what stands right of what opening pushed.
@@ -273,5 +273,5 @@ fn inst_all(
     let r = inst_on(q, work, h, o.st, o.g, s, a, o.ty)?;
     let rule = one(s, Rule::InstLAllR, Rule::InstRAllL);
     let k = rules::pushed(back, o.b);
-    Ok(rules::keep_out(work, false, r, k, INT, rule, 1))
+    Ok(rules::keep_out(work, false, r, k, INT, rule.number(), 1))
 }

@@ -8,7 +8,6 @@ use Rattle.layout.specs.Sizes.{BASE}
 use Rattle.layout.specs.Places.{ExprAt}
 use Rattle.layout.specs.Denotes.{Den, Run}
 use Rattle.layout.specs.declared.Span.{Span}
-use Rattle.layout.specs.Kinds.{kind_number}
 use Rattle.layout.proofs.Numbered.{nth}
 use Rattle.judging.specs.declared.Ask.{Ask}
 use Rattle.judging.specs.Asking.{Asks, as_infer, as_check, as_app, as_sub, as_inst_l, as_inst_r, infer_ask, check_ask, app_ask, sub_ask, inst_ask, Small}
@@ -16,20 +15,20 @@ use Rattle.judging.specs.Asking.{Asks, as_infer, as_check, as_app, as_sub, as_in
 -- ## Small enough to be written
 
 pub small_infer : (e : ℕ) → e < BASE → Small (infer_ask e)
-small_infer e h = record { ex = omega arith; left = omega arith; right = omega arith }
+small_infer e h = record { kind = omega arith; ex = omega arith; left = omega arith; right = omega arith }
 
 pub small_check : (e B : ℕ) → e < BASE → B < 2 ^ 32 → Small (check_ask e B)
-small_check e B h k = record { ex = omega arith; left = omega arith; right = k }
+small_check e B h k = record { kind = omega arith; ex = omega arith; left = omega arith; right = k }
 
 pub small_app : (A e : ℕ) → A < 2 ^ 32 → e < BASE → Small (app_ask A e)
-small_app A e h k = record { ex = omega arith; left = h; right = omega arith }
+small_app A e h k = record { kind = omega arith; ex = omega arith; left = h; right = omega arith }
 
 pub small_sub : {A B : ℕ} → A < 2 ^ 32 → B < 2 ^ 32 → Small (sub_ask A B)
-small_sub h k = record { ex = omega arith; left = h; right = k }
+small_sub h k = record { kind = omega arith; ex = omega arith; left = h; right = k }
 
 pub small_inst : (s : Side) {a T : ℕ} → a < 2 ^ 32 → T < 2 ^ 32 → Small (inst_ask s a T)
-small_inst on_l h k = record { ex = omega arith; left = h; right = k }
-small_inst on_r h k = record { ex = omega arith; left = k; right = h }
+small_inst on_l h k = record { kind = omega arith; ex = omega arith; left = h; right = k }
+small_inst on_r h k = record { kind = omega arith; ex = omega arith; left = k; right = h }
 
 -- ## Taken apart
 
@@ -68,13 +67,13 @@ pub record InstAsked (q w : List ℕ) (t : ℕ) (g : Span) (s : Side) (a b : ℕ
   pub unknown : Den q w t a (etvar x)
   pub den : Den q w t b T
 
--- what a judgement of the kind of number k is
+-- what a judgement of kind k is
 abbrev AskedAs : List ℕ → List ℕ → ℕ → Span → Ask → Judgement → ℕ → Type 0
 AskedAs q w t g a j k =
     nth (InferAsked q w t g a.ex j ∷ TypedAsked check q w t g a.ex a.right j ∷ TypedAsked infer_app q w t g a.ex a.left j
     ∷ SubAsked q w t g a.left a.right j ∷ InstAsked q w t g on_l a.left a.right j ∷ InstAsked q w t g on_r a.right a.left j ∷ []) (k - 1)
 
-asked : {q w : List ℕ} {t : ℕ} {g : Span} {a : Ask} {j : Judgement} → Asks q w t g a j → AskedAs q w t g a j (kind_number a.kind)
+asked : {q w : List ℕ} {t : ℕ} {g : Span} {a : Ask} {j : Judgement} → Asks q w t g a j → AskedAs q w t g a j a.kind
 asked (as_infer {Γ = Γ} {e = e} k r x) = rw k (record { Γ = Γ; e = e; is = refl; run = r; at = x })
 asked (as_check {Γ = Γ} {e = e} {B = B} k r x d) = rw k (record { Γ = Γ; e = e; T = B; is = refl; run = r; at = x; den = d })
 asked (as_app {Γ = Γ} {e = e} {A = A} k r x d) = rw k (record { Γ = Γ; e = e; T = A; is = refl; run = r; at = x; den = d })

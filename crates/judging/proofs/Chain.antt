@@ -6,7 +6,7 @@ use native.Mathlib.Nat.{le_trans, le_refl}
 use native.Mathlib.Omega.{arith}
 use lib.ListN.{length}
 use Rattle.std.specs.Prelude.{Ok, Err}
-use Rattle.definition.specs.Syntax.{Ty, Ctx, Judgement, Trees, leaf, ◌&◌, children, TypeError}
+use Rattle.definition.specs.Syntax.{Ty, Ctx, Judgement, Rule, rule_number, Trees, leaf, ◌&◌, children, TypeError}
 use Rattle.definition.specs.Run.{Out, done, fail, stop, M, and_then}
 use Rattle.definition.specs.Rules.{Fired, Result, judge}
 use Rattle.layout.specs.Sizes.{CAP}
@@ -21,11 +21,9 @@ use Rattle.judging.specs.declared.Ask.{Ask}
 use Rattle.judging.specs.declared.Answer.{Answer}
 use Rattle.judging.specs.declared.Bad.{Bad}
 use Rattle.judging.specs.declared.Here.{Here}
-use Rattle.judging.specs.declared.Rule as program
 use Rattle.judging.specs.declared.Stop.TheVariants.{Fail, Spent}
 use Rattle.judging.specs.Asking.{here, Asks, Ready}
 use Rattle.judging.specs.Nodes.{NodesAt, no_nodes}
-use Rattle.judging.specs.Names.{rule_of}
 use Rattle.judging.specs.Ending.{Step, Landed, Failed, fired, refused, out, RunsR, Judged}
 use Rattle.judging.proofs.Nodes.{nodes_frame, nodes_join, nodes_at, ◌+++◌}
 use Rattle.judging.proofs.Steps.{NotDone, Came, came, else_ends}
@@ -109,12 +107,12 @@ pub refuses : {q w w₁ : List ℕ} {s s₁ : State} {ts : Trees} {b : Bad} {x :
     → (R : Out Fired) → R ≡ fail x l → RunsR q w w₁ s (Err (Fail b)) R
 refuses so f R e = record { keep = so.keep; ends = rw e (refused f) }
 
-pub fires : {q w w₁ : List ℕ} {s : State} {ts : Trees} (s₁ : State) (g₁ : Span) (ty : ℕ) (r : program.Rule) {u : ℕ} {C : Ty} {Δ : Ctx} → Sofar q w w₁ s s₁ ts
+pub fires : {q w w₁ : List ℕ} {s : State} {ts : Trees} (s₁ : State) (g₁ : Span) (ty : ℕ) (r : Rule) {u : ℕ} {C : Ty} {Δ : Ctx} → Sofar q w w₁ s s₁ ts
     → Room q w₁ s₁ 4 → children ts < 5 → Run q w₁ s₁.top g₁.at g₁.n Δ → Den q w₁ s₁.top ty C
-    → (R : Out Fired) → R ≡ done (rule_of r, C, Δ, ts) s₁.left s₁.fresh
-    → RunsR q w w₁ s (Ok (record { st = s₁; g = g₁; ty = ty; rule = r; kids = children ts; charge = u })) R
+    → (R : Out Fired) → R ≡ done (r, C, Δ, ts) s₁.left s₁.fresh
+    → RunsR q w w₁ s (Ok (record { st = s₁; g = g₁; ty = ty; rule = rule_number r; kids = children ts; charge = u })) R
 fires {q} {w} {w₁} {s} {ts} s₁ g₁ ty r {u} {C} {Δ} so rm few rn dn R e =
-    let a : Answer = record { st = s₁; g = g₁; ty = ty; rule = r; kids = children ts; charge = u } in
+    let a : Answer = record { st = s₁; g = g₁; ty = ty; rule = rule_number r; kids = children ts; charge = u } in
     let y : Landed q w₁ s a 4 C Δ ts s₁.left s₁.fresh =
     record {
       run = rn;

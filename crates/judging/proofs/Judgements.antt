@@ -165,6 +165,7 @@ module _ {q w : List ℕ} {s : State} {g : Span} {a : Ask} (pre : JudgePre q w s
             out = omega (arith, x.run.below, x.room.fits, x.room.low, x.room.cap);
             n₂ = omega (arith, x.run.below, x.room.fits, x.room.low, x.room.cap);
             res = omega (arith, x.room.fits, x.room.low, x.room.cap);
+            rule = omega (arith, f.rule_is, rule_small f.r);
             kids = omega (arith, f.kids_is, f.few);
             less = omega (arith, x.less);
           }

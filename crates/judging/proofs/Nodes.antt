@@ -7,7 +7,6 @@ use native.Mathlib.Omega.{arith}
 use lib.ListN.{get_or}
 use Rattle.definition.specs.Syntax.{Ty, Ctx, Judgement, given, Rule, Trees, leaf, ◌&◌}
 use Rattle.layout.specs.Words.{Keep, Put4}
-use Rattle.layout.specs.Kinds.{kind_number}
 use Rattle.layout.specs.Denotes.{Run}
 use Rattle.layout.specs.declared.Span.{Span}
 use Rattle.layout.proofs.Words.{keep_less, keep_trans}
@@ -105,10 +104,10 @@ node_keep p q r =
     keep_trans (keep_less (le_refl _) (omega arith) p.keep)
     (keep_trans (keep_less (omega arith) (omega arith) q.keep) (keep_less (omega arith) (omega arith) r.keep))
 
-pub node_words : {w w₁ w₂ w₃ : List ℕ} {m n rule kids ty k z : ℕ} {g h : Span} {a : Ask} → n ≡ rule → k ≡ kind_number a.kind
-    → Put4 w w₁ m n kids a.ex g.at → Put4 w₁ w₂ (m + 4) g.n a.left a.right h.at → Put4 w₂ w₃ (m + 8) h.n ty k z → NodeWords w₃ m rule kids g a h ty
-node_words {w₁ = w₁} {w₂ = w₂} {w₃ = w₃} {m = m} named asked p q r = record {
-  rule_is = first m (omega arith) (omega arith) ∙ p.w0 ∙ named;
+pub node_words : {w w₁ w₂ w₃ : List ℕ} {m rule kids ty z : ℕ} {g h : Span} {a : Ask} → Put4 w w₁ m rule kids a.ex g.at
+    → Put4 w₁ w₂ (m + 4) g.n a.left a.right h.at → Put4 w₂ w₃ (m + 8) h.n ty a.kind z → NodeWords w₃ m rule kids g a h ty
+node_words {w₁ = w₁} {w₂ = w₂} {w₃ = w₃} {m = m} p q r = record {
+  rule_is = first m (omega arith) (omega arith) ∙ p.w0;
   kids_is = first (m + 1) (omega arith) (omega arith) ∙ p.w1;
   place_is = first (m + 2) (omega arith) (omega arith) ∙ p.w2;
   in_at = first (m + 3) (omega arith) (omega arith) ∙ p.w3;
@@ -118,7 +117,7 @@ node_words {w₁ = w₁} {w₂ = w₂} {w₃ = w₃} {m = m} named asked p q r =
   out_at = second' 3 7 refl (omega arith) ∙ q.w3;
   out_n = r.w0;
   ty_is = third 1 9 refl ∙ r.w1;
-  kind_is = third 2 10 refl ∙ r.w2 ∙ asked;
+  kind_is = third 2 10 refl ∙ r.w2;
 }
   where
     first : (i : ℕ) → i < m + 4 → i < m + 8 → get_or w₃ i 0 ≡ get_or w₁ i 0

@@ -5,7 +5,6 @@ use Prim.Native.Nat.{ℕ, ◌+◌, ◌-◌, ◌≤◌}
 use native.Mathlib.Nat.{le_refl}
 use native.Mathlib.Omega.{arith}
 use Rattle.std.specs.Prelude.{Result, Ok, Err}
-use Rattle.definition.specs.Syntax.{rule_number}
 use Rattle.layout.specs.Words.{Keep}
 use Rattle.layout.specs.States.{lowered, Charges}
 use Rattle.layout.specs.declared.Spent as layout
@@ -20,7 +19,6 @@ use Rattle.judging.specs.declared.Ask.{Ask}
 use Rattle.judging.specs.declared.Bad.{Bad}
 use Rattle.judging.specs.declared.Stop.{Stop}
 use Rattle.judging.specs.declared.Stop.TheVariants.{Fail, Spent}
-use Rattle.judging.specs.Names.{rule_of}
 use Rattle.judging.specs.Ending.{Step}
 
 module _ {s : State} {g : Span} {z : Result State layout.Spent} (c : Charges s (g.n + 1) z) where
@@ -40,7 +38,7 @@ module _ {w : List ℕ} {s : State} {g : Span} {k : Ask} {a : Answer} {z : Resul
     conclude_less pre = let x = is_paid c e in rw x.is (omega (arith, pre.less))
 
     pub conclude_done : {w' : List ℕ} {u : ℕ} → ConcludePre w s g k a → u ≡ s.left - p.left → Keep (s.low - 12) (s.low - 12 + 12) w w'
-        → NodeWords w' (s.low - 12) (rule_number (rule_of a.rule)) a.kids g k a.g a.ty
+        → NodeWords w' (s.low - 12) a.rule a.kids g k a.g a.ty
         → Concludes w w' s g k a (Ok (record { st = p; g = a.g; ty = a.ty; rule = a.rule; kids = a.kids; charge = u }))
     conclude_done pre f kp nw =
         let x = is_paid c e in
@@ -58,7 +56,7 @@ module _ {w : List ℕ} {s : State} {g : Span} {k : Ask} {z : Step} where
   leave_conclude d h = rw d (concluded h)
 
   pub leave_fail : {b : Bad} {u : ℕ} → z ≡ Err (Fail b) → u ≡ s.left - b.st.left
-      → Left w w s g k z (Err (Fail (record { st = b.st; error = b.error; name = b.name; shown = b.shown; charge = u })))
+      → Left w w s g k z (Err (Fail (record { st = b.st; code = b.code; name = b.name; shown = b.shown; charge = u })))
   leave_fail d f = rw (d, f) (failed_on refl)
 
   pub leave_spent : z ≡ Err Spent → Left w w s g k z (Err Spent)

@@ -6,7 +6,7 @@ use native.Mathlib.Omega.{arith}
 use lib.ListN.{length}
 use Rattle.std.specs.Prelude.{Result as Outcome, Ok, Err, IsErrAnd}
 use Rattle.std.proofs.lemmas.Result.{err_from_is_err_and}
-use Rattle.definition.specs.Syntax.{Ty, Ctx, Judgement, given, Rule, Tree, node, Trees, leaf, ◌&◌, children, TypeError}
+use Rattle.definition.specs.Syntax.{Ty, Ctx, Judgement, given, Rule, rule_number, Tree, node, Trees, leaf, ◌&◌, children, TypeError}
 use Rattle.definition.specs.Run.{Out, done, fail, stop, M, and_then, ◌>>=◌, give, charge}
 use Rattle.definition.specs.Rules.{Fired, Result, Here, rule, judge_step, judge}
 use Rattle.laws.proofs.Steps.{charge_yes, charge_no, bind_done, bind_fail, bind_stop}
@@ -16,7 +16,6 @@ use Rattle.judging.specs.declared.Answer.{Answer}
 use Rattle.judging.specs.declared.Bad.{Bad}
 use Rattle.judging.specs.declared.Stop.{Stop}
 use Rattle.judging.specs.declared.Stop.TheVariants.{Fail, Spent}
-use Rattle.judging.specs.Names.{rule_of}
 use Rattle.judging.specs.Ending.{Step, Landed, Failed, EndsJ, landed, failed, ran_out, EndsR, fired, refused, out}
 
 -- ## An answer that is not Ok: what the code's `else` knows
@@ -100,7 +99,7 @@ pub record FiredBy (q w' : List ℕ) (s : State) (a : Answer) (R : Out Fired) : 
   pub l : ℕ
   pub n : ℕ
   pub is : R ≡ done (r, C, Δ, ts) l n
-  pub rule_is : rule_of a.rule ≡ r
+  pub rule_is : a.rule ≡ rule_number r
   pub kids_is : a.kids ≡ children ts
   pub few : children ts < 5
   pub land : Landed q w' s a 4 C Δ ts l n
@@ -150,5 +149,5 @@ out_by {q} {w'} {s} h d = go (rw d at h)
 
 -- what was charged is no part of the error
 pub failed_again : {q w' : List ℕ} {b : Bad} {e : TypeError} {l u : ℕ} → Failed q w' b e l
-    → Failed q w' (record { st = b.st; error = b.error; name = b.name; shown = b.shown; charge = u }) e l
-failed_again x = record { base = x.base; within = x.within; error = x.error; name = x.name; shown = x.shown; left = x.left }
+    → Failed q w' (record { st = b.st; code = b.code; name = b.name; shown = b.shown; charge = u }) e l
+failed_again x = record { base = x.base; within = x.within; code = x.code; name = x.name; shown = x.shown; left = x.left }

@@ -12,7 +12,6 @@ use Rattle.layout.specs.Denotes.{Den, AsEntry, SmallEntry, Run, Base}
 use Rattle.layout.specs.Room.{Room}
 use Rattle.layout.specs.declared.Entry.{Entry}
 use Rattle.layout.specs.declared.Key.{Key}
-use Rattle.layout.specs.declared.Kind.TheVariants as kind
 use Rattle.layout.specs.declared.Span.{Span}
 use Rattle.layout.specs.declared.State.{State}
 use Rattle.judging.specs.declared.Ask.{Ask}
@@ -32,37 +31,38 @@ pub record EntryFrom (h : Here) (k : Key) (r : ℕ) (e : Entry) : Type 0 where
   pub is : {q w : List ℕ} {t : ℕ} {b : Binding} → binding_key b ≡ key k → Den q w t r (binding_type b) → AsEntry q w t e (b from here h)
 
 pub data Asks (q w : List ℕ) (t : ℕ) (g : Span) (a : Ask) : Judgement → Type 0 where
-  as_infer : {Γ : Ctx} {e : Expr} → a.kind ≡ kind.Infer → Run q w t g.at g.n Γ → ExprAt q a.ex e → Asks q w t g a (infer Γ e)
-  as_check : {Γ : Ctx} {e : Expr} {B : Ty} → a.kind ≡ kind.Check → Run q w t g.at g.n Γ → ExprAt q a.ex e → Den q w t a.right B
+  as_infer : {Γ : Ctx} {e : Expr} → a.kind ≡ 1 → Run q w t g.at g.n Γ → ExprAt q a.ex e → Asks q w t g a (infer Γ e)
+  as_check : {Γ : Ctx} {e : Expr} {B : Ty} → a.kind ≡ 2 → Run q w t g.at g.n Γ → ExprAt q a.ex e → Den q w t a.right B
       → Asks q w t g a (check Γ e B)
-  as_app : {Γ : Ctx} {e : Expr} {A : Ty} → a.kind ≡ kind.InferApp → Run q w t g.at g.n Γ → ExprAt q a.ex e → Den q w t a.left A
+  as_app : {Γ : Ctx} {e : Expr} {A : Ty} → a.kind ≡ 3 → Run q w t g.at g.n Γ → ExprAt q a.ex e → Den q w t a.left A
       → Asks q w t g a (infer_app Γ e A)
-  as_sub : {Γ : Ctx} {A B : Ty} → a.kind ≡ kind.Subtype → a.ex ≡ 0 → Run q w t g.at g.n Γ → Den q w t a.left A → Den q w t a.right B
+  as_sub : {Γ : Ctx} {A B : Ty} → a.kind ≡ 4 → a.ex ≡ 0 → Run q w t g.at g.n Γ → Den q w t a.left A → Den q w t a.right B
       → Asks q w t g a (subtype Γ A B)
-  as_inst_l : {Γ : Ctx} {x : TyVar} {T : Ty} → a.kind ≡ kind.InstL → a.ex ≡ 0 → Run q w t g.at g.n Γ → Den q w t a.left (etvar x)
+  as_inst_l : {Γ : Ctx} {x : TyVar} {T : Ty} → a.kind ≡ 5 → a.ex ≡ 0 → Run q w t g.at g.n Γ → Den q w t a.left (etvar x)
       → Den q w t a.right T → Asks q w t g a (inst on_l Γ x T)
-  as_inst_r : {Γ : Ctx} {x : TyVar} {T : Ty} → a.kind ≡ kind.InstR → a.ex ≡ 0 → Run q w t g.at g.n Γ → Den q w t a.left T
+  as_inst_r : {Γ : Ctx} {x : TyVar} {T : Ty} → a.kind ≡ 6 → a.ex ≡ 0 → Run q w t g.at g.n Γ → Den q w t a.left T
       → Den q w t a.right (etvar x) → Asks q w t g a (inst on_r Γ x T)
 
 -- the six judgements as they are asked
 abbrev pub infer_ask : ℕ → Ask
-infer_ask e = record { kind = kind.Infer; ex = e; left = 0; right = 0 }
+infer_ask e = record { kind = 1; ex = e; left = 0; right = 0 }
 
 abbrev pub check_ask : ℕ → ℕ → Ask
-check_ask e B = record { kind = kind.Check; ex = e; left = 0; right = B }
+check_ask e B = record { kind = 2; ex = e; left = 0; right = B }
 
 abbrev pub app_ask : ℕ → ℕ → Ask
-app_ask A e = record { kind = kind.InferApp; ex = e; left = A; right = 0 }
+app_ask A e = record { kind = 3; ex = e; left = A; right = 0 }
 
 abbrev pub sub_ask : ℕ → ℕ → Ask
-sub_ask A B = record { kind = kind.Subtype; ex = 0; left = A; right = B }
+sub_ask A B = record { kind = 4; ex = 0; left = A; right = B }
 
 abbrev pub inst_ask : Side → ℕ → ℕ → Ask
-inst_ask on_l a T = record { kind = kind.InstL; ex = 0; left = a; right = T }
-inst_ask on_r a T = record { kind = kind.InstR; ex = 0; left = T; right = a }
+inst_ask on_l a T = record { kind = 5; ex = 0; left = a; right = T }
+inst_ask on_r a T = record { kind = 6; ex = 0; left = T; right = a }
 
 -- what is asked can be written into a node
 pub record Small (a : Ask) : Type 0 where
+  pub kind : a.kind < 2 ^ 32
   pub ex : a.ex < 2 ^ 32
   pub left : a.left < 2 ^ 32
   pub right : a.right < 2 ^ 32

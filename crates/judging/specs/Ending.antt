@@ -1,10 +1,10 @@
 -- What a judgement and a rule promise: what comes back is what the definition says, at the same budget and fresh names.
 use Rattle.std.specs.Prelude.{◌≡◌, List, ℕ, ◌+◌, ◌*◌, ◌≤◌, ◌<◌, length, Result as Outcome, Ok, Err}
 use Rattle.std.proofs.Math.Option.{Option, none, some}
-use Rattle.definition.specs.Syntax.{Ty, Ctx, Judgement, Rule, Tree, Trees, leaf, ◌&◌, children, Shown, no_type, one_type, two_types, TypeError}
+use Rattle.definition.specs.Syntax.{Ty, Ctx, Judgement, Rule, rule_number, Tree, Trees, leaf, ◌&◌, children, Shown, no_type, one_type, two_types, TypeError}
 use Rattle.definition.specs.Run.{Out, done, fail, stop}
 use Rattle.definition.specs.Rules.{Fired, Result, rule, judge}
-use Rattle.definition.specs.Reply.{error_at}
+use Rattle.definition.specs.Reply.{error_code, error_at}
 use Rattle.laws.specs.Count.{charged}
 use Rattle.layout.specs.Words.{Keep}
 use Rattle.layout.specs.Denotes.{Den, Run, Base}
@@ -19,7 +19,6 @@ use Rattle.judging.specs.declared.Shown as program
 use Rattle.judging.specs.declared.Shown.TheVariants.{NoType, OneType, TwoTypes}
 use Rattle.judging.specs.declared.Stop.{Stop}
 use Rattle.judging.specs.declared.Stop.TheVariants.{Fail, Spent}
-use Rattle.judging.specs.Names.{rule_of, error_of}
 use Rattle.judging.specs.Asking.{here, Asks}
 use Rattle.judging.specs.Nodes.{NodesAt}
 
@@ -44,7 +43,7 @@ pub data ShownAt (q w : List ℕ) (t : ℕ) : program.Shown → Shown → Type 0
 pub record Failed (q w' : List ℕ) (b : Bad) (e : TypeError) (l : ℕ) : Type 0 where
   pub base : Base q w' b.st.top
   pub within : b.st.top ≤ length w'
-  pub error : error_of b.error ≡ e.error
+  pub code : b.code ≡ error_code e.error
   pub name : b.name ≡ error_at e.about
   pub shown : ShownAt q w' b.st.top b.shown e.shown
   pub left : b.st.left ≡ l
@@ -61,7 +60,7 @@ pub data EndsJ (q w' : List ℕ) (s : State) : Step → Out Result → Type 0 wh
   ran_out : EndsJ q w' s (Err Spent) stop
 
 pub data EndsR (q w' : List ℕ) (s : State) : Step → Out Fired → Type 0 where
-  fired : {a : Answer} {C : Ty} {Δ : Ctx} {ts : Trees} {r : Rule} {l n : ℕ} → rule_of a.rule ≡ r → a.kids ≡ children ts
+  fired : {a : Answer} {C : Ty} {Δ : Ctx} {ts : Trees} {r : Rule} {l n : ℕ} → a.rule ≡ rule_number r → a.kids ≡ children ts
       → children ts < 5 → Landed q w' s a 4 C Δ ts l n → EndsR q w' s (Ok a) (done (r, C, Δ, ts) l n)
   refused : {b : Bad} {e : TypeError} {l : ℕ} → Failed q w' b e l → EndsR q w' s (Err (Fail b)) (fail e l)
   out : EndsR q w' s (Err Spent) stop

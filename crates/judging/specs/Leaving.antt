@@ -10,9 +10,7 @@ use Rattle.judging.specs.declared.Answer.{Answer}
 use Rattle.judging.specs.declared.Bad.{Bad}
 use Rattle.layout.specs.declared.Spent as layout
 use Rattle.judging.specs.declared.Stop.TheVariants.{Fail, Spent}
-use Rattle.judging.specs.Names.{rule_of}
 use Rattle.judging.specs.Ending.{Step}
-use Rattle.definition.specs.Syntax.{rule_number}
 use Rattle.judging.specs.Asking.{Small}
 use Rattle.judging.specs.Nodes.{NodeWords}
 
@@ -41,6 +39,7 @@ pub record ConcludePre (w : List ℕ) (s : State) (g : Span) (k : Ask) (a : Answ
   pub out : a.g.at < 2 ^ 32
   pub n₂ : a.g.n < 2 ^ 32
   pub res : a.ty < 2 ^ 32
+  pub rule : a.rule < 38
   pub kids : a.kids < 5
   pub less : a.st.left ≤ s.left
 
@@ -51,7 +50,7 @@ leaving s a =
 
 pub data Concludes (w w' : List ℕ) (s : State) (g : Span) (k : Ask) (a : Answer) : Step → Type 0 where
   unpaid_out : a.st.left < a.g.n → w' ≡ w → Concludes w w' s g k a (Err Spent)
-  wrote : a.g.n ≤ a.st.left → Keep (s.low - 12) s.low w w' → NodeWords w' (s.low - 12) (rule_number (rule_of a.rule)) a.kids g k a.g a.ty
+  wrote : a.g.n ≤ a.st.left → Keep (s.low - 12) s.low w w' → NodeWords w' (s.low - 12) a.rule a.kids g k a.g a.ty
       → Concludes w w' s g k a (Ok (leaving s a))
 
 -- z is what the rule came to
@@ -60,7 +59,7 @@ pub record LeavePre (w : List ℕ) (s : State) (g : Span) (k : Ask) (z : Step) :
   pub fails : {b : Bad} → z ≡ Err (Fail b) → b.st.left ≤ s.left
 
 abbrev pub failing : State → Bad → Bad
-failing s b = record { st = b.st; error = b.error; name = b.name; shown = b.shown; charge = s.left - b.st.left }
+failing s b = record { st = b.st; code = b.code; name = b.name; shown = b.shown; charge = s.left - b.st.left }
 
 pub data Left (w w' : List ℕ) (s : State) (g : Span) (k : Ask) : Step → Step → Type 0 where
   concluded : {a : Answer} {y : Step} → Concludes w w' s g k a y → Left w w' s g k (Ok a) y

@@ -2,7 +2,6 @@
 use Rattle.std.specs.Prelude.{◌≡◌, List, ℕ, ◌+◌, ◌≤◌, get_or}
 use Rattle.definition.specs.Syntax.{Ty, Ctx, Judgement, Rule, rule_number, node, Trees, leaf, ◌&◌, children}
 use Rattle.layout.specs.Denotes.{Den, Run}
-use Rattle.layout.specs.Kinds.{kind_number}
 use Rattle.layout.specs.declared.Span.{Span}
 use Rattle.judging.specs.declared.Ask.{Ask}
 use Rattle.judging.specs.Asking.{Asks}
@@ -19,7 +18,7 @@ pub record NodeWords (w : List ℕ) (m rule kids : ℕ) (g : Span) (a : Ask) (h 
   pub out_at : get_or w (m + 7) 0 ≡ h.at
   pub out_n : get_or w (m + 8) 0 ≡ h.n
   pub ty_is : get_or w (m + 9) 0 ≡ ty
-  pub kind_is : get_or w (m + 10) 0 ≡ kind_number a.kind
+  pub kind_is : get_or w (m + 10) 0 ≡ a.kind
 
 -- the node at m; what it refers to lies below t
 pub record NodeAt (q w : List ℕ) (t m : ℕ) (r : Rule) (kids : ℕ) (j : Judgement) (C : Ty) (Δ : Ctx) : Type 0 where

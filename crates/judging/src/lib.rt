@@ -10,7 +10,7 @@ ghost use Rattle.judging.specs.Names.{rule_of, error_of};
 ghost use Rattle.judging.specs.declared.Stop.TheVariants as Stop;
 ghost use Rattle.judging.specs.Leaving.{Entering, EnteredBy, ConcludePre, Concludes, LeavePre, Left};
 
-use layout::{Entry, Key, Kind, Span, Spent, State, put4};
+use layout::{Entry, Key, Span, Spent, State, put4};
 
 // The words of a node.
 pub const NODE: usize = 12;
@@ -44,10 +44,10 @@ pub fn entry(h: Here, k: Key, ty: usize) -> Entry
     Entry { key: k, ty: ty }
 }
 
-// A judgement besides its context: which it is (not Resolve), the place of its expression, its left and its right type; 0 where there is none.
+// A judgement besides its context: its kind (1 to 6), the place of its expression, its left and its right type; 0 where there is none.
 #[derive(Clone, Copy)]
 pub struct Ask {
-    pub kind: Kind,
+    pub kind: usize,
     pub ex: usize,
     pub left: usize,
     pub right: usize,
@@ -103,14 +103,14 @@ impl Rule {
     }
 }
 
-// What a rule gives: the output context, the result type (INT where there is none), the rule, how many children. Its judgement adds what it
-// was charged, from entering on (0 before).
+// What a rule gives: the output context, the result type (INT where there is none), the rule's number, how many children. Its judgement
+// adds what it was charged, from entering on (0 before).
 #[derive(Clone, Copy)]
 pub struct Answer {
     pub st: State,
     pub g: Span,
     pub ty: usize,
-    pub rule: Rule,
+    pub rule: usize,
     pub kids: usize,
     pub charge: usize,
 }
@@ -143,11 +143,11 @@ pub enum Shown {
     TwoTypes(usize, usize),
 }
 
-// A type error: which, the name that it is about (0 where there is none), the types that it shows; and what the judgement was charged.
+// A type error: its code, the name that it is about (0 where there is none), the types that it shows; and what the judgement was charged.
 #[derive(Clone, Copy)]
 pub struct Bad {
     pub st: State,
-    pub error: TypeError,
+    pub code: usize,
     pub name: u32,
     pub shown: Shown,
     pub charge: usize,
@@ -163,11 +163,11 @@ pub enum Stop {
 impl Stop {
     // A type error; what its judgement was charged is not known yet.
     pub fn fail(st: State, error: TypeError, name: u32, shown: Shown) -> Stop
-        ensures { result ≡ Stop.Fail (record { st = st; error = error; name = name; shown = shown; charge = 0 }) }
+        ensures { result ≡ Stop.Fail (record { st = st; code = error_code (error_of error); name = name; shown = shown; charge = 0 }) }
     {
         Stop::Fail(Bad {
             st,
-            error,
+            code: error.code() as usize,
             name,
             shown,
             charge: 0,
@@ -202,9 +202,9 @@ fn conclude(work: &mut [u32], st: State, g: Span, ask: Ask, r: Answer) -> Step
 {
     let paid = r.st.charge(r.g.n)?;
     let m = st.low - NODE;
-    put4(work, m, r.rule.number(), r.kids, ask.ex, g.at);
+    put4(work, m, r.rule, r.kids, ask.ex, g.at);
     put4(work, m + 4, g.n, ask.left, ask.right, r.g.at);
-    put4(work, m + 8, r.g.n, r.ty, ask.kind.number(), 0);
+    put4(work, m + 8, r.g.n, r.ty, ask.kind, 0);
     Ok(Answer {
         st: paid,
         charge: paid.charged_since(st),

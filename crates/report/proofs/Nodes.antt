@@ -8,7 +8,6 @@ use Rattle.std.specs.Prelude.{Option, Some}
 use Rattle.std.specs.Bool.{then_some}
 use Rattle.definition.specs.Syntax.{Ty, ty_words, Ctx, ctx_words, Judgement, section, no_section, sections, ctx_section, ty_section, judgement_words, Trees, leaf, ◌&◌, children, tree_words, trees_words}
 use Rattle.layout.specs.Denotes.{Den, Run}
-use Rattle.layout.specs.Kinds.{kind_number}
 use Rattle.layout.specs.declared.Span.{Span}
 use Rattle.layout.proofs.Places.{expr_place}
 use Rattle.judging.specs.Asking.{Asks, as_infer, as_check, as_app, as_sub, as_inst_l, as_inst_r}
@@ -56,11 +55,11 @@ Filling q w t g a h ty f = Sections q w t g (then_some f.left a.left) (then_some
 
 record SaidOf (q w : List ℕ) (t : ℕ) (g : Span) (a : Ask) (h : Span) (ty : ℕ) (ws : List ℕ) : Type 0 where
   rest : List ℕ
-  parts : Filling q w t g a h ty (fills (kind_number a.kind)) rest
+  parts : Filling q w t g a h ty (fills a.kind) rest
   is : ws ≡ a.ex ∷ rest
 
 module _ {q w : List ℕ} {t ty : ℕ} {g h : Span} {k : Ask} where
-  said_by : {p : ℕ} {a b c d e : List ℕ} (n : ℕ) → kind_number k.kind ≡ n → p ≡ k.ex → AfterCount (OfEntries q w t g.at g.n) a
+  said_by : {p : ℕ} {a b c d e : List ℕ} (n : ℕ) → k.kind ≡ n → p ≡ k.ex → AfterCount (OfEntries q w t g.at g.n) a
       → AfterCount (OfPart q w t (then_some (fills n).left k.left)) b → AfterCount (OfPart q w t (then_some (fills n).right k.right)) c
       → AfterCount (OfEntries q w t h.at h.n) d → AfterCount (OfPart q w t (then_some (fills n).result ty)) e → SaidOf q w t g k h ty (p ∷ sections a b c d e)
   unfolding sections
@@ -73,12 +72,12 @@ module _ {q w : List ℕ} {t ty : ℕ} {g h : Span} {k : Ask} where
   said_of : {j : Judgement} {C : Ty} {Δ : Ctx} → Asks q w t g k j → Run q w t h.at h.n Δ → Den q w t ty C
       → SaidOf q w t g k h ty (judgement_words j C Δ)
   unfolding judgement_words
-  said_of (as_infer f r x) o c = said_by 1 (ap kind_number f) (expr_place x) (context_section r) unused_section unused_section (context_section o) (type_section c)
-  said_of (as_check f r x d) o c = said_by 2 (ap kind_number f) (expr_place x) (context_section r) unused_section (type_section d) (context_section o) unused_section
-  said_of (as_app f r x d) o c = said_by 3 (ap kind_number f) (expr_place x) (context_section r) (type_section d) unused_section (context_section o) (type_section c)
-  said_of (as_sub f z r d e) o c = said_by 4 (ap kind_number f) (sym z) (context_section r) (type_section d) (type_section e) (context_section o) unused_section
-  said_of (as_inst_l f z r d e) o c = said_by 5 (ap kind_number f) (sym z) (context_section r) (type_section d) (type_section e) (context_section o) unused_section
-  said_of (as_inst_r f z r d e) o c = said_by 6 (ap kind_number f) (sym z) (context_section r) (type_section d) (type_section e) (context_section o) unused_section
+  said_of (as_infer f r x) o c = said_by 1 f (expr_place x) (context_section r) unused_section unused_section (context_section o) (type_section c)
+  said_of (as_check f r x d) o c = said_by 2 f (expr_place x) (context_section r) unused_section (type_section d) (context_section o) unused_section
+  said_of (as_app f r x d) o c = said_by 3 f (expr_place x) (context_section r) (type_section d) unused_section (context_section o) (type_section c)
+  said_of (as_sub f z r d e) o c = said_by 4 f (sym z) (context_section r) (type_section d) (type_section e) (context_section o) unused_section
+  said_of (as_inst_l f z r d e) o c = said_by 5 f (sym z) (context_section r) (type_section d) (type_section e) (context_section o) unused_section
+  said_of (as_inst_r f z r d e) o c = said_by 6 f (sym z) (context_section r) (type_section d) (type_section e) (context_section o) unused_section
 
 pub node_parts : {q w : List ℕ} {t m : ℕ} {n : Node} → NodeRead w m n → (ws : List ℕ) → OfNode q w t m ws → NodeParts q w t n ws
 node_parts {q} {w} {t} {m} {n} y ws x =

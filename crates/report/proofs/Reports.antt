@@ -12,9 +12,6 @@ use Rattle.definition.specs.Syntax.{pick, Ty, section, no_section, ty_section, l
 use Rattle.definition.specs.Rules.{Result}
 use Rattle.definition.specs.Reply.{error_words, gives_type, result_words}
 use Rattle.layout.specs.Denotes.{Den}
-use Rattle.layout.specs.Kinds.{kind_number}
-use Rattle.layout.specs.declared.Kind.{Kind}
-use Rattle.layout.specs.declared.Kind.TheVariants.{Infer, Check, InferApp, Subtype, InstL, InstR, Resolve}
 use Rattle.judging.specs.Ending.{ShownAt, shown_none, shown_one, shown_two}
 use Rattle.judging.specs.declared.Answer.{Answer}
 use Rattle.judging.specs.declared.Shown as program
@@ -27,16 +24,6 @@ use Rattle.report.specs.Reports.{ResultAt, OfResult, ResultParts, slots_of, Erro
 use Rattle.report.proofs.Nodes.{context_section, type_section, unused_section}
 
 -- ## A result: three sections
-
-pub gives_none : (k : Kind) → (k ≡ Infer → ⊥) → (k ≡ InferApp → ⊥) → (k ≡ Resolve → ⊥) → false ≡ gives_type (kind_number k)
-unfolding gives_type
-gives_none Infer f g h = absurd (f refl)
-gives_none Check f g h = refl
-gives_none InferApp f g h = absurd (g refl)
-gives_none Subtype f g h = refl
-gives_none InstL f g h = refl
-gives_none InstR f g h = refl
-gives_none Resolve f g h = absurd (h refl)
 
 -- a type's section, where a type is given
 given_section : {q w : List ℕ} {t r : ℕ} {A : Ty} (b : Bool) → Den q w t r A

@@ -3,14 +3,13 @@
 
 ghost use Rattle.std.specs.Prelude.{◌≡◌, ◌+◌, ◌≤◌, ◌^◌, length};
 ghost use Rattle.definition.specs.Reply.{gives_type};
-ghost use Rattle.layout.specs.Kinds.{kind_number};
 ghost use Rattle.writing.specs.Spelling.{AfterCount, Long, Spelled, Writable, Writes};
 ghost use Rattle.writing.specs.After.{Measures, Stands};
 ghost use Rattle.report.specs.Nodes.{NodeRead, WordsFit, Three, OfNode, OfNodes, NodeLong, WritesNode};
 ghost use Rattle.report.specs.Reports.{OfResult, ResultParts, OfError, slots_of, ErrorParts, ByLength, Reports};
 
 use judging::{Answer, Bad, NODE, Shown};
-use layout::{Kind, MOST, Span, put, word};
+use layout::{MOST, Span, put, word};
 use types::Store;
 use writing::{
     Known, Standing, context_length, length_after, section_length, sum, write_after, write_context,
@@ -168,11 +167,17 @@ fn write_tree(
     next
 }
 
-// Whether a question of this kind is answered by a type: infer, infer_app, and infer with its type resolved.
-fn gives_type(kind: Kind) -> bool
-    ensures { result ≡ gives_type (kind_number kind) }
+// Whether a question of this kind is answered by a type: infer, infer_app, and infer with its type resolved. By the kind's number, since
+// report_result is promised of any.
+fn gives_type(kind: usize) -> bool
+    ensures { result ≡ gives_type kind }
 {
-    matches!(kind, Kind::Infer | Kind::InferApp | Kind::Resolve)
+    match kind {
+        1 => true,
+        3 => true,
+        7 => true,
+        _ => false,
+    }
 }
 
 // How long a result is: type, context, tree.
@@ -251,13 +256,13 @@ fn outcome(n: usize, room: usize) -> Result<usize, NoRoom>
 pub fn report_result(
     q: &[u32],
     work: &[u32],
-    kind: Kind,
+    kind: usize,
     a: Answer,
     high: usize,
     report: &mut [u32],
 ) -> Result<usize, NoRoom>
-    requires { Spelled q.now work.now a.st.top (OfResult q.now work.now (kind_number kind) a high) }
-    ensures { Reports (OfResult q.now work.now (kind_number kind) a high) report.old report.new result }
+    requires { Spelled q.now work.now a.st.top (OfResult q.now work.now kind a high) }
+    ensures { Reports (OfResult q.now work.now kind a high) report.old report.new result }
 {
     let top = a.st.top;
     let store = Store { q, work, top };

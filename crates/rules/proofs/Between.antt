@@ -11,7 +11,7 @@ use Rattle.definition.specs.Syntax.{TyVar, Ty, int, bool, var, etvar, arrow, for
 use Rattle.definition.specs.Run.{Out, done, M, and_then, give, refuse, ◌>>=◌}
 use Rattle.definition.specs.Types.{apply, subst}
 use Rattle.definition.specs.Rules.{ty_code, on, as_forall, same_ty, parameter, branch, instantiate, ◌or_else◌}
-use Rattle.definition.specs.Reply.{error_at}
+use Rattle.definition.specs.Reply.{error_code, error_at}
 use Rattle.laws.proofs.Letters.{compares}
 use Rattle.laws.proofs.Steps.{pick_true, pick_false, bind_done, bind_stop}
 use Rattle.layout.specs.Words.{Keep}
@@ -38,6 +38,7 @@ use Rattle.judging.specs.declared.Shown.TheVariants.{OneType, TwoTypes}
 use Rattle.judging.specs.declared.Stop.{Stop}
 use Rattle.judging.specs.declared.Stop.TheVariants.{Fail, Spent}
 use Rattle.judging.specs.declared.TypeError.TheVariants as error
+use Rattle.judging.specs.Names.{error_of}
 use Rattle.judging.specs.Ending.{Failed, shown_one, shown_two}
 use Rattle.judging.proofs.Chain.{room_within}
 use Rattle.rules.specs.Going.{Two, TwoIn, GoesOrEnds, goes, fails, stops, Compared, AppliedBoth, Instantiated}
@@ -132,15 +133,15 @@ module _ {m : Here} {q w : List ℕ} {s : State} {g : Span} {a p : ℕ} where
             says (rw (not-false _ v) (compares Γ A P _ _ o.is ∙ rw (pick_true (give (tt {0})) (refuse (parameter_mismatch A o.applied)) x) refl)) (goes (went o.passed) tt);
       }
 
-      pub parameter_other : b ≡ false → Compared m q w w₂ s g a p (Err (Fail (record { st = made.st; error = error.ParameterMismatch; name = 0; shown = TwoTypes a made.ty; charge = 0 })))
+      pub parameter_other : b ≡ false → Compared m q w w₂ s g a p (Err (Fail (record { st = made.st; code = error_code (error_of error.ParameterMismatch); name = 0; shown = TwoTypes a made.ty; charge = 0 })))
       unfolding error_at refuse
       parameter_other t = record {
         passes = λ Γ A P n d f.
             let o = once_compared Γ P room d (sub.reached (ap.makes Γ n P f) h) same in
             let rm = sub.room_on o.passed room in
             let x : same_ty [] A o.applied ≡ false = sym o.same ∙ t in
-            let y : Failed q w₂ (record { st = made.st; error = error.ParameterMismatch; name = 0; shown = TwoTypes a made.ty; charge = 0 }) (parameter_mismatch A o.applied) made.st.left =
-            record { base = rm.base; within = room_within rm; error = refl; name = refl; shown = shown_two o.left o.right; left = refl } in
+            let y : Failed q w₂ (record { st = made.st; code = error_code (error_of error.ParameterMismatch); name = 0; shown = TwoTypes a made.ty; charge = 0 }) (parameter_mismatch A o.applied) made.st.left =
+            record { base = rm.base; within = room_within rm; code = refl; name = refl; shown = shown_two o.left o.right; left = refl } in
             says (rw (not-false _ v) (compares Γ A P _ _ o.is ∙ rw (pick_false (give (tt {0})) (refuse (parameter_mismatch A o.applied)) x) refl)) (fails o.passed.keep y);
       }
 
@@ -200,12 +201,12 @@ module _ {q w : List ℕ} {s : State} {r by : ℕ} (pre : Two q w s r by) where
   type_held = room_held pre.room pre.left
 
   module _ {k : ℕ} (c : Tagged q w s.top r k) where
-    pub not_instantiated : (k ≡ 6 → ⊥) → Instantiated q w w s r by (Err (Fail (record { st = s; error = error.TypeApplicationError; name = 0; shown = OneType r; charge = 0 })))
+    pub not_instantiated : (k ≡ 6 → ⊥) → Instantiated q w w s r by (Err (Fail (record { st = s; code = error_code (error_of error.TypeApplicationError); name = 0; shown = OneType r; charge = 0 })))
     unfolding error_at refuse
     not_instantiated h = record {
       passes = λ A B d f.
-          let y : Failed q w (record { st = s; error = error.TypeApplicationError; name = 0; shown = OneType r; charge = 0 }) (type_application_error A) s.left =
-          record { base = pre.room.base; within = room_within pre.room; error = refl; name = refl; shown = shown_one d; left = refl } in
+          let y : Failed q w (record { st = s; code = error_code (error_of error.TypeApplicationError); name = 0; shown = OneType r; charge = 0 }) (type_application_error A) s.left =
+          record { base = pre.room.base; within = room_within pre.room; code = refl; name = refl; shown = shown_one d; left = refl } in
           says (rw (no_instance B A (λ e. h (c.is A d ∙ e))) refl) (fails (sub.here w s).keep y);
     }
 

@@ -19,12 +19,10 @@ use Rattle.layout.proofs.Denotes.{den_frame, run_frame}
 use Rattle.types.specs.Making.{PutForall}
 use Rattle.contexts.specs.Build.{KeptBoth}
 use Rattle.contexts.specs.declared.Opened.{Opened}
-use Rattle.judging.specs.declared.Rule.{Rule}
-use Rattle.judging.specs.declared.Rule.TheVariants as rules
 use Rattle.rules.specs.Going.{Finished, TabsPre, TabsOut}
 
 -- no word changed: some of the entries stay, as F says
-pub words_stand : {s : State} {g h : Span} {r kids : ℕ} {rule : Rule} (q w : List ℕ) (F : Ctx → Ctx)
+pub words_stand : {s : State} {g h : Span} {r rule kids : ℕ} (q w : List ℕ) (F : Ctx → Ctx)
     → ((Γ : Ctx) → Run q w s.top g.at g.n Γ → Run q w s.top h.at h.n (F Γ))
     → Finished q w w s g r 0 F (λ (A : Ty). A) rule kids (Ok (record { st = s; g = h; ty = r; rule = rule; kids = kids; charge = 0 }))
 words_stand q w F f = record {
@@ -46,7 +44,7 @@ words_stand q w F f = record {
 module _ {q w w₁ w₂ : List ℕ} (s s₁ : State) {g : Span} {k : Key} {o : Opened} (more : ℕ) (kp : Keep s.top (s.top + more) w w₁)
     (up : s₁.top ≡ s.top + more) (lo : s₁.low ≡ s.low) (le : s₁.left ≡ s.left) (fr : s₁.fresh ≡ s.fresh)
     (room : s.top + more + 4 * g.n ≤ s.low) (b : KeptBoth w₁ w₂ s₁ g k o) where
-  pub both_kept : {r r' kids : ℕ} {rule : Rule} {G : Ty → Ty} → ((A : Ty) → Den q w s.top r A → Den q w₁ s₁.top r' (G A))
+  pub both_kept : {r r' rule kids : ℕ} {G : Ty → Ty} → ((A : Ty) → Den q w s.top r A → Den q w₁ s₁.top r' (G A))
       → Finished q w w₂ s g r more (solved_and_right k) G rule kids (Ok (record { st = o.st; g = o.g; ty = r'; rule = rule; kids = kids; charge = 0 }))
   both_kept d =
       let p = b.grown.past in
@@ -73,7 +71,7 @@ module _ {q w w₁ w₂ : List ℕ} (s s₁ : State) {g : Span} {k : Key} {o : O
 module _ {q w w₁ : List ℕ} {s p : State} {g : Span} {a : TyVar} {body t : ℕ} (pre : TabsPre q w s g body) (put : PutForall q w w₁ s.top a body t)
     (ep : p ≡ raised s 4) where
   pub tabs_kept : {w₂ : List ℕ} {o : Opened} → KeptBoth w₁ w₂ p g (k_tvar (ty a)) o
-      → TabsOut q w w₂ s g (ty a) body (Ok (record { st = o.st; g = o.g; ty = t; rule = rules.InfTAbs; kids = 1; charge = 0 }))
+      → TabsOut q w w₂ s g (ty a) body (Ok (record { st = o.st; g = o.g; ty = t; rule = 13; kids = 1; charge = 0 }))
   tabs_kept k = record {
     finished = both_kept s (raised s 4) 4 put.keep refl refl refl refl (omega (arith, pre.room)) (rw ep at k) (λ A d. put.den A d);
   }

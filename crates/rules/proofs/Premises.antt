@@ -5,7 +5,7 @@ use mathlib.Core.List.{List}
 use Prim.Native.Nat.{ℕ, ◌+◌, ◌*◌, ◌<◌}
 use native.Mathlib.Omega.{arith}
 use Rattle.std.specs.Prelude.{Ok}
-use Rattle.definition.specs.Syntax.{TyVar, Ty, int, etvar, Ctx, Side, Judgement, Rule, Tree, Trees, leaf, ◌&◌, children}
+use Rattle.definition.specs.Syntax.{TyVar, Ty, int, etvar, Ctx, Side, Judgement, Rule, rule_number, Tree, Trees, leaf, ◌&◌, children}
 use Rattle.definition.specs.Run.{Out, done, stop, M, and_then, give}
 use Rattle.definition.specs.Contexts.{Key, right_of}
 use Rattle.definition.specs.Rules.{Fired, Result, rule, judge}
@@ -21,8 +21,6 @@ use Rattle.judging.specs.Ending.{Step, RunsR, Judged, Fires}
 use Rattle.judging.specs.declared.Answer.{Answer}
 use Rattle.judging.specs.declared.Ask.{Ask}
 use Rattle.judging.specs.declared.Here.{Here}
-use Rattle.judging.specs.declared.Rule as program
-use Rattle.judging.specs.Names.{rule_of}
 use Rattle.judging.proofs.Asking.{small_inst, asks_inst}
 use Rattle.judging.proofs.Nodes.{◌+++◌}
 use Rattle.judging.proofs.Steps.{NotDone, Came}
@@ -66,11 +64,11 @@ else_fires f call nd = record { run = λ j k. let x = f j k in rw x.says (ended 
 
 -- ## A rule that asks none
 
-pub ends : {q w w₁ : List ℕ} {s : State} {ts : Trees} {n : program.Rule} {k : ℕ} (s₁ : State) (g₁ : Span) (r : Rule) {Δ : Ctx} → rule_of n ≡ r → k ≡ children ts
+pub ends : {q w w₁ : List ℕ} {s : State} {ts : Trees} {n k : ℕ} (s₁ : State) (g₁ : Span) (r : Rule) {Δ : Ctx} → n ≡ rule_number r → k ≡ children ts
     → k < 5 → Sofar q w w₁ s s₁ ts → Room q w₁ s₁ 4 → Run q w₁ s₁.top g₁.at g₁.n Δ
     → (R : Out Fired) → R ≡ done (r, int, Δ, ts) s₁.left s₁.fresh
     → RunsR q w w₁ s (Ok (record { st = s₁; g = g₁; ty = INT; rule = n; kids = k; charge = 0 })) R
-ends s₁ g₁ r en ek few so room run R e = rw ek (fires s₁ g₁ INT _ so room (omega arith) run (int_den room.base) R (rw (← en) at e))
+ends s₁ g₁ r en ek few so room run R e = rw (en, ek) (fires s₁ g₁ INT r so room (omega arith) run (int_den room.base) R e)
 
 -- ## The judgement i came back, and is the rule's last
 
@@ -92,7 +90,7 @@ module _ {m : Here} {q w w₁ w₂ : List ℕ} {s s₁ : State} {ts : Trees} {g�
   then_give R f O e = record { so = on so call asks came; room = came.land.room; is = e ∙ then_done _ came.is }
 
   -- the rule's output is its output
-  pub through_ends : {n : program.Rule} {k : ℕ} {y : Step} (R : Rule) → rule_of n ≡ R → ((t : Tree) → k ≡ children (ts +++ (t & leaf))) → k < 5
+  pub through_ends : {n k : ℕ} {y : Step} (R : Rule) → n ≡ rule_number R → ((t : Tree) → k ≡ children (ts +++ (t & leaf))) → k < 5
       → PlainOut r.st r.g INT n k y
       → (O : Out Fired) → O ≡ and_then (judge (here m) i s₁.left s₁.fresh) (λ u. give (R, int, u.1, ts +++ (u.2 & leaf)))
       → RunsR q w w₂ s y O
@@ -101,7 +99,7 @@ module _ {m : Here} {q w w₁ w₂ : List ℕ} {s s₁ : State} {ts : Trees} {g�
       finish R (a.finished q w₂) x.run (int_den x.room.base) (then_give R (λ Γ. Γ) O e) (omega arith) en (ek came.t) few
 
   -- it is what stands right of a key
-  pub right_ends : {n : program.Rule} {k : ℕ} {w₃ : List ℕ} {y : Step} (R : Rule) (K : Key) → rule_of n ≡ R → ((t : Tree) → k ≡ children (ts +++ (t & leaf))) → k < 5
+  pub right_ends : {n k : ℕ} {w₃ : List ℕ} {y : Step} (R : Rule) (K : Key) → n ≡ rule_number R → ((t : Tree) → k ≡ children (ts +++ (t & leaf))) → k < 5
       → KeepOut false w₂ w₃ r K INT n k y
       → (O : Out Fired) → O ≡ and_then (judge (here m) i s₁.left s₁.fresh) (λ u. give (R, int, right_of K u.1, ts +++ (u.2 & leaf)))
       → RunsR q w w₃ s y O

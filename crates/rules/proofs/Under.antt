@@ -6,7 +6,7 @@ use Prim.Native.Nat.{ℕ, ◌+◌, ◌*◌, ◌≤◌}
 use native.Mathlib.Nat.{le_refl}
 use native.Mathlib.Omega.{arith}
 use Rattle.std.specs.Prelude.{Result, Ok, Err}
-use Rattle.definition.specs.Syntax.{TyVar, Ty, int, Ctx, Judgement, Rule, leaf, ◌&◌, children}
+use Rattle.definition.specs.Syntax.{TyVar, Ty, int, Ctx, Judgement, Rule, rule_number, leaf, ◌&◌, children}
 use Rattle.definition.specs.Run.{Out, done, and_then, give}
 use Rattle.definition.specs.Contexts.{Key, right_of}
 use Rattle.definition.specs.Rules.{rule, judge}
@@ -23,9 +23,7 @@ use Rattle.judging.specs.declared.Answer.{Answer}
 use Rattle.judging.specs.declared.Ask.{Ask}
 use Rattle.judging.specs.declared.Here.{Here}
 use Rattle.judging.specs.Ending.{Step, Judged, Fires}
-use Rattle.judging.specs.declared.Rule as program
 use Rattle.judging.specs.declared.Stop.TheVariants.{Spent}
-use Rattle.judging.specs.Names.{rule_of}
 use Rattle.judging.proofs.Steps.{NotDone}
 use Rattle.judging.proofs.Chain.{room_ready, Sofar, begin, built, stopped}
 use Rattle.rules.specs.Built.{Built}
@@ -103,7 +101,7 @@ module _ {m : Here} {q w w₁ : List ℕ} {s : State} {g : Span} {a : Ask} {a₁
         pub under_space : Space w₂ r.st r.g 0
         under_space = came_space so call (asks₁ pre.asks) c
 
-        pub under_done : {n : program.Rule} {w₃ : List ℕ} {y : Step} → rule_of n ≡ R → KeepOut false w₂ w₃ r (K (ty o.b)) INT n 1 y → Fires m q w w₃ s g a y
+        pub under_done : {n : ℕ} {w₃ : List ℕ} {y : Step} → n ≡ rule_number R → KeepOut false w₂ w₃ r (K (ty o.b)) INT n 1 y → Fires m q w w₃ s g a y
         unfolding children
         under_done {n} {w₃} {y} en al = record {
           run = λ j k.

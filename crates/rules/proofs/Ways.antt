@@ -5,7 +5,7 @@ use Prim.Native.Nat.{ℕ, ◌+◌, ◌*◌, ◌≤◌, ◌<◌}
 use native.Mathlib.Nat.{le_trans, le_refl}
 use native.Mathlib.Omega.{arith}
 use Rattle.std.specs.Prelude.{Result as Outcome, Ok, Err}
-use Rattle.definition.specs.Syntax.{Ty, Ctx, Judgement, Rule, Tree, Trees, leaf, ◌&◌, children}
+use Rattle.definition.specs.Syntax.{Ty, Ctx, Judgement, Rule, rule_number, Tree, Trees, leaf, ◌&◌, children}
 use Rattle.definition.specs.Run.{Out, done, stop, M, ◌>>=◌, give}
 use Rattle.definition.specs.Rules.{Fired, Result}
 use Rattle.definition.specs.Types.{apply}
@@ -27,10 +27,8 @@ use Rattle.substitution.specs.Passing.{Passed}
 use Rattle.substitution.specs.Calls.{ApplyPre, Applied}
 use Rattle.substitution.proofs.Passing as sub
 use Rattle.judging.specs.declared.Answer.{Answer}
-use Rattle.judging.specs.declared.Rule as program
 use Rattle.judging.specs.declared.Stop.{Stop}
 use Rattle.judging.specs.declared.Stop.TheVariants.{Spent}
-use Rattle.judging.specs.Names.{rule_of}
 use Rattle.judging.specs.Asking.{Asks, infer_ask, check_ask, app_ask, sub_ask, JudgePre}
 use Rattle.judging.specs.Ending.{Step, RunsJ, RunsR}
 use Rattle.judging.proofs.Asking.{small_infer, small_check, small_app, small_sub, infer_asked, check_asked, app_asked, sub_asked}
@@ -75,8 +73,8 @@ pub apply_pre : {q w : List ℕ} {s : State} {g : Span} {k r : ℕ} {Γ : Ctx} {
     → ApplyPre q w s g r
 apply_pre r n d = record { spare = _; room = r; ctx = _; run = n; type = _; den = d }
 
--- an answer whose rule and children are known
-numbered : {a : Answer} {x : program.Rule} {c : ℕ} → a.rule ≡ x → a.kids ≡ c → record { st = a.st; g = a.g; ty = a.ty; rule = x; kids = c; charge = a.charge } ≡ a
+-- an answer whose number and children are known
+numbered : {a : Answer} {x c : ℕ} → a.rule ≡ x → a.kids ≡ c → record { st = a.st; g = a.g; ty = a.ty; rule = x; kids = c; charge = a.charge } ≡ a
 numbered e f = rw (← e, ← f) refl
 
 -- a step between went on, with v
@@ -245,9 +243,9 @@ module _ {q w w₁ : List ℕ} {s s₁ : State} {ts : Trees} {k : ℕ} {R : Out 
 
   -- ## The end
 
-  pub finish : {g : Span} {ty more kids : ℕ} {rule : program.Rule} {F : Ctx → Ctx} {G : Ty → Ty} (r : Rule) {w₂ : List ℕ} {z : Step}
+  pub finish : {g : Span} {ty more rule kids : ℕ} {F : Ctx → Ctx} {G : Ty → Ty} (r : Rule) {w₂ : List ℕ} {z : Step}
       → Finished q w₁ w₂ s₁ g ty more F G rule kids z → {C : Ty} {Δ : Ctx} → Run q w₁ s₁.top g.at g.n Δ → Den q w₁ s₁.top ty C
-      → Way q w w₁ s s₁ ts k R (give (r, G C, F Δ, ts)) → 4 * g.n + more + 4 ≤ k → rule_of rule ≡ r → kids ≡ children ts → kids < 5
+      → Way q w w₁ s s₁ ts k R (give (r, G C, F Δ, ts)) → 4 * g.n + more + 4 ≤ k → rule ≡ rule_number r → kids ≡ children ts → kids < 5
       → RunsR q w w₂ s z R
   unfolding give
   finish r {w₂} h n d y le e c few =
@@ -258,5 +256,5 @@ module _ {q w w₁ : List ℕ} {s s₁ : State} {ts : Trees} {k : ℕ} {R : Out 
       let so : Sofar q w w₂ s a.st ts = built a.st y.so h.keep h.up h.low (omega arith) in
       let rm : Room q w₂ a.st 4 =
       room_on a.st 4 y.room h.keep h.up (omega arith) (omega (arith, h.most, y.room.fits)) (omega (arith, y.room.names)) in
-      let o = fires a.st a.g a.ty _ so rm (omega arith) (h.run n) (h.den d) R (y.is ∙ rw (← lf, ← fr, ← e) refl) in
-      rw (h.is, ← numbered {a = a} h.rule_is (h.kids_is ∙ c)) o
+      let o = fires a.st a.g a.ty r so rm (omega arith) (h.run n) (h.den d) R (y.is ∙ rw (← lf, ← fr) refl) in
+      rw (h.is, ← numbered {a = a} (h.rule_is ∙ e) (h.kids_is ∙ c)) o

@@ -19,8 +19,6 @@ use Rattle.substitution.specs.Passing.{Passed}
 use Rattle.judging.specs.declared.Answer.{Answer}
 use Rattle.judging.specs.declared.Bad.{Bad}
 use Rattle.judging.specs.declared.Here.{Here}
-use Rattle.judging.specs.declared.Rule.{Rule}
-use Rattle.judging.specs.declared.Rule.TheVariants as rule
 use Rattle.judging.specs.declared.Stop.{Stop}
 use Rattle.judging.specs.declared.Stop.TheVariants.{Fail, Spent}
 use Rattle.judging.specs.Asking.{here}
@@ -102,7 +100,7 @@ pub record Instantiated (q w w' : List ℕ) (s : State) (ty by : ℕ) (z : Resul
 
 -- ## The end: from the context Γ and the type A that came back to F Γ and G A, with some words more
 
-pub record Finished (q w w' : List ℕ) (s : State) (g : Span) (ty more : ℕ) (F : Ctx → Ctx) (G : Ty → Ty) (rule : Rule) (kids : ℕ) (z : Step) : Type 0 where
+pub record Finished (q w w' : List ℕ) (s : State) (g : Span) (ty more : ℕ) (F : Ctx → Ctx) (G : Ty → Ty) (rule kids : ℕ) (z : Step) : Type 0 where
   pub answer : Answer
   pub is : z ≡ Ok answer
   pub rule_is : answer.rule ≡ rule
@@ -117,7 +115,7 @@ pub record Finished (q w w' : List ℕ) (s : State) (g : Span) (ty more : ℕ) (
   pub den : {A : Ty} → Den q w s.top ty A → Den q w' answer.st.top answer.ty (G A)
 
 -- the context and the type as they are
-pub record PlainOut (s : State) (g : Span) (ty : ℕ) (rule : Rule) (kids : ℕ) (z : Step) : Type 0 where
+pub record PlainOut (s : State) (g : Span) (ty rule kids : ℕ) (z : Step) : Type 0 where
   pub is : z ≡ Ok (record { st = s; g = g; ty = ty; rule = rule; kids = kids; charge = 0 })
   pub finished : (q w : List ℕ) → Finished q w w s g ty 0 (λ (Γ : Ctx). Γ) (λ (A : Ty). A) rule kids z
 
@@ -126,12 +124,12 @@ unfoldable pub kept : Bool → Key → Ctx → Ctx
 kept true = solved_and_right
 kept false = right_of
 
-pub record KeepOut (keeps : Bool) (w w' : List ℕ) (r : Answer) (k : Key) (ty : ℕ) (rule : Rule) (kids : ℕ) (z : Step) : Type 0 where
+pub record KeepOut (keeps : Bool) (w w' : List ℕ) (r : Answer) (k : Key) (ty rule kids : ℕ) (z : Step) : Type 0 where
   pub finished : (q : List ℕ) → Finished q w w' r.st r.g ty 0 (kept keeps k) (λ (A : Ty). A) rule kids z
 
 -- all that is kept there, with the Forall of the body type
 pub record TabsOut (q w w' : List ℕ) (s : State) (g : Span) (a : TyVar) (body : ℕ) (z : Step) : Type 0 where
-  pub finished : Finished q w w' s g body 4 (solved_and_right (k_tvar a)) (forall a) rule.InfTAbs 1 z
+  pub finished : Finished q w w' s g body 4 (solved_and_right (k_tvar a)) (forall a) 13 1 z
 
 -- room for a Forall's record and for the entries
 pub record TabsPre (q w : List ℕ) (s : State) (g : Span) (body : ℕ) : Type 0 where

@@ -10,8 +10,6 @@ ghost use Rattle.judging.specs.Ending.{Fires};
 ghost use Rattle.rules.specs.Parting.{PartPre, Parts};
 ghost use Rattle.rules.specs.Opening.{ForallPre, OpensOn};
 ghost use Rattle.rules.specs.Sides.{side, binder};
-ghost use Rattle.types.specs.Reading.{form_number};
-ghost use Rattle.expressions.specs.Forms.{form_number as expr_number};
 ghost use Rattle.rules.specs.Taking.{InferPre, Choice, OfLiteral, CheckPre, RefusePre};
 ghost use Rattle.rules.specs.Going.{LamPre, LamIn, Two, TwoIn, Compared, AppliedBoth, Instantiated, PlainOut, KeepOut, TabsPre, TabsOut};
 
@@ -70,7 +68,7 @@ pub fn infer_var(q: &[u32], work: &[u32], h: Here, st: State, g: Span, ex: usize
 {
     let x = expressions::var_of(q, work, ex);
     match contexts::lookup(work, g, Key::Var(x)) {
-        Some(ty) => Ok(plain_out(st, g, ty, Rule::InfVar, 0)),
+        Some(ty) => Ok(plain_out(st, g, ty, Rule::InfVar as usize, 0)),
         None => Err(Stop::fail(st, TypeError::UnboundVariable, x.0, Shown::NoType)),
     }
 }
@@ -80,7 +78,7 @@ pub fn infer_lit_int(q: &[u32], work: &[u32], h: Here, st: State, g: Span, ex: u
     requires { InferPre q.now work.now st g ex 22 }
     ensures { Fires h q.now work.now work.now st g (infer_ask ex) result }
 {
-    Ok(plain_out(st, g, INT, Rule::InfLitInt, 0))
+    Ok(plain_out(st, g, INT, Rule::InfLitInt as usize, 0))
 }
 
 // InfLitBool.
@@ -88,18 +86,19 @@ pub fn infer_lit_bool(q: &[u32], work: &[u32], h: Here, st: State, g: Span, ex: 
     requires { InferPre q.now work.now st g ex 23 }
     ensures { Fires h q.now work.now work.now st g (infer_ask ex) result }
 {
-    Ok(plain_out(st, g, BOOL, Rule::InfLitBool, 0))
+    Ok(plain_out(st, g, BOOL, Rule::InfLitBool as usize, 0))
 }
 
-// The rule that checks an expression of one form against a type of another: 000's arms in their order.
-pub fn check_choice(k: expressions::Form, c: Form) -> Rule
-    ensures { Choice (expr_number k) (form_number c) result }
+// The rule that checks an expression of code k against a type of code c: 000's arms in their order. Of any two numbers, as it was promised,
+// and so of no forms.
+pub fn check_choice(k: usize, c: usize) -> Rule
+    ensures { Choice k c result }
 {
     match (k, c) {
-        (expressions::Form::LitInt, Form::Int) => Rule::ChkLitInt,
-        (expressions::Form::LitBool, Form::Bool) => Rule::ChkLitBool,
-        (expressions::Form::Abs, Form::Arrow) => Rule::ChkLam,
-        (_, Form::Forall) => Rule::ChkAll,
+        (22, 1) => Rule::ChkLitInt,
+        (23, 2) => Rule::ChkLitBool,
+        (18, 5) => Rule::ChkLam,
+        (_, 6) => Rule::ChkAll,
         _ => Rule::ChkSub,
     }
 }
@@ -118,7 +117,7 @@ pub fn check_lit(
     requires { (CheckPre q.now work.now st g ex ty rule) × OfLiteral rule }
     ensures { Fires h q.now work.now work.now st g (check_ask ex ty) result }
 {
-    Ok(plain_out(st, g, INT, rule, 0))
+    Ok(plain_out(st, g, INT, rule.number(), 0))
 }
 
 // What is applied is no function: 12.
@@ -342,8 +341,8 @@ pub fn instantiate(
 
 // ---- The end
 
-// The context as it came back.
-pub fn plain_out(st: State, g: Span, ty: usize, rule: Rule, kids: usize) -> Answer
+// The context as it came back. Here and in keep_out the rule is any number, as it was promised.
+pub fn plain_out(st: State, g: Span, ty: usize, rule: usize, kids: usize) -> Answer
     ensures { PlainOut st g ty rule kids (Ok result) }
 {
     Answer {
@@ -364,7 +363,7 @@ pub fn keep_out(
     r: Answer,
     k: Key,
     ty: usize,
-    rule: Rule,
+    rule: usize,
     kids: usize,
 ) -> Answer
     requires { Space work.old r.st r.g 0 }
@@ -384,5 +383,5 @@ pub fn tabs_out(q: &[u32], work: &mut [u32], st: State, g: Span, a: TyVar, body:
 {
     let ty = types::put_forall(q, work, st.top, a, body);
     let o = contexts::solved_and_right(work, st.raise(4), g, Key::TVar(a));
-    plain_out(o.st, o.g, ty, Rule::InfTAbs, 1)
+    plain_out(o.st, o.g, ty, Rule::InfTAbs as usize, 1)
 }

@@ -6,7 +6,7 @@ use Prim.Native.Nat.{ℕ, ◌+◌, ◌*◌, ◌<◌}
 use native.Mathlib.Omega.{arith}
 use Rattle.std.specs.Prelude.{Result, Ok, Err}
 use Rattle.definition.specs.Syntax
-use Rattle.definition.specs.Syntax.{Ty, int, arrow, Judgement, subtype, leaf, ◌&◌, children}
+use Rattle.definition.specs.Syntax.{Ty, int, arrow, Judgement, subtype, rule_number, leaf, ◌&◌, children}
 use Rattle.definition.specs.Run.{and_then, give, ◌>>=◌}
 use Rattle.definition.specs.Rules.{sub_arr, rule, judge, ty_code, branch}
 use Rattle.layout.specs.Sizes.{INT}
@@ -18,7 +18,6 @@ use Rattle.types.specs.Reading.{HeldAs, LeftOf, RightOf}
 use Rattle.judging.specs.Asking.{here, Asks, as_sub, sub_ask, JudgePre}
 use Rattle.judging.specs.declared.Answer.{Answer}
 use Rattle.judging.specs.declared.Here.{Here}
-use Rattle.judging.specs.declared.Rule.TheVariants as rules
 use Rattle.judging.specs.declared.Stop.{Stop}
 use Rattle.judging.proofs.Chain.{Sofar, begin, gave, on}
 use Rattle.judging.proofs.Steps.{NotDone, Came}
@@ -170,8 +169,8 @@ module _ {t : ℕ} (h : Halved t) where
             arr_else₂ nd =
                 else_fires (λ j k. let x = (next k).way in record { ts = _; so = x.so; i = _; asks = asks₂ k; next = _; says = x.is }) call₂ nd
 
-            pub arr_done : {u : Answer} {x : Step} → y ≡ Ok u → PlainOut u.st u.g INT rules.SubArr 2 x → Ends w₃ x
-            unfolding children ◌>>=◌
+            pub arr_done : {u : Answer} {x : Step} → y ≡ Ok u → PlainOut u.st u.g INT 25 2 x → Ends w₃ x
+            unfolding rule_number children ◌>>=◌
             arr_done d₂ th = record {
               run = λ j k.
                   let x = (next k).way in

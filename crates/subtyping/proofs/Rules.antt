@@ -4,18 +4,18 @@ use mathlib.Core.List.{List}
 use Prim.Native.Nat.{ℕ, ◌<◌}
 use native.Mathlib.Omega.{arith}
 use Rattle.std.specs.Prelude.{Ok, Err}
-use Rattle.definition.specs.Syntax.{TyVar, Ty, int, etvar, Ctx, Side, on_l, on_r, Judgement, inst, leaf, ◌&◌, children, subtyping_error}
+use Rattle.definition.specs.Syntax.{TyVar, Ty, int, etvar, Ctx, Side, on_l, on_r, Judgement, inst, rule_number, leaf, ◌&◌, children, subtyping_error}
 use Rattle.definition.specs.Run.{M, and_then, give, refuse, ◌>>=◌}
 use Rattle.definition.specs.Rules as definition
 use Rattle.definition.specs.Rules.{Fired, Judge, closes, sub_inst, rule, judge}
-use Rattle.definition.specs.Reply.{error_at}
+use Rattle.definition.specs.Reply.{error_code, error_at}
 use Rattle.layout.specs.Sizes.{INT}
 use Rattle.layout.specs.Denotes.{Den}
 use Rattle.layout.specs.declared.Span.{Span}
 use Rattle.layout.specs.declared.State.{State}
 use Rattle.judging.specs.Asking.{here, Asks, sub_ask, inst_ask, JudgePre, RulePre}
 use Rattle.judging.specs.Ending.{Step, shown_two, Failed, Judged, Fires}
-use Rattle.judging.specs.Names.{rule_of}
+use Rattle.judging.specs.Names.{rule_of, error_of}
 use Rattle.judging.specs.declared.Answer.{Answer}
 use Rattle.judging.specs.declared.Here.{Here}
 use Rattle.judging.specs.declared.Shown.TheVariants.{TwoTypes}
@@ -74,27 +74,27 @@ module _ {q w : List ℕ} {s : State} {g : Span} {a b : ℕ} {z : Arm} (pre : Ar
 refl_fits : {A B : Ty} {n : declared.Rule} → ArmFits A B (arm.Refl n) → Comes A B (λ h judge Γ. closes (rule_of n) Γ)
 refl_fits (fits_refl c) = c
 
-pub refl_fires : {m : Here} {q w : List ℕ} {s : State} {g : Span} {a b : ℕ} {n : declared.Rule} {z : Step} → ArmPre q w s g a b (arm.Refl n)
-    → PlainOut s g INT n 0 z → Fires m q w w s g (sub_ask a b) z
+pub refl_fires : {m : Here} {q w : List ℕ} {s : State} {g : Span} {a b v : ℕ} {n : declared.Rule} {z : Step} → ArmPre q w s g a b (arm.Refl n)
+    → v ≡ rule_number (rule_of n) → PlainOut s g INT v 0 z → Fires m q w w s g (sub_ask a b) z
 unfolding closes give children
-refl_fires {m} {q} {w} {n = n} pre out = record {
+refl_fires {m} {q} {w} {n = n} pre e out = record {
   run = λ j k.
       let room = pre.pre.room in
       finish (rule_of n) (out.finished q w) (askd pre k).run (int_den room.base) (start room (comes pre m k (refl_fits (fits pre k))))
-      (omega arith) refl refl (omega arith);
+      (omega arith) e refl (omega arith);
 }
 
 none_fits : {A B : Ty} → ArmFits A B arm.Neither → Comes A B (λ h judge Γ. refuse (subtyping_error A B))
 none_fits (fits_none c) = c
 
 pub none_fires : {m : Here} {q w : List ℕ} {s : State} {g : Span} {a b : ℕ} {x : Stop} → ArmPre q w s g a b arm.Neither
-    → x ≡ Fail (record { st = s; error = SubtypingError; name = 0; shown = TwoTypes a b; charge = 0 }) → Fires m q w w s g (sub_ask a b) (Err x)
+    → x ≡ Fail (record { st = s; code = error_code (error_of SubtypingError); name = 0; shown = TwoTypes a b; charge = 0 }) → Fires m q w w s g (sub_ask a b) (Err x)
 unfolding refuse error_at
 none_fires {m} {q} {w} {s} {g} {a} {b} pre i = rw i (record {
   run = λ j k.
       let v = askd pre k in
-      let f : Failed q w (record { st = s; error = SubtypingError; name = 0; shown = TwoTypes a b; charge = 0 }) (subtyping_error v.A v.B) s.left =
-      record { base = pre.pre.room.base; within = room_within pre.pre.room; error = refl; name = refl; shown = shown_two v.left v.right; left = refl } in
+      let f : Failed q w (record { st = s; code = error_code (error_of SubtypingError); name = 0; shown = TwoTypes a b; charge = 0 }) (subtyping_error v.A v.B) s.left =
+      record { base = pre.pre.room.base; within = room_within pre.pre.room; code = refl; name = refl; shown = shown_two v.left v.right; left = refl } in
       refuses begin f _ (comes pre m k (none_fits (fits pre k)));
 })
 
@@ -143,9 +143,10 @@ module _ {q w : List ℕ} {s : State} {g : Span} {a b : ℕ} {z : program.Side} 
       pub inst_else : NotDone y → Fires m q w w₁ s g (sub_ask a b) y
       inst_else nd = else_fires (λ j k. record { ts = leaf; so = begin; i = _; asks = asks₁ k; next = _; says = says m k }) call nd
 
-      pub inst_done : {r : Answer} {n : declared.Rule} {o : Step} → y ≡ Ok r → n ≡ on_side (side z) rules.SubInstL rules.SubInstR → PlainOut r.st r.g INT n 1 o → Fires m q w w₁ s g (sub_ask a b) o
+      pub inst_done : {r : Answer} {n : declared.Rule} {v : ℕ} {o : Step} → y ≡ Ok r → v ≡ rule_number (rule_of n) → n ≡ on_side (side z) rules.SubInstL rules.SubInstR
+          → PlainOut r.st r.g INT v 1 o → Fires m q w w₁ s g (sub_ask a b) o
       unfolding children
-      inst_done d en th = record {
+      inst_done d ev en th = record {
         run = λ j k.
-            through_ends begin call (asks₁ k) d (rule_inst (side z)) (inst_is (side z) en) (λ v. refl) (omega arith) th _ (says m k);
+            through_ends begin call (asks₁ k) d (rule_inst (side z)) (ev ∙ ap rule_number (inst_is (side z) en)) (λ v. refl) (omega arith) th _ (says m k);
       }

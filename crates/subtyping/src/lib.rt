@@ -107,7 +107,7 @@ fn sub_inst(
     let (unknown, ty) = (one(s, a, b), one(s, b, a));
     let r = instantiation::inst(q, work, h, st, g, s, unknown, ty)?;
     let rule = one(s, Rule::SubInstL, Rule::SubInstR);
-    Ok(rules::plain_out(r.st, r.g, INT, rule, 1))
+    Ok(rules::plain_out(r.st, r.g, INT, rule.number(), 1))
 }
 
 // The type a is a subtype of b.
@@ -119,7 +119,7 @@ pub fn subtype(q: &[u32], work: &mut [u32], h: Here, st: State, g: Span, a: usiz
     let inner = judging::enter(st, g)?;
     let z = sub_rule(q, work, h, inner, g, a, b);
     let ask = Ask {
-        kind: Kind::Subtype,
+        kind: Kind::Subtype as usize,
         ex: 0,
         left: a,
         right: b,
@@ -136,7 +136,7 @@ fn sub_rule(q: &[u32], work: &mut [u32], h: Here, st: State, g: Span, a: usize, 
     let top = st.top;
     let store = Store { q, work, top };
     match choose(store, a, b) {
-        Arm::Refl(rule) => Ok(rules::plain_out(st, g, INT, rule, 0)),
+        Arm::Refl(rule) => Ok(rules::plain_out(st, g, INT, rule.number(), 0)),
         Arm::Arr => sub_arr(q, work, h, st, g, a, b),
         Arm::All(s) => sub_all(q, work, h, st, g, s, a, b),
         Arm::Inst(s) => sub_inst(q, work, h, st, g, s, a, b),
@@ -157,7 +157,7 @@ fn sub_arr(q: &[u32], work: &mut [u32], h: Here, st: State, g: Span, a: usize, b
     let r = subtype(q, work, h, st, g, b1, a1)?;
     let both = rules::apply_both(q, work, false, r.st, r.g, a2, b2)?;
     let u = subtype(q, work, h, both.st, r.g, both.a, both.b)?;
-    Ok(rules::plain_out(u.st, u.g, INT, Rule::SubArr, 2))
+    Ok(rules::plain_out(u.st, u.g, INT, Rule::SubArr as usize, 2))
 }
 
 // SubAllR, SubAllL: the Forall on side s opened, against the other type; of the output what stands right of what opening pushed.
@@ -180,5 +180,5 @@ fn sub_all(
     let r = subtype(q, work, h, o.st, o.g, left, right)?;
     let rule = one(s, Rule::SubAllL, Rule::SubAllR);
     let k = rules::pushed(s, o.b);
-    Ok(rules::keep_out(work, false, r, k, INT, rule, 1))
+    Ok(rules::keep_out(work, false, r, k, INT, rule.number(), 1))
 }

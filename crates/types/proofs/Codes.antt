@@ -64,15 +64,6 @@ module _ {f : Form} where
   pub parts_form : (f ≡ Form.Arrow) ⊎ (f ≡ Form.Forall) → 5 ≤ form_number f
   parts_form = ⊎_elim (λ e. omega (arith, ap form_number e)) (λ e. omega (arith, ap form_number e))
 
--- a form that is none of the two with parts
-pub leaf_form : (f : Form) → (f ≡ Form.Arrow → ⊥) → (f ≡ Form.Forall → ⊥) → form_number f < 5
-leaf_form Form.Int x y = omega arith
-leaf_form Form.Bool x y = omega arith
-leaf_form Form.Var x y = omega arith
-leaf_form Form.ETVar x y = omega arith
-leaf_form Form.Arrow x y = absurd (x refl)
-leaf_form Form.Forall x y = absurd (y refl)
-
 -- two forms of one number are one
 form_at : ℕ → Form
 form_at n =

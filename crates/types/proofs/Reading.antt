@@ -17,8 +17,7 @@ use Rattle.layout.specs.declared.TyVar.{TyVar}
 use Rattle.layout.proofs.Places.{ty_code_lem, ty_within}
 use Rattle.layout.proofs.Monotypes.{mono_in_question, mono_in_work}
 use Rattle.layout.proofs.Denotes.{den_written, past_ty, mono_is_walk}
-use Rattle.types.specs.Reading.{Held, HeldAs, Tagged, Mono, Named, PartBelow, LeftOf, RightOf, BodyOf, LengthOf, form_number, FormOf, record_size, RecordLength, WordsOf}
-use Rattle.types.specs.declared.Form.{Form}
+use Rattle.types.specs.Reading.{Held, HeldAs, Tagged, Mono, Named, PartBelow, LeftOf, RightOf, BodyOf, LengthOf, record_size, RecordLength, WordsOf}
 use Rattle.types.proofs.Codes.{arrow_case, forall_case, Naming, var_names, etvar_names, forall_names, sizes, two_words, leaf_size}
 use Rattle.types.proofs.Records.{made_record, made_length, made_name, made_left, made_right, made_body}
 
@@ -151,7 +150,7 @@ module _ {q w : List ℕ} {t r : ℕ} (h : Held q w t r) where
   pub length_written : {e : ℕ} → r < BASE → e ≡ past w r → LengthOf q w t r (e - r)
   length_written l f = length_of (λ T d. omega (arith, past_is h l d))
 
-  pub length_leaf : {f : Form} {n : ℕ} → FormOf q w t r f → form_number f < 5 → RecordLength f n → LengthOf q w t r n
+  pub length_leaf : {k n : ℕ} → Tagged q w t r k → k < 5 → RecordLength k n → LengthOf q w t r n
   length_leaf c l n = length_of (λ T d. n.is T (c.is T d) ∙ leaf_size T (omega (arith, c.is T d)))
 
   pub length_made : {k n : ℕ} → BASE ≤ r → Tagged q w t r k → 5 ≤ k → n ≡ get_or w (r - BASE + 3) 0 → LengthOf q w t r n
@@ -166,5 +165,5 @@ module _ {q w : List ℕ} {t r : ℕ} (h : Held q w t r) where
     in_work = λ m T d. absurd (omega arith);
   }
 
-  pub end_in_work : {f : Form} {n : ℕ} → BASE ≤ r → FormOf q w t r f → RecordLength f n → r - BASE + n ≤ length w
+  pub end_in_work : {k n : ℕ} → BASE ≤ r → Tagged q w t r k → RecordLength k n → r - BASE + n ≤ length w
   end_in_work l c n = omega (arith, record_in_work h l, n.is h.type (c.is h.type h.den))

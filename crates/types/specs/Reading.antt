@@ -93,8 +93,8 @@ record_size (etvar a) = 2
 record_size (arrow A B) = 4
 record_size (forall a A) = 4
 
-pub record RecordLength (f : Form) (n : ℕ) : Type 0 where
-  pub is : (T : Ty) → form_number f ≡ ty_code T → n ≡ record_size T
+pub record RecordLength (k n : ℕ) : Type 0 where
+  pub is : (T : Ty) → k ≡ ty_code T → n ≡ record_size T
 
 -- the part of the question that the type fills (its words: proofs/Words), or its record in work
 pub record WordsOf (q w : List ℕ) (t r : ℕ) (ws : List ℕ) : Type 0 where

@@ -28,7 +28,7 @@ pub struct Store<'a> {
 
 impl<'a> Store<'a> {
     // The type's code: 1 Int, 2 Bool, 3 Var, 4 ETVar, 5 Arrow, 6 Forall.
-    fn tag(self, r: usize) -> usize
+    pub fn tag(self, r: usize) -> usize
         requires { Held self.q.now self.work.now self.top r }
         ensures { Tagged self.entry.q.now self.entry.work.now self.entry.top r result }
     {
@@ -122,11 +122,11 @@ impl<'a> Store<'a> {
         if r < BASE {
             return past(self.work, r) - r;
         }
-        let form = self.form(r);
-        match form {
-            Form::Arrow | Form::Forall => word(self.work, r - BASE + 3),
-            _ => record_length(form),
+        let code = self.tag(r);
+        if code < 5 {
+            return record_length(code);
         }
+        word(self.work, r - BASE + 3)
     }
 
     // A type's words as the part of whichever slice holds it: of the question, or its record in work.
@@ -138,18 +138,18 @@ impl<'a> Store<'a> {
             return &self.q[r..past(self.work, r)];
         }
         let i = r - BASE;
-        &self.work[i..i + record_length(self.form(r))]
+        &self.work[i..i + record_length(self.tag(r))]
     }
 }
 
-// How many words the record of a type of this form has.
-pub fn record_length(form: Form) -> usize
-    ensures { RecordLength form result }
+// How many words the record of a type of this code has. Of any number, as it was promised, and so of no Form.
+pub fn record_length(code: usize) -> usize
+    ensures { RecordLength code result }
 {
-    match form {
-        Form::Int | Form::Bool => 1,
-        Form::Var | Form::ETVar => 2,
-        Form::Arrow | Form::Forall => 4,
+    match code {
+        1..=2 => 1,
+        3..=4 => 2,
+        _ => 4,
     }
 }
 

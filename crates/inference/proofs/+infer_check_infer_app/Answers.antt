@@ -8,7 +8,7 @@ use Rattle.judging.proofs.Whole.{whole_spent, whole_rule, whole_less, whole_leav
 use Rattle.rules.proofs.Standing.{infer_shaped}
 use Rattle.judging.proofs.Steps.{stop_is}
 use Rattle.inference.proofs.Premise.{unless, may_ask, space_back}
-use Rattle.inference.proofs.Choosing.{of_literal}
+use Rattle.inference.proofs.Choosing.{check_within, of_literal}
 use Rattle.inference.proofs.Applying.{arr_held, arr_asks, arr_done, etvar_held, etvar_asks, etvar_done}
 use Rattle.inference.proofs.Checking.{lam_shaped, lam_held, lam_two, lam_end, lam_space, lam_asks, lam_done, all_pre, all_asks, all_done, sub_asks, sub_two, sub_unless, sub_done}
 use Rattle.inference.proofs.InferOne.{ann_asks, ann_done, abs_lam, abs_asks, abs_done, tabs_space, tabs_asks, tabs_apply, tabs_spent, tabs_pre, tabs_done, tapp_asks, tapp_two, tapp_end, tapp_done}
@@ -129,6 +129,9 @@ chk_lam-returns t c =
     c.entry-e.ensures c.push-o.ensures c.check.ensures c.in_ok-r.was c.keep_out.ensures
 
 -- ## `chk_rule`: each arm is its callee.
+
+pub chk_rule-word-requires : goal.chk_rule-word-requires
+chk_rule-word-requires t c = search check_within
 
 pub chk_rule-check_lit-requires : goal.chk_rule-check_lit-requires
 chk_rule-check_lit-requires t c = (search rules, of_literal c.in-ChkLitInt.is)
@@ -290,7 +293,7 @@ infer_binop-returns-in_err-u t c =
 pub infer_binop-returns : goal.infer_binop-returns
 infer_binop-returns t c =
     op_done c.args.h c.requires c.binop_of-p.ensures c.operator-sides.ensures (infer_binop_left t (goal.at.infer_binop-returns t c).Joined-sides)
-    c.in_ok-r.was c.unwrap_or-ty.ensures c.check-2.ensures c.in_ok-u.was c.plain_out.ensures
+    c.in_ok-r.was c.unwrap_or-ty.ensures c.check-2.ensures c.in_ok-u.was c.number.ensures.0 c.plain_out.ensures
 
 -- ## `infer_if`: InfIf.
 

@@ -1,6 +1,8 @@
 -- The cycle of inst_l and inst_r meets its contracts.
 use Prim.Native.Nat.{ℕ}
 use native.Mathlib.Omega.{arith}
+use mathlib.Core.Path.{◌∙◌, ap}
+use Rattle.definition.specs.Syntax.{rule_number}
 use Rattle.judging.proofs.Steps.{stop_is}
 use Rattle.judging.proofs.Whole.{whole_spent, whole_rule, whole_less, whole_leave, whole_left}
 use Rattle.rules.specs.Sides.{side}
@@ -61,7 +63,7 @@ pub inst_all-returns : goal.inst_all-returns
 inst_all-returns t c =
     let u = under_on c.requires (other_is c.args.s c.other-back.ensures) c.open_on.ensures in
     under_done u c.requires.pre c.in_ok-o.was c.inst_on.ensures c.in_ok-r.was
-    (all_rule (side c.args.s) c.one-rule.ensures) (rw c.pushed-k.ensures at c.keep_out.ensures)
+    (c.number.ensures.0 ∙ ap rule_number (all_rule (side c.args.s) c.one-rule.ensures)) (rw c.pushed-k.ensures at c.keep_out.ensures)
 
 -- ## `inst_arr`: InstLArr and InstRArr.
 
@@ -134,7 +136,7 @@ pub inst_arr-returns : goal.inst_arr-returns
 inst_arr-returns t c =
     let h = halved t (goal.at.inst_arr-returns t c).After-other in
     arr_done h c.inst_on.ensures c.in_ok-r.was c.apply_ctx_type.ensures c.in_ok-applied.was c.inst_on-2.ensures c.in_ok-u.was
-    (arr_rule (side c.args.s) c.one-rule.ensures) c.plain_out.ensures
+    (c.number.ensures.0 ∙ ap rule_number (arr_rule (side c.args.s) c.one-rule.ensures)) c.plain_out.ensures
 
 -- ## What `inst_rule` needs.
 

@@ -1,12 +1,20 @@
 -- `gives_type` meets its contract.
-use Rattle.std.proofs.Common.{inl, inr}
+use borrow.Author.Tests.{ne_eqb}
 use Rattle.definition.specs.Reply.{gives_type}
-use Rattle.report.proofs.Reports.{gives_none}
 use Rattle.report.proofs.gives_type.Goals as goal
 
-pub returns-in-Infer : goal.returns-in-Infer
+pub returns-in-1 : goal.returns-in-1
 unfolding gives_type
-returns-in-Infer c = elim c.in-Infer.is [ inl e ↦ rw e | inr x ↦ elim x [ inl e ↦ rw e | inr e ↦ rw e ] ]
+returns-in-1 c = rw c.in-1.is
+
+pub returns-in-3 : goal.returns-in-3
+unfolding gives_type
+returns-in-3 c = rw c.in-3.is
+
+pub returns-in-7 : goal.returns-in-7
+unfolding gives_type
+returns-in-7 c = rw c.in-7.is
 
 pub returns-in_default : goal.returns-in_default
-returns-in_default c = search gives_none
+unfolding gives_type
+returns-in_default c = search ne_eqb

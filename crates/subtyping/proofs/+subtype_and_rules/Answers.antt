@@ -1,6 +1,8 @@
 -- The cycle of subtype and its rules meets its contracts.
 use Prim.Native.Nat.{ℕ}
 use native.Mathlib.Omega.{arith}
+use mathlib.Core.Path.{◌∙◌, ap}
+use Rattle.definition.specs.Syntax.{rule_number}
 use Rattle.judging.proofs.Steps.{stop_is}
 use Rattle.judging.proofs.Whole.{whole_spent, whole_rule, whole_less, whole_leave, whole_left}
 use Rattle.rules.specs.Sides.{side}
@@ -142,4 +144,4 @@ pub sub_all-returns : goal.sub_all-returns
 sub_all-returns t c =
     let u = under_on c.requires c.one.ensures c.open_on.ensures in
     under_done u c.requires.pre c.in_ok-o.was (rw (c.one-left.ensures, c.one-right.ensures) at c.subtype.ensures) c.in_ok-r.was
-    (all_rule (side c.args.s) c.one-rule.ensures) (rw c.pushed-k.ensures at c.keep_out.ensures)
+    (c.number.ensures.0 ∙ ap rule_number (all_rule (side c.args.s) c.one-rule.ensures)) (rw c.pushed-k.ensures at c.keep_out.ensures)

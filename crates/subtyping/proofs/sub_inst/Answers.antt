@@ -12,4 +12,5 @@ returns-in_err-r c =
 
 pub returns : goal.returns
 returns c =
-    inst_done c.requires c.one-unknown.ensures c.one-ty.ensures c.inst.ensures c.in_ok-r.was c.one-rule.ensures c.plain_out.ensures
+    inst_done c.requires c.one-unknown.ensures c.one-ty.ensures c.inst.ensures c.in_ok-r.was c.number.ensures.0 c.one-rule.ensures
+    c.plain_out.ensures

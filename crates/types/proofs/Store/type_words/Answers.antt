@@ -16,7 +16,7 @@ pub returns-then-r-lt-BASE : goal.returns-then-r-lt-BASE
 returns-then-r-lt-BASE c = search words_written
 
 pub overflow_add-result : goal.overflow_add-result
-overflow_add-result c = omega (arith, end_in_work c.requires c.if-r-lt-BASE.false c.form.ensures c.record_length.ensures)
+overflow_add-result c = omega (arith, end_in_work c.requires c.if-r-lt-BASE.false c.tag.ensures c.record_length.ensures)
 
 pub slice_bounds-result-end-2 : goal.slice_bounds-result-end-2
 slice_bounds-result-end-2 c = search end_in_work
