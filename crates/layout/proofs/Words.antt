@@ -4,8 +4,9 @@ use mathlib.Core.List.{List}
 use Prim.Native.Nat.{ℕ, ◌+◌, ◌≤◌, ◌<◌}
 use native.Mathlib.Nat.{le_trans, lt_of_lt_of_le}
 use native.Mathlib.Omega.{arith}
-use lib.ListN.{length, set, length-set}
+use lib.ListN.{length, get_or, set, length-set}
 use lib.Seq.{get_or-set_same, get_or-set_other}
+use borrow.Author.Count.{below_more}
 use Rattle.layout.specs.Words.{Keep, Put2, Put4}
 
 -- ## Words that stay
@@ -25,6 +26,15 @@ keep_set t h w i v p r = record {
   below = λ j l. sym (get_or-set_other w i j v 0 (omega arith));
   above = λ j l. sym (get_or-set_other w i j v 0 (omega arith));
 }
+
+-- ## Words that are copied, one more at a time
+pub copy_more : (from n i : ℕ) {w₀ w : List ℕ} {to : ℕ} → from + n ≤ to → to + n ≤ length w₀ → i < n → Keep to (to + n) w₀ w
+    → ((j : ℕ) → j < i → get_or w (to + j) 0 ≡ get_or w₀ (from + j) 0)
+    → (j : ℕ) → j < i + 1 → get_or (set w (to + i) (get_or w (from + i) 0)) (to + j) 0 ≡ get_or w₀ (from + j) 0
+copy_more from n i {w₀} {w} {to} a b c k h =
+    below_more _ i
+    (λ j l. get_or-set_other w (to + i) (to + j) (get_or w (from + i) 0) 0 (omega arith) ∙ h j l)
+    (get_or-set_same w (to + i) (get_or w (from + i) 0) 0 (omega (arith, k.long)) ∙ sym (k.below (from + i) (omega arith)))
 
 -- ## Words that are put
 pub put_two : (w : List ℕ) (i a b : ℕ) → i + 2 ≤ length w → Put2 w (set (set w i a) (i + 1) b) i a b

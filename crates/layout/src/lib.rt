@@ -308,11 +308,12 @@ pub fn put_entry(work: &mut [u32], at: usize, e: Entry)
     put4(work, at, e.key.kind(), e.key.name(), e.ty, 0);
 }
 
-// Copies n words to a place past them.
+// Copies n words to a place past them. Word by word: copy_from_slice calls memmove, which the archive for C would newly need.
 pub fn copy(words: &mut [u32], from: usize, to: usize, n: usize)
     requires { (from + n ≤ to) × (to + n ≤ length words.old) }
     ensures { Copied words.old words.new from to n }
 {
-    let (below, above) = words.split_at_mut(to);
-    above[..n].copy_from_slice(&below[from..from + n]);
+    for i in 0..n {
+        words[to + i] = words[from + i];
+    }
 }

@@ -1,15 +1,12 @@
 -- Types that are not walked: Int and Bool, put as their code, and words of the question, copied.
 use mathlib.Core.Path.{◌≡◌, refl, sym, ◌∙◌, ap}
 use mathlib.Core.Logic.{◌⊎◌}
-use mathlib.Core.List.{List, [], ◌∷◌}
+use mathlib.Core.List.{List, [], ◌∷◌, ◌++◌}
 use Prim.Native.Nat.{ℕ, ◌+◌, ◌≤◌, ◌<◌, ◌^◌}
+use native.Mathlib.Numerals.{add-one}
 use native.Mathlib.Omega.{arith}
-use lib.ListN.{length, set}
-use lib.Seq.{sets, sets-eq}
-use borrow.Rule.Slice.PartMut.{put_mid}
-use Rattle.std.proofs.lemmas.List.{take-append-drop}
-use Rattle.std.proofs.lemmas.Slice.{take-put_mid, drop-put_mid}
-use native.Mathlib.Nat.{le_refl}
+use lib.ListN.{length, get_or, set, take}
+use lib.Seq.{length-take-le, take-suc, take_all, sets, length-sets}
 use Rattle.layout.specs.Sizes.{BASE}
 use Rattle.layout.proofs.Denotes.{den_written}
 use Rattle.types.specs.Reading.{form_number, FormOf, WordsOf}
@@ -18,6 +15,7 @@ use Rattle.types.proofs.Codes.{base_form}
 use Rattle.types.proofs.Words.{ty_words_lem}
 use Rattle.writing.specs.Spelling.{RoomAt, PutWords, Writes}
 use Rattle.writing.specs.Types.{OfType}
+use Rattle.writing.proofs.Placing.{sets_append}
 use Rattle.writing.proofs.Steps.{base_words, coded}
 
 -- ## Int and Bool
@@ -32,14 +30,34 @@ module _ {q w : List ℕ} {t r k : ℕ} {f : Form} (form : FormOf q w t r f) (h 
   pub writes_base : {s s' : List ℕ} {p : ℕ} → s' ≡ set s p k → Writes (OfType q w t r) s s' p (p + 1)
   writes_base e = record { past = λ ws x o. rw (words_code x) (record { is = e; next = refl }) }
 
--- ## The words of a slice
+-- ## None, one more, and all
 
--- a part of s that was put anew, from at on
-pub part_put : (src s : List ℕ) (at n : ℕ) → n ≡ length src → at + n ≤ length s → put_mid at n s src ≡ sets s at src
-part_put src s at n e l =
-    let k : at ≤ length s = omega arith in
-    sym (take-append-drop (at + n) (put_mid at n s src))
-    ∙ rw (take-put_mid at n s src (at + n) (ap (λ m. at + m) e) k, drop-put_mid at n s src (at + n) (le_refl _) k (sym e), sets-eq src s at (omega arith), e)
+-- the first i words of src were put at a place
+pub record PutFirst (src : List ℕ) (s₀ s : List ℕ) (at i : ℕ) : Type 0 where
+  pub is : s ≡ sets s₀ at (take i src)
+  pub some : i ≤ length src
+
+pub first_none : (src s : List ℕ) (at : ℕ) → PutFirst src s s at 0
+first_none src s at = record { is = refl; some = omega arith }
+
+module _ {src s₀ s : List ℕ} {at i : ℕ} (c : PutFirst src s₀ s at i) where
+  pub first_length : length s ≡ length s₀
+  first_length = ap length c.is ∙ length-sets s₀ at (take i src)
+
+  pub first_more : i < length src → PutFirst src s₀ (set s (at + i) (get_or src i 0)) at (i + 1)
+  first_more l =
+      let us : List ℕ = take i src in
+      let v : ℕ = get_or src i 0 in
+      let n : length us ≡ i = length-take-le i src c.some in
+      let e : take (i + 1) src ≡ us ++ (v ∷ []) = ap (λ (k : ℕ). take k src) (add-one i) ∙ take-suc src i 0 l in
+      record {
+        is = ap (λ (x : List ℕ). set x (at + i) v) c.is ∙ sym (sets_append us (v ∷ []) s₀ at (ap (λ (k : ℕ). at + k) (sym n)))
+            ∙ ap (λ (x : List ℕ). sets s₀ at x) (sym e);
+        some = omega arith;
+      }
+
+  pub first_all : length src ≤ i → PutWords s₀ s at src (at + length src)
+  first_all l = record { is = c.is ∙ ap (λ (x : List ℕ). sets s₀ at x) (take_all i src l); next = refl }
 
 -- ## A type in the question
 

@@ -80,14 +80,15 @@ fn walk_type(store: Store, r: usize, report: &mut [u32], at: usize) -> usize
     end
 }
 
-// Writes the words of a slice as they are.
+// Writes the words of a slice as they are. One by one, as layout's copy.
 fn copy_words(src: &[u32], report: &mut [u32], at: usize) -> usize
     requires { at + length src.now ≤ length report.old }
     ensures { PutWords report.old report.new at src.now result }
 {
-    let end = at + src.len();
-    report[at..end].copy_from_slice(src);
-    end
+    for (i, x) in src.iter().enumerate() {
+        report[at + i] = *x;
+    }
+    at + src.len()
 }
 
 // Writes a type. Int and Bool are their code; one that stands in the question has its words there, in the same order, and is copied.

@@ -1,14 +1,19 @@
 -- `copy_words` meets its contract.
-use Rattle.std.proofs.Common.{ℕ, ◌+◌, ◌-◌, List, length, refl, ap, ◌∙◌, arith}
-use borrow.Rule.Slice.PartMut.{put_mid}
-use Rattle.writing.proofs.Copying.{part_put}
+use native.Mathlib.Omega.{arith}
+use Rattle.writing.proofs.Copying.{first_none, first_length, first_more, first_all}
 use Rattle.writing.proofs.copy_words.Goals as goal
 
+pub loop-i-init : goal.loop-i-init
+loop-i-init c = search first_none
+
+pub bounds-report-at : goal.bounds-report-at
+bounds-report-at c = omega (arith, first_length)
+
+pub loop-i-preserved : goal.loop-i-preserved
+loop-i-preserved c = search first_more
+
+pub shape_of-report : goal.shape_of-report
+shape_of-report c = search first_length
+
 pub returns : goal.returns
-returns c =
-    let n : ℕ = c.args.at + length c.args.src.now - c.args.at in
-    record {
-      is = ap (λ (x : List ℕ). put_mid c.args.at n c.args.report.now x) c.copy_from_slice.ensures.after
-          ∙ part_put c.args.src.now c.args.report.now c.args.at n (omega arith) (omega arith);
-      next = refl;
-    }
+returns c = search first_all
