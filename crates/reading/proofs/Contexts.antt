@@ -1,10 +1,11 @@
 -- Reading entries, one after the other.
-use Prim.Native.Nat.{ℕ, ◌+◌, ◌≤◌, ◌<◌}
+use Prim.Native.Nat.{ℕ, ◌+◌, ◌*◌, ◌≤◌, ◌<◌}
 use mathlib.Core.Path.{◌≡◌, refl, ◌∙◌}
 use mathlib.Core.List.{List, [], ◌∷◌}
 use native.Mathlib.Decide.{ℕ_discrete}
 use native.Mathlib.Omega.{arith}
 use Rattle.std.proofs.Common.{ap, zero-add, add-zero, add_assoc}
+use lib.ListN.{length}
 use lib.Seq.{slice-cons}
 use Rattle.definition.specs.Syntax.{pick, Binding, var_bnd, tvar_bnd, etvar_bnd, setvar_bnd, mark, Entry, of_question, Ctx}
 use Rattle.definition.specs.Contexts.{binding_key, kind_of, name_of}
@@ -16,7 +17,7 @@ use Rattle.reading.specs.declared.Part.{Part}
 use Rattle.reading.specs.Faults.{bad_shape}
 use Rattle.reading.specs.Items as items
 use Rattle.reading.specs.Items.{from, Inside, WordTo, Reads, Word, NameRead}
-use Rattle.reading.specs.Contexts.{RestTo, var_rest, tvar_rest, etvar_rest, setvar_rest, mark_rest, BindingTo, EntryTo, none, some, ListTo, ContextTo, Leaves, past, refused, BindingRead, EntryRead, ContextRead}
+use Rattle.reading.specs.Contexts.{EntriesTo, RestTo, var_rest, tvar_rest, etvar_rest, setvar_rest, mark_rest, BindingTo, EntryTo, none, some, ListTo, ContextTo, Leaves, past, refused, BindingRead, EntryRead, ContextRead}
 use Rattle.reading.proofs.Depth.{written_upto, more, context_eq}
 use Rattle.reading.proofs.Items.{TypeThen, one_or, from_end, one_of_end, one_of_is, one_of_none, reads_at, reads_map, reads_two, code_at, after_word, variable_read, type_name_read}
 
@@ -117,6 +118,10 @@ entry_on x p m s = rest_on s.binds.rest
 
 -- ## Entries
 
+pub entries_few : {q : List ℕ} {p m : ℕ} {Γ : Ctx} → EntriesTo q p Γ m → p + 2 * length Γ ≤ m
+entries_few none = omega arith
+entries_few (some {p} {m} {n} {x} {Γ} s l) = omega (arith, entry_on x p m s, entries_few l)
+
 -- the place past an entry
 pub further : {q : List ℕ} {p e m : ℕ} → EntryRead q p e (Ok m) → p < m
 further {q} {p} {e} {m} x = go x
@@ -166,6 +171,13 @@ module _ {q : List ℕ} {p e : ℕ} (i : Inside q p e) where
 
     context_refused : {f : Fault} → EntryRead q p e (Err f) → ContextRead q p e (Err f)
     context_refused x = leaves_at context_more (entry_refused _ x)
+
+-- a context that was read has no more entries than its section ends at
+pub context_few : {q : List ℕ} {p e : ℕ} {x : Part} → ContextRead q p e (Ok x) → x.value ≤ e
+context_few {q} {p} {e} {x} r = go r
+  where
+    go : {o : Read Ctx} → Leaves q e (ContextTo q p e) (Ok x) o → x.value ≤ e
+    go (past t l) = omega (arith, t.list.count, entries_few t.list.entries)
 
 -- ## The loop: n entries were read from first up to p, and the rest is still to be read
 
